@@ -8,7 +8,6 @@ infixl 6 _⊕_ _⊖_
 infixl 7 _⊗_ _⊘_
 infix 5 _≦_ _≺_ _≐_
 infixr 1 if_then_else_
-
 -- the sum, the difference, the product and the quotient, each rounded to nearest, ties to even
 abbrev pub _⊕_ : Float → Float → Float
 x ⊕ y = Ieee.add binary32 x y
