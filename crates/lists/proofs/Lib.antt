@@ -1,0 +1,4 @@
+-- The laws that other crates cite.
+pub mod Turns
+pub mod Range
+pub mod Table
