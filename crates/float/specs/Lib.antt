@@ -1,1 +1,2 @@
 pub mod Arith
+pub mod Distance
