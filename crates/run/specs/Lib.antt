@@ -1,0 +1,4 @@
+pub mod Run
+pub mod Steps
+pub mod Ground
+pub mod Signs
