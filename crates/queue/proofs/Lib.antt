@@ -1,0 +1,6 @@
+pub mod Bags
+pub mod Sift
+pub mod Moves
+pub mod Order
+pub mod Flat
+pub mod Zeros
