@@ -1,1 +1,2 @@
 mod Picks
+pub mod Rays

@@ -1,2 +1,3 @@
 pub mod Closest
 pub mod Flat
+pub mod Ray
