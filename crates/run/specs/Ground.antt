@@ -16,11 +16,9 @@ use Rattle.grid.specs.Index.{indexOf, cellAt, total}
 use Rattle.grid.specs.Place.{centreOn, centreOf, snapCell}
 use Rattle.geo.specs.Box.{triangleBox}
 use Rattle.geo.specs.Distance.{pointTriangleDistance}
-use Rattle.topology.specs.declared.Triangle.{Triangle}
-use Rattle.topology.specs.Topology.{kth}
 use Rattle.mesh.specs.declared.Corners.{Corners}
-use Rattle.mesh.specs.Mesh.{Mesh, trianglesIn, cornersAt}
-use Rattle.queue.specs.Order.{goesFirst}
+use Rattle.mesh.specs.Mesh.{Mesh, vertexCount, trianglesIn, cornersAt}
+use Rattle.queue.specs.Order.{orderOf}
 use Rattle.run.specs.Run.{Box, Ground}
 use Rattle.run.specs.Steps.{aroundCell}
 
@@ -64,7 +62,7 @@ groundOf g m room limit =
       box = λ k. boxOf g (cornersAt m k);
       distance = λ k c. distanceFrom g (cornersAt m k) (cellAt g c);
       around = aroundCell g;
-      goesFirst = goesFirst (λ k. kth (trianglesIn m) k);
+      goesFirst = orderOf (m .topology) (m .given) (m .indices) (vertexCount (m .vertices));
       room = room;
       limit = limit;
     }

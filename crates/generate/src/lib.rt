@@ -1,0 +1,4 @@
+pub enum Answer {
+    Refused(u32),
+    Done { pops: u32, peak: usize },
+}
