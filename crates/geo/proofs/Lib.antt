@@ -1,0 +1,2 @@
+mod Picks
+pub mod Rays

@@ -1,0 +1,3 @@
+pub mod Closest
+pub mod Flat
+pub mod Ray
