@@ -1,0 +1,4 @@
+pub mod Axes
+pub mod Index
+pub mod Place
+pub mod Bounds
