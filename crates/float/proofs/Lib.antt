@@ -2,3 +2,8 @@
 pub mod Units
 pub mod Order
 pub mod Floors
+pub mod Squares
+pub mod Grid
+pub mod Normal
+pub mod Whole
+pub mod Roots
