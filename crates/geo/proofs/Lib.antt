@@ -1,2 +1,3 @@
 mod Picks
+mod Regions
 pub mod Rays

@@ -31,8 +31,8 @@ unfoldable pub way : Regions → Facet → Point
 way g f = first (g .ab) (g .ac) (g .bc) (f .ab) (f .ac) (f .bc) (f .ab)
 
 -- from the start along the first edge, and inside along ac too
-unfoldable pub place : Regions → Facet → Float → Float → Float → Point
-place g f q v w =
+unfoldable pub place : Regions → Facet → Dots → Float → Point
+place g f d q =
     let edge = g .ab || g .ac || g .bc in
-    let s = start g f +ᵥ way g f *ᵥ cond edge q (v ⊗ q) in
-    cond (g .a || g .b || g .c) (start g f) (cond edge s (s +ᵥ f .ac *ᵥ (w ⊗ q)))
+    let s = start g f +ᵥ way g f *ᵥ cond edge q (vb d ⊗ q) in
+    cond (g .a || g .b || g .c) (start g f) (cond edge s (s +ᵥ f .ac *ᵥ (vc d ⊗ q)))

@@ -76,7 +76,7 @@ pub fn facet_of(a: Point, b: Point, c: Point) -> Facet
     }
 }
 
-fn dots_of(f: Facet, p: Point) -> Dots
+pub fn dots_of(f: Facet, p: Point) -> Dots
     ensures { λ r. ⌜ r ≡ Closest.dotsOf f p ⌝ }
 {
     let ap = p.sub(f.a);
@@ -92,7 +92,7 @@ fn dots_of(f: Facet, p: Point) -> Dots
     }
 }
 
-fn regions_of(d: Dots) -> Regions
+pub fn regions_of(d: Dots) -> Regions
     ensures { λ r. ⌜ r ≡ Flat.regionsOf d ⌝ }
 {
     let d1 = d.d1;
@@ -155,7 +155,7 @@ fn first_point(x: bool, y: bool, z: bool, a: Point, b: Point, c: Point, e: Point
 }
 
 // The parameter of the edge, or 1 / (va + vb + vc): one division for every region.
-fn ratio(g: Regions, d: Dots) -> f32
+pub fn ratio(g: Regions, d: Dots) -> f32
     ensures { λ r. ⌜ r ≡ Flat.ratio g d ⌝ }
 {
     let d1 = d.d1;
@@ -193,24 +193,24 @@ fn way(g: Regions, f: Facet) -> Point
 }
 
 // From the start along the first edge, and inside along ac too.
-fn place(g: Regions, f: Facet, q: f32, v: f32, w: f32) -> Point
-    ensures { λ r. ⌜ r ≡ Flat.place g f q v w ⌝ }
+pub fn place(g: Regions, f: Facet, d: Dots, q: f32) -> Point
+    ensures { λ r. ⌜ r ≡ Flat.place g f d q ⌝ }
 {
+    let v = (d.d5 * d.d2 - d.d1 * d.d6) * q;
+    let w = (d.d1 * d.d4 - d.d3 * d.d2) * q;
     let edge = g.ab | g.ac | g.bc;
     let o = start(g, f);
     let corner = g.a | g.b | g.c;
-    let s = step(o, way(g, f), pick(edge, q, v * q));
-    let i = pick_point(edge, s, step(s, f.ac, w * q));
+    let s = step(o, way(g, f), pick(edge, q, v));
+    let i = pick_point(edge, s, step(s, f.ac, w));
     pick_point(corner, o, i)
 }
 
 fn nearest(d: Dots, f: Facet) -> Point
     ensures { λ r. ⌜ r ≡ Closest.nearest d f ⌝ }
 {
-    let vc = d.d1 * d.d4 - d.d3 * d.d2;
-    let vb = d.d5 * d.d2 - d.d1 * d.d6;
     let g = regions_of(d);
-    place(g, f, ratio(g, d), vb, vc)
+    place(g, f, d, ratio(g, d))
 }
 
 // A triangle of which two corners are equal is a segment or a point.

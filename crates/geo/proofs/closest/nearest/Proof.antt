@@ -1,48 +1,16 @@
--- `closest::nearest`: by cases on the six tests. Assumes nothing.
-use mathlib.Core.Path.{_≡_, refl, _∙_}
-use mathlib.Core.Bool.{Bool, true, false}
-use Rattle.float.specs.Arith.{_⊕_, _⊖_, _⊗_, _⊘_, f1, if_then_else_}
-use Rattle.point.specs.Point.{_+ᵥ_, _*ᵥ_}
-use Rattle.point.specs.declared.Point.{Point}
-use Rattle.geo.specs.declared.closest.Facet.{Facet}
-use Rattle.geo.specs.declared.closest.Dots.{Dots}
-use Rattle.geo.specs.declared.closest.Regions.{Regions}
-use Rattle.geo.specs.Closest.{nearest, va, vb, vc, atA, atB, atC, onAB, onAC, onBC}
-use Rattle.geo.specs.Flat.{regionsOf, ratio, start, way, place}
+-- `closest::nearest`: the steps with no branch, put together. Assumes nothing.
+use mathlib.Core.Path.{_∙_}
+use Rattle.geo.proofs.Regions.{placed}
 use Rattle.geo.proofs.closest.nearest.Statement.{statement}
 use Rattle.geo.proofs.closest.nearest.Tie as tie
 
-module _ (d : Dots) (f : Facet) where
-  -- the definition, by the tests' outcomes
-  abbrev defined : (u v w x y z : Bool) → Point
-  defined u v w x y z =
-      if u then f .a
-      else if v then f .b
-      else if w then f .c
-      else if x then f .a +ᵥ f .ab *ᵥ (d .d1 ⊘ (d .d1 ⊖ d .d3))
-      else if y then f .a +ᵥ f .ac *ᵥ (d .d2 ⊘ (d .d2 ⊖ d .d6))
-      else if z then f .b +ᵥ f .bc *ᵥ ((d .d4 ⊖ d .d3) ⊘ ((d .d4 ⊖ d .d3) ⊕ (d .d5 ⊖ d .d6)))
-      else (let denom = f1 ⊘ (va d ⊕ vb d ⊕ vc d) in f .a +ᵥ f .ab *ᵥ (vb d ⊗ denom) +ᵥ f .ac *ᵥ (vc d ⊗ denom))
-
-  abbrev outcomes : (u v w x y z : Bool) → Regions
-  outcomes u v w x y z = record { a = u; b = v; c = w; ab = x; ac = y; bc = z }
-
-  agree : (u v w x y z : Bool) → (let g = outcomes u v w x y z in place g f (ratio g d) (vb d) (vc d) ≡ defined u v w x y z)
-  unfolding ratio place start way
-  agree true v w x y z = refl
-  agree false true w x y z = refl
-  agree false false true x y z = refl
-  agree false false false true y z = refl
-  agree false false false false true z = refl
-  agree false false false false false true = refl
-  agree false false false false false false = refl
-
-returns : tie.Need-returns
-unfolding nearest regionsOf
-returns c =
-    let s = c .before .before .before .before .before .before .before .args in
-    (rw (c .before .ratio .ensures, c .before .before .regions-of .ensures) at (c .place .ensures))
-    ∙ agree (s .d) (s .f) (atA (s .d)) (atB (s .d)) (atC (s .d)) (onAB (s .d)) (onAC (s .d)) (onBC (s .d))
-
 pub nearest-spec : {M : Type 1} → statement M
-nearest-spec = tie.close (tie.spec (λ c κs. tt) (λ c κs. tt) (λ c κs. tt) returns)
+nearest-spec =
+    tie.close
+    (tie.spec
+    (λ c κs. tt)
+    (λ c κs. tt)
+    (λ c κs. tt)
+    (λ c.
+    (rw (c .before .ratio .ensures, c .before .before .regions-of .ensures) at (c .place .ensures))
+    ∙ placed (c .before .before .before .args .d) (c .before .before .before .args .f)))
