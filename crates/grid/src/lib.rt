@@ -4,7 +4,6 @@
 use float::Place;
 use point::Axis;
 use point::Point;
-
 ghost use mathlib.Core.Path.{_≡_};
 ghost use mathlib.Core.Bool.{true};
 ghost use Prim.Native.Nat.{_^_, _<_};

@@ -1,4 +1,3 @@
 pub mod Run
 pub mod Steps
-pub mod Ground
 pub mod Signs

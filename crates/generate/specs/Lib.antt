@@ -1,3 +1,0 @@
-pub mod Job
-pub mod Refusals
-pub mod Outcome
