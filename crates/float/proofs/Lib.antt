@@ -8,3 +8,4 @@ pub mod Normal
 pub mod Whole
 pub mod Roots
 pub mod NotBelow
+pub mod Signs
