@@ -1,3 +1,4 @@
 mod Picks
 mod Regions
+mod Runs
 pub mod Rays
