@@ -7,3 +7,4 @@ pub mod Grid
 pub mod Normal
 pub mod Whole
 pub mod Roots
+pub mod Signs
