@@ -18,3 +18,15 @@ pub fn squared_on(f: Facet, p: Point) -> f32
 {
     square(p, crate::closest::closest_on(f, p))
 }
+
+pub fn distance_on(f: Facet, p: Point) -> f32
+    ensures { λ r. ⌜ r ≡ Distance.distanceOn f p ⌝ }
+{
+    float::sqrt(squared_on(f, p))
+}
+
+pub fn point_triangle_distance(p: Point, a: Point, b: Point, c: Point) -> f32
+    ensures { λ r. ⌜ r ≡ Distance.distance p a b c ⌝ }
+{
+    distance_on(crate::closest::facet_of(a, b, c), p)
+}

@@ -59,7 +59,7 @@ fn squares_equal(f: Facet, xs: &[f32], ys: &[f32], zs: &[f32], out: &mut [f32])
 }
 
 // The squared distances to `f` of the points whose coordinates stand in xs, ys and zs.
-pub fn squares(f: Facet, xs: &[f32], ys: &[f32], zs: &[f32], out: &mut [f32])
+pub fn squares_on(f: Facet, xs: &[f32], ys: &[f32], zs: &[f32], out: &mut [f32])
     requires { ⌜ (length (now ys) ≡ length (now xs)) × (length (now zs) ≡ length (now xs)) × (length (now out) ≡ length (now xs)) ⌝ }
     ensures { λ r. ⌜ Squares f (now (xs .entry)) (now (ys .entry)) (now (zs .entry)) (now (out .exit)) ⌝ }
 {
