@@ -13,5 +13,5 @@ from-bounding-box-spec =
     (λ c κs. search needs)
     (λ c κs. search needs)
     (λ c.
-      let s = c .before .before .before in
-      rw (s .before .before .size-between .ensures, s .before .size-between2 .ensures, s .size-between3 .ensures)))
+    let s = c .before .before .before in
+    rw (s .before .before .size-between .ensures, s .before .size-between2 .ensures, s .size-between3 .ensures)))

@@ -16,5 +16,11 @@ get-bounding-box-spec =
     (λ c κs. search needs)
     (λ c κs. search needs)
     (λ c.
-      rw (c .before .before .before .before .before .low-on .ensures, c .before .before .before .before .low-on2 .ensures, c .before .before .before .low-on3 .ensures,
-          c .before .before .high-on .ensures, c .before .high-on2 .ensures, c .high-on3 .ensures)))
+    rw (
+      c .before .before .before .before .before .low-on .ensures,
+      c .before .before .before .before .low-on2 .ensures,
+      c .before .before .before .low-on3 .ensures,
+      c .before .before .high-on .ensures,
+      c .before .high-on2 .ensures,
+      c .high-on3 .ensures,
+    )))
