@@ -91,8 +91,8 @@ middle : (X R H : ℕ) → H * H ≤ X * 2 ^ 149 → Nearer X R H → H ≤ R
 middle X R H h near = ⊎-elim
     (λ (l : H ≤ R). l)
     (λ (l : R < H).
-        absurd
-        (not-le-of-lt (near .1 l) (le-trans (mul-le-mul {n₂ = H + H} {m₂ = H + H} (omega arith) (omega arith)) (le-trans (four H) (mul-le-mul-left 4 h)))))
+    absurd
+    (not-le-of-lt (near .1 l) (le-trans (mul-le-mul {n₂ = H + H} {m₂ = H + H} (omega arith) (omega arith)) (le-trans (four H) (mul-le-mul-left 4 h)))))
     (le-or-lt H R)
 
 above-zero : (m : ℕ) (e : ℤ) → T (positive (fin false (suc m) e))
@@ -118,10 +118,10 @@ unfolding units
 not-below-nearest x y a b p q f r c near h =
     lt-values r y (units c) (units b) (2 ^ 149) (pow-pos 149) (c .is) (b .is)
     ∙ le-ltb (units c) (units b)
-        (middle (units a) (units c) (units b) (at-most x y a b p q h)
-        (subst (λ (n : ℕ). Nearer n (units c) (units b)) (units-are x a)
-        (subst (λ (n : ℕ). Nearer (unitsOf x) n (units b)) (units-are r c)
-        (subst (λ (n : ℕ). Nearer (unitsOf x) (unitsOf r) n) (units-are y b) (near .nearer y f)))))
+    (middle (units a) (units c) (units b) (at-most x y a b p q h)
+    (subst (λ (n : ℕ). Nearer n (units c) (units b)) (units-are x a)
+    (subst (λ (n : ℕ). Nearer (unitsOf x) n (units b)) (units-are r c)
+    (subst (λ (n : ℕ). Nearer (unitsOf x) (unitsOf r) n) (units-are y b) (near .nearer y f)))))
 
 above-root : (x r : Float) → NearestRoot x r → Above r
 above-root x r near =

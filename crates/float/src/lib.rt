@@ -1,10 +1,12 @@
 // The port's own float steps: what Rust's f32 offers as methods and Rattle does not. A part of the
 // public face `sdf`, not called by users on its own.
 mod root;
+mod shortcut;
 mod table;
 
 pub use root::sqrt;
 pub use root::sqrt_bits;
+pub use shortcut::root_not_below;
 ghost use mathlib.Core.Path.{_≡_};
 ghost use Rattle.float.specs.Arith.{_≺_, f0, f1, if_then_else_};
 ghost use Rattle.float.specs.Cell.{Snapped};
