@@ -1,1 +1,5 @@
 pub mod Arith
+pub mod Distance
+pub mod Cell
+pub mod Root
+pub mod RootOf

@@ -1,0 +1,117 @@
+-- What the tests of a grid and of a cell say of their numbers. Assumes nothing.
+use mathlib.Core.Path.{_≡_, refl, sym, ap, _∙_}
+use mathlib.Core.Bool.{Bool, true, false, not, _&&_, true≢false}
+use Prim.Native.Nat.{ℕ, _+_, _*_, _^_, _≤_, _<_}
+use native.Mathlib.Nat.{mul-le-mul, le-mul-of-pos-right, lt-of-le-of-lt, lt-of-lt-of-le}
+use native.Mathlib.Omega.{arith}
+use lib.Dec.{leb, ltb, lit<}
+use lib.Ieee.{Float}
+use borrow.Author.Tests.{leb-true, ltb-true, lt-ltb, not-true, not-false}
+use Rattle.point.specs.declared.Axis.{Axis}
+use Rattle.point.specs.declared.Axis.the-variants.{X, Y, Z}
+use Rattle.grid.specs.declared.Grid.{Grid}
+use Rattle.grid.specs.declared.Cell.{Cell}
+use Rattle.grid.specs.Axes.{countOn, firstOn, sizeOn, cellOn, onEvery}
+use Rattle.grid.specs.Index.{Inside, index, total, isCell}
+use Rattle.grid.specs.Bounds.{isCount, isCoordinate, isSize, axisInBounds, isTotal, inBounds}
+use Rattle.grid.proofs.Laws.{index-below}
+
+both : (a b : Bool) → (a && b) ≡ true → (a ≡ true) × (b ≡ true)
+both true b h = (refl, h)
+both false b h = absurd (true≢false (sym h))
+
+-- what a call found, when it is turned round and tested: the definition's test is false, or true
+pub fails : {found test : Bool} → found ≡ test → not found ≡ true → test ≡ false
+fails e h = sym e ∙ not-true _ h
+
+pub passes : {found test : Bool} → found ≡ test → not found ≡ false → test ≡ true
+passes e h = sym e ∙ not-false _ h
+
+-- a test that holds on every axis holds on each
+pub each : (t : Axis → Bool) → onEvery t ≡ true → (a : Axis) → t a ≡ true
+each t h X = both (t X) (t Y) (both (t X && t Y) (t Z) h .0) .0
+each t h Y = both (t X) (t Y) (both (t X && t Y) (t Z) h .0) .1
+each t h Z = both (t X && t Y) (t Z) h .1
+
+-- ---- a grid within the bounds
+pub record Axis-bounds (count : ℕ) (first size : Float) : Type 0 where
+  pub some : 1 ≤ count
+  pub few : count ≤ 1024
+  pub near : isCoordinate first ≡ true
+  pub sized : isSize size ≡ true
+
+pub axis-bounds : (count : ℕ) (first size : Float) → axisInBounds count first size ≡ true → Axis-bounds count first size
+axis-bounds count first size h =
+    let cf-s = both (isCount count && isCoordinate first) (isSize size) h in
+    let c-f = both (isCount count) (isCoordinate first) (cf-s .0) in
+    let n = both (leb 1 count) (leb count 1024) (c-f .0) in
+    record {
+      some = leb-true 1 count (n .0);
+      few = leb-true count 1024 (n .1);
+      near = c-f .1;
+      sized = cf-s .1;
+    }
+
+pub record Bounds (g : Grid) : Type 0 where
+  pub on-x : Axis-bounds (countOn X g) (firstOn X g) (sizeOn X g)
+  pub on-y : Axis-bounds (countOn Y g) (firstOn Y g) (sizeOn Y g)
+  pub on-z : Axis-bounds (countOn Z g) (firstOn Z g) (sizeOn Z g)
+  pub total-few : total g ≤ 1048576
+
+pub on-axis : {g : Grid} → Bounds g → (a : Axis) → Axis-bounds (countOn a g) (firstOn a g) (sizeOn a g)
+on-axis b X = b .on-x
+on-axis b Y = b .on-y
+on-axis b Z = b .on-z
+
+pub axes-of : (g : Grid) → onEvery (λ a. axisInBounds (countOn a g) (firstOn a g) (sizeOn a g)) ≡ true → (a : Axis) → Axis-bounds (countOn a g) (firstOn a g) (sizeOn a g)
+axes-of g h a = axis-bounds (countOn a g) (firstOn a g) (sizeOn a g) (each (λ a. axisInBounds (countOn a g) (firstOn a g) (sizeOn a g)) h a)
+
+pub bounds-of : (g : Grid) → inBounds g ≡ true → Bounds g
+unfolding inBounds
+bounds-of g h =
+    let tests = both (onEvery (λ a. axisInBounds (countOn a g) (firstOn a g) (sizeOn a g))) (isTotal (total g) && true) h in
+    record {
+      on-x = axes-of g (tests .0) X;
+      on-y = axes-of g (tests .0) Y;
+      on-z = axes-of g (tests .0) Z;
+      total-few = leb-true (total g) 1048576 (both (leb 1 (total g)) (leb (total g) 1048576) (both (isTotal (total g)) true (tests .1) .0) .1);
+    }
+
+-- ---- a cell within the counts
+pub inside-of : (g : Grid) (c : Cell) → isCell g c ≡ true → Inside g c
+inside-of g c h = record { x-below = below X; y-below = below Y; z-below = below Z }
+  where
+    below : (a : Axis) → cellOn a c < countOn a g
+    below a = ltb-true (cellOn a c) (countOn a g) (each (λ a. ltb (cellOn a c) (countOn a g)) h a)
+
+pub inside-test : (g : Grid) (c : Cell) → Inside g c → isCell g c ≡ true
+inside-test g c w = rw (lt-ltb (c .x) (countOn X g) (w .x-below), lt-ltb (c .y) (countOn Y g) (w .y-below), lt-ltb (c .z) (countOn Z g) (w .z-below))
+
+-- ---- what is formed on the way stays below 2^32
+-- the counts' products
+pub counts-fit : (nx ny nz : ℕ) → nx ≤ 1024 → ny ≤ 1024 → nz ≤ 1024 → (nx * ny < 2 ^ 32) × (nx * ny * nz < 2 ^ 32)
+counts-fit nx ny nz x y z =
+    let xy = mul-le-mul x y in
+    (lt-of-le-of-lt xy (lit< tt), lt-of-le-of-lt (mul-le-mul xy z) (lit< tt))
+
+-- the parts of an index are at most the index
+pub record Parts (ny nz : ℕ) (c : Cell) : Type 0 where
+  pub y-nz : c .y * nz < 2 ^ 32
+  pub z-y : c .z + c .y * nz < 2 ^ 32
+  pub x-ny : c .x * ny < 2 ^ 32
+  pub x-ny-nz : c .x * ny * nz < 2 ^ 32
+  pub whole : c .z + c .y * nz + c .x * ny * nz < 2 ^ 32
+
+pub parts-fit : (g : Grid) (c : Cell) → inBounds g ≡ true → Inside g c → Parts (countOn Y g) (countOn Z g) c
+unfolding index
+parts-fit g c h w =
+    let b = bounds-of g h in
+    let i = lt-of-lt-of-le (index-below w) (b .total-few) in
+    let n = le-mul-of-pos-right (c .x * countOn Y g) (b .on-z .some) in
+    record {
+      y-nz = omega arith;
+      z-y = omega arith;
+      x-ny = omega arith;
+      x-ny-nz = omega arith;
+      whole = omega arith;
+    }

@@ -1,0 +1,5 @@
+pub mod Axes
+pub mod Index
+pub mod Place
+pub mod Bounds
+pub mod Reply

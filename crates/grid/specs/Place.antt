@@ -1,0 +1,89 @@
+-- Where cells lie, and in which cell a point lies (document 01, "Grid"). What is alike on the three axes is defined on one. Definitions
+-- only.
+use mathlib.Core.Bool.{Bool}
+use Prim.Native.Nat.{ℕ}
+use lib.IntN.{ℤ, pos}
+use lib.Ieee as Ieee
+use lib.Ieee.{Float, binary32}
+use Rattle.float.specs.Arith.{_⊕_, _⊖_, _⊗_, _⊘_, f½, if_then_else_}
+use Rattle.float.specs.Cell.{floorOf, cellOf, outside}
+use Rattle.point.specs.declared.Point.{Point}
+use Rattle.point.specs.declared.Axis.{Axis}
+use Rattle.point.specs.declared.Axis.the-variants.{X, Y, Z}
+use Rattle.point.specs.Point.{coordinate}
+use Rattle.grid.specs.declared.Grid.{Grid}
+use Rattle.grid.specs.declared.Cell.{Cell}
+use Rattle.grid.specs.declared.Counts.{Counts}
+use Rattle.grid.specs.declared.BoundingBox.{BoundingBox}
+use Rattle.grid.specs.declared.SnapResult.{SnapResult}
+use Rattle.grid.specs.declared.SnapResult.the-variants.{Inside, Outside}
+use Rattle.grid.specs.Axes.{countOn, along, firstOn, sizeOn, cellOn, pointBy, cellBy, onSome}
+
+-- (i as f32), which for the counts of a grid is exact
+abbrev pub real : ℕ → Float
+real i = Ieee.ofInt binary32 (pos i)
+
+-- "Centre on an axis: first + (i as f32)·size, one rounding per operation."
+abbrev pub centreOn : Float → Float → ℕ → Float
+centreOn first size i = first ⊕ real i ⊗ size
+
+unfoldable pub centreOf : Grid → Cell → Point
+centreOf g c = pointBy (λ a. centreOn (firstOn a g) (sizeOn a g) (cellOn a c))
+
+-- "Box minimum: first − size·0.5. Maximum: that + (count as f32)·size."
+abbrev pub lowOn : Float → Float → Float
+lowOn first size = first ⊖ size ⊗ f½
+
+abbrev pub highOn : Float → Float → ℕ → Float
+highOn first size count = lowOn first size ⊕ real count ⊗ size
+
+unfoldable pub boxMin : Grid → Point
+boxMin g = pointBy (λ a. lowOn (firstOn a g) (sizeOn a g))
+
+unfoldable pub boxMax : Grid → Point
+boxMax g = pointBy (λ a. highOn (firstOn a g) (sizeOn a g) (countOn a g))
+
+abbrev pub boxOf : Grid → BoundingBox
+boxOf g = record { min = boxMin g; max = boxMax g }
+
+-- "Snap: floor of (point − box minimum) / size, as a signed whole number that saturates at the ends of the 64-bit range, then
+-- clamped to 0 .. count − 1. Inside if no axis was clamped, else Outside. [..] A NaN quotient gives 0, as the Rust cast does."
+abbrev pub quotientOn : Float → Float → Float → Float
+quotientOn first size p = (p ⊖ lowOn first size) ⊘ size
+
+abbrev pub floorOn : Axis → Grid → Point → ℤ
+floorOn a g p = floorOf (quotientOn (firstOn a g) (sizeOn a g) (coordinate a p))
+
+unfoldable pub snapCell : Grid → Point → Cell
+snapCell g p = cellBy (λ a. cellOf (countOn a g) (floorOn a g p))
+
+unfoldable pub clamped : Grid → Point → Bool
+clamped g p = onSome (λ a. outside (countOn a g) (floorOn a g p))
+
+unfoldable pub snap : Grid → Point → SnapResult
+snap g p = if clamped g p then Outside (snapCell g p) else Inside (snapCell g p)
+
+-- the cell that a snap names, inside or outside
+abbrev pub cellIn : SnapResult → Cell
+cellIn (Inside c) = c
+cellIn (Outside c) = c
+
+-- "`get_last_cell` gives first + count·size, one cell further than its comment says."
+unfoldable pub lastCell : Grid → Point
+lastCell g = pointBy (λ a. centreOn (firstOn a g) (sizeOn a g) (countOn a g))
+
+-- "`from_bounding_box`: size (max − min) / (count as f32), first min + size·0.5"
+abbrev pub boxSize : Float → Float → ℕ → Float
+boxSize low high count = (high ⊖ low) ⊘ real count
+
+abbrev pub boxFirst : Float → Float → ℕ → Float
+boxFirst low high count = low ⊕ boxSize low high count ⊗ f½
+
+unfoldable pub fromBox : Point → Point → Counts → Grid
+fromBox low high n = record {
+  «first_cell» = pointBy (λ a. boxFirst (coordinate a low) (coordinate a high) (along a n));
+  «cell_size» = pointBy (λ a. boxSize (coordinate a low) (coordinate a high) (along a n));
+  «count_x» = n .x;
+  «count_y» = n .y;
+  «count_z» = n .z;
+}

@@ -1,0 +1,8 @@
+pub mod Bags
+pub mod Sift
+pub mod Moves
+pub mod Order
+pub mod Flat
+pub mod Zeros
+pub mod Meaning
+pub mod Uses

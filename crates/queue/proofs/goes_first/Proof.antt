@@ -1,0 +1,74 @@
+-- `queue::goes_first` meets its contract: each return is a case of `goesFirst`, by the tests that led to it. Assumes nothing.
+use mathlib.Core.Path.{_∙_}
+use borrow.Author.Needs.{needs}
+use borrow.Author.Tests.{lt-ltb, le-ltb}
+use Rattle.queue.specs.Order.{goesFirst}
+use Rattle.queue.proofs.goes_first.Statement.{statement}
+use Rattle.queue.proofs.goes_first.Tie as tie
+use Rattle.queue.proofs.goes_first.Reads as reads
+use Rattle.queue.proofs.goes_first.Lts as lts
+use Rattle.queue.proofs.triple.Reads as triple-reads
+use Rattle.queue.proofs.triple_first.Reads as triple-first-reads
+
+-- src/lib.rt:77:9
+returns : tie.Need-returns
+unfolding goesFirst
+returns c = simp (lt-ltb _ _ (c .if1 .taken))
+
+-- src/lib.rt:80:9
+returns-2 : tie.Need-returns-2
+unfolding goesFirst
+returns-2 c = let one = c .before .before .before in simp (le-ltb _ _ (one .if1 .left), lt-ltb _ _ (c .if2 .taken))
+
+-- src/lib.rt:83:9
+returns-3 : tie.Need-returns-3
+unfolding goesFirst
+returns-3 c =
+    let two = c .before .before .before in
+    let one = two .before .before .before in
+    simp (le-ltb _ _ (one .if1 .left), le-ltb _ _ (two .if2 .left), lt-ltb _ _ (c .if3 .taken))
+
+-- src/lib.rt:86:9
+returns-4 : tie.Need-returns-4
+unfolding goesFirst
+returns-4 c =
+    let three = c .before .before .before in
+    let two = three .before .before .before in
+    let one = two .before .before .before in
+    simp (le-ltb _ _ (one .if1 .left), le-ltb _ _ (two .if2 .left), le-ltb _ _ (three .if3 .left), lt-ltb _ _ (c .if4 .taken))
+
+-- src/lib.rt:88:9
+triple-requires : tie.Need-triple-requires
+triple-requires c κs = search needs
+
+-- src/lib.rt:89:9
+triple-requires-2 : tie.Need-triple-requires-2
+triple-requires-2 c κs = search needs
+
+-- src/lib.rt:90:5
+triple-first-requires : tie.Need-triple-first-requires
+triple-first-requires c κs = search needs
+
+-- src/lib.rt:65:1
+returns-5 : tie.Need-returns-5
+unfolding goesFirst
+returns-5 c =
+    let four = c .before .before .before in
+    let three = four .before .before .before in
+    let two = three .before .before .before in
+    let one = two .before .before .before in
+    c .triple-first .ensures
+    ∙ simp (le-ltb _ _ (one .if1 .left), le-ltb _ _ (two .if2 .left), le-ltb _ _ (three .if3 .left), le-ltb _ _ (four .if4 .left), c .before .before .triple .ensures, c .before .triple2 .ensures)
+
+pub goes-first-spec : {M : Type 1} → statement M
+goes-first-spec =
+    tie.close
+    (tie.spec
+    returns
+    returns-2
+    returns-3
+    returns-4
+    triple-requires
+    triple-requires-2
+    triple-first-requires
+    returns-5)

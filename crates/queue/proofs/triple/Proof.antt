@@ -1,0 +1,34 @@
+-- `queue::triple` meets its contract: past the last triangle the definition gives 0, 0, 0 too. Assumes nothing.
+use native.Mathlib.Omega.{arith}
+use mathlib.Core.Path.{sym}
+use denote.Ref.{now}
+use lib.ListN.{List·getD-eq-default}
+use borrow.Author.Needs.{needs}
+use Rattle.topology.specs.Topology.{triangle, trianglesOf}
+use Rattle.queue.proofs.triple.Statement.{statement}
+use Rattle.queue.proofs.triple.Tie as tie
+use Rattle.queue.proofs.triple.Reads as reads
+use Rattle.queue.proofs.triple.Lts as lts
+use Rattle.topology.proofs.triangle_at.Reads as triangle-at-reads
+use Rattle.topology.proofs.triangle_count.Reads as triangle-count-reads
+
+-- src/lib.rt:33:12
+triangle-count-requires : tie.Need-triangle-count-requires
+triangle-count-requires c κs = search needs
+
+-- src/lib.rt:34:9
+triangle-at-requires : tie.Need-triangle-at-requires
+triangle-at-requires c κs = search needs
+
+-- src/lib.rt:34:9
+returns : tie.Need-returns
+returns c = search needs
+
+-- src/lib.rt:22:1
+returns-2 : tie.Need-returns-2
+returns-2 c =
+    let s = c .before .before .before .args in
+    sym (List·getD-eq-default (trianglesOf (s .topology) (s .given) (now (s .indices)) (s .vertices)) (triangle 0 0 0) (omega arith))
+
+pub triple-spec : {M : Type 1} → statement M
+triple-spec = tie.close (tie.spec triangle-count-requires triangle-at-requires returns returns-2)

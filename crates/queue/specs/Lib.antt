@@ -1,0 +1,4 @@
+pub mod Heap
+pub mod InOrder
+pub mod Order
+pub mod Queue

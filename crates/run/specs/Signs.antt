@@ -1,0 +1,99 @@
+-- "Signs. For each starting cell of the faces x=0, y=0, z=0 a ray runs from its centre along that axis against all triangles. A hit at
+-- t adds one to that axis's count at each cell of the line whose number is at most floor(t / size); an infinite quotient reaches all of
+-- them. A cell with two or three odd counts has its distance negated; 0 becomes −0." (document 01, "The run", 4). A count is the
+-- number of triangles whose hit reaches the cell, with no order of rays or triangles in it. Definitions only.
+use Prim.Native.Nat.{ℕ, _+_, _*_, _/_, _%_}
+use mathlib.Core.Bool.{Bool, true, false, _&&_, _||_}
+use mathlib.Core.List.{List}
+use lib.Dec.{leb, ltb, eqb}
+use lib.IntN.{ℤ, pos, negsuc}
+use lib.ListN.{length, getD}
+use lib.Ieee.{Float, nan, neg}
+use Rattle.float.specs.Arith.{_⊘_, _≺_, f0, if_then_else_}
+use Rattle.float.specs.Cell.{floorOf}
+use Rattle.lists.specs.Range.{countBelow}
+use Rattle.lists.specs.Table.{table}
+use Rattle.point.specs.declared.Axis.{Axis}
+use Rattle.point.specs.declared.Axis.the-variants.{X, Y, Z}
+use Rattle.grid.specs.declared.Grid.{Grid}
+use Rattle.grid.specs.declared.Cell.{Cell}
+use Rattle.grid.specs.Axes.{countOn, sizeOn, cellOn, cell}
+use Rattle.grid.specs.Index.{cellAt, total}
+use Rattle.grid.specs.Place.{centreOf}
+use Rattle.geo.specs.declared.ray.RayHit.{RayHit}
+use Rattle.geo.specs.declared.ray.RayHit.the-variants.{Miss, Hit}
+use Rattle.geo.specs.Ray.{rayAligned}
+use Rattle.mesh.specs.declared.Corners.{Corners}
+use Rattle.mesh.specs.Mesh.{Mesh, trianglesIn, cornersAt}
+
+-- the starting cell of the line through c along the axis
+abbrev pub startOf : Axis → Cell → Cell
+startOf X c = cell 0 (c .y) (c .z)
+startOf Y c = cell (c .x) 0 (c .z)
+startOf Z c = cell (c .x) (c .y) 0
+
+-- the ray from there against triangle k
+unfoldable pub rayFrom : Grid → Mesh → Axis → Cell → ℕ → RayHit
+rayFrom g m axis c k =
+    let t = cornersAt m k in
+    rayAligned (centreOf g (startOf axis c)) (t .a) (t .b) (t .c) axis
+
+-- whether number i of a line is at most the floor
+abbrev pub atMost : ℕ → ℤ → Bool
+atMost i (pos n) = leb i n
+atMost i (negsuc n) = false
+
+-- whether what a ray answers reaches cell number i of a line whose cells are `size` long; a miss reaches none
+abbrev pub reaches : Float → ℕ → RayHit → Bool
+reaches size i Miss = false
+reaches size i (Hit t) = atMost i (floorOf (t ⊘ size))
+
+unfoldable pub crosses : Grid → Mesh → Axis → Cell → ℕ → Bool
+crosses g m axis c k = reaches (sizeOn axis g) (cellOn axis c) (rayFrom g m axis c k)
+
+-- the crossing count of cell c along the axis
+unfoldable pub crossings : Grid → Mesh → Axis → Cell → ℕ
+crossings g m axis c = countBelow (crosses g m axis c) (length (trianglesIn m))
+
+-- ---- "3 × cells (x, y, z of each cell in turn)": what the lent crossings hold
+
+abbrev pub axisAt : ℕ → Axis
+axisAt i = if eqb (i % 3) 0 then X else if eqb (i % 3) 1 then Y else Z
+
+unfoldable pub crossingsAt : Grid → Mesh → ℕ → ℕ
+crossingsAt g m i = crossings g m (axisAt i) (cellAt g (i / 3))
+
+unfoldable pub allCrossings : Grid → Mesh → List ℕ
+allCrossings g m = table (crossingsAt g m) (3 * total g)
+
+-- ---- the sign
+
+abbrev pub isOdd : ℕ → Bool
+isOdd n = eqb (n % 2) 1
+
+-- at least two of the three are odd
+abbrev pub twoOdd : ℕ → ℕ → ℕ → Bool
+twoOdd x y z = (isOdd x && isOdd y) || (isOdd x && isOdd z) || (isOdd y && isOdd z)
+
+-- the cell is deemed inside
+unfoldable pub inside : Grid → Mesh → Cell → Bool
+inside g m c = twoOdd (crossings g m X c) (crossings g m Y c) (crossings g m Z c)
+
+unfoldable pub signed : Grid → Mesh → List Float → ℕ → Float
+signed g m field c = if inside g m (cellAt g c) then neg (getD field c nan) else getD field c nan
+
+unfoldable pub signedField : Grid → Mesh → List Float → List Float
+signedField g m field = table (signed g m field) (total g)
+
+-- ---- "Row z: how many cells of layer z have a distance less than zero."
+
+-- what counts in a row
+abbrev pub counted : Float → Bool
+counted d = d ≺ f0
+
+-- of the cells below c, in the order of their index
+unfoldable pub rowBelow : Grid → List Float → ℕ → ℕ → ℕ
+rowBelow g field z c = countBelow (λ i. eqb (cellAt g i .z) z && counted (getD field i nan)) c
+
+unfoldable pub rows : Grid → List Float → List ℕ
+rows g field = table (λ z. rowBelow g field z (total g)) (countOn Z g)
