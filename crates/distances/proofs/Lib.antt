@@ -1,0 +1,8 @@
+-- Laws that the crate's proofs, and those of the crates above it, cite.
+pub mod Values
+pub mod Difference
+pub mod Alike
+pub mod Farther
+pub mod Signs
+pub mod Patterns
+pub mod Total
