@@ -1,3 +1,4 @@
 -- Laws that the crate's proofs, and those of the crates above it, cite.
 pub mod Units
 pub mod Order
+pub mod Floors

@@ -1,2 +1,3 @@
 pub mod Arith
 pub mod Distance
+pub mod Cell
