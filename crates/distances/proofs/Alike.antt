@@ -1,20 +1,19 @@
 -- `alike` over the patterns of two magnitudes. It is the same either way round, and convex: of three magnitudes in order, where the outer two are
 -- alike so is each of them and the middle one. For the patterns that is plain; for the rounded difference it is that rounding keeps the order, as long
 -- as all three are finite, and infinity's difference to a number is infinity, to itself a NaN. Assumes nothing.
-use Prim.Native.Nat.{ℕ, _+_, _-_, _^_, _≤_, _<_}
+use Prim.Native.Nat.{ℕ, _^_, _≤_, _<_}
 use native.Mathlib.Nat.{le-of-eq, le-of-lt, eq-or-lt-of-le}
 use native.Mathlib.Omega.{arith}
-use native.Mathlib.Decide.{decLt}
 use mathlib.Core.Path.{_≡_, refl, sym, ap, ap₂, _∙_, subst}
 use mathlib.Core.Logic.{_⊎_, inl, inr}
-use mathlib.Core.Bool.{Bool, true, false, not, _&&_, _||_, or-true, or-false}
-use lib.Dec.{T, leb, ltb, eqb, le→leb, leb→le, eqb→eq}
+use mathlib.Core.Bool.{Bool, true, false, _||_, or-true, or-false}
+use lib.Dec.{T, leb, eqb, le→leb, leb→le, eqb→eq}
 use lib.Pow.{pow-pos}
-use lib.Ieee.{Float, nan, inf, fin, binary32, round, ofBits, toBits, sub, le, lt}
+use lib.Ieee.{Float, nan, inf, fin, binary32, round, ofBits, sub, le}
 use lib.Ieee.Exact.{HasValue}
 use borrow.Author.Tests.{le-leb, lt-leb}
-use Rattle.float.specs.Arith.{_⊖_, _≦_, _≺_, _≐_}
-use Rattle.float.specs.Distance.{Distance, unsigned}
+use Rattle.float.specs.Arith.{_⊖_, _≦_}
+use Rattle.float.specs.Distance.{Distance}
 use Rattle.float.proofs.Units.{unitsAt, units-grow, value, infinity}
 use Rattle.float.proofs.Order.{bits-eq, bits-back, bits-distance}
 use Rattle.distances.specs.Compare.{magnitude, margin, apart, alike}

@@ -5,10 +5,10 @@ use native.Mathlib.Nat.{le-trans, mul-comm, mul-right-comm, mul-assoc, add-mul, 
 use native.Mathlib.Omega.{arith}
 use native.Mathlib.Decide.{decLt}
 use mathlib.Core.Path.{_≡_, refl, sym, ap, ap₂, _∙_, subst}
-use mathlib.Core.Bool.{Bool, true, false, not, cond, true≢false}
-use lib.Dec.{T, leb, ltb, le→leb, leb→le}
+use mathlib.Core.Bool.{Bool, true, false, cond, true≢false}
+use lib.Dec.{T, ltb, le→leb, leb→le}
 use lib.IntN.{ℤ}
-use lib.Ieee.{Float, nan, inf, fin, binary32, Format, prec, emax, low, up, down, odd, units, round, sum, sub, toBits}
+use lib.Ieee.{Float, nan, inf, fin, binary32, up, down, odd, units, round, sum, sub, toBits}
 use lib.Ieee.Fits.{round-is, round-fits, down-pos}
 use lib.Ieee.Exact.{HasValue}
 use lib.Ieee.Order.{round-mono}
@@ -17,7 +17,7 @@ use borrow.Author.Tests.{lt-ltb, le-ltb}
 use Rattle.float.specs.Arith.{_⊖_, _≦_}
 use Rattle.float.specs.Distance.{Distance, unsigned}
 use Rattle.float.proofs.Order.{unsigned-distance, distance-le}
-use Rattle.distances.specs.Compare.{signBit, magnitude, apart}
+use Rattle.distances.specs.Compare.{magnitude, apart}
 
 -- ---- a rounded fraction has the sign that it is given
 

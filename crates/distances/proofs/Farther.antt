@@ -1,15 +1,14 @@
 -- The magnitude i beyond j: larger and not alike. A larger magnitude is beyond j too, and i is beyond a smaller one too, since `alike` is convex.
 -- The code's test says the same: with patterns more than 2 apart the difference has no sign, and is above 1e-6 or at most that. Assumes nothing.
 use Prim.Native.Nat.{ℕ, _+_, _-_, _*_, _^_, _≤_, _<_}
-use native.Mathlib.Nat.{le-of-lt, eq-or-lt-of-le, mul-comm, mul-le-mul-right}
+use native.Mathlib.Nat.{le-of-lt, eq-or-lt-of-le, mul-le-mul-right}
 use native.Mathlib.Omega.{arith}
 use native.Mathlib.Decide.{decLt}
 use mathlib.Core.Path.{_≡_, refl, sym, ap, ap₂, _∙_, subst}
 use mathlib.Core.Logic.{_⊎_, inl, inr}
 use mathlib.Core.Bool.{Bool, true, false, not, _&&_, cond, true≢false}
 use lib.Dec.{T, leb, ltb}
-use lib.IntN.{ℤ}
-use lib.Ieee.{Float, nan, inf, fin, binary32, up, down, round, sum, sub, ofBits, toBits, lt, le}
+use lib.Ieee.{Float, nan, inf, fin, binary32, up, down, round, sum, sub, ofBits, toBits}
 use lib.Ieee.Exact.{HasValue}
 use lib.Ieee.Fits.{sub-fits}
 use lib.Ieee.Order.{transfer}
@@ -19,10 +18,10 @@ use Rattle.float.specs.Arith.{_⊖_, _≦_, _≺_}
 use Rattle.float.specs.Distance.{Distance, unsigned}
 use Rattle.float.proofs.Units.{unitsAt, units-grow, value, infinity}
 use Rattle.float.proofs.Order.{bits-lt, distance-lt, distance-le, unsigned-distance}
-use Rattle.distances.specs.Compare.{magnitude, margin, apart, alike, beyond}
+use Rattle.distances.specs.Compare.{margin, alike, beyond}
 use Rattle.distances.proofs.Values.{own-magnitude, distance-sign}
 use Rattle.distances.proofs.Difference.{opened, round-unsigned}
-use Rattle.distances.proofs.Alike.{within, margin-distance, alike-sym, alike-inner, alike-near, alike-far}
+use Rattle.distances.proofs.Alike.{margin-distance, alike-sym, alike-inner, alike-near, alike-far}
 
 -- the magnitudes with the patterns i and j
 abbrev pub beyondAt : ℕ → ℕ → Bool
@@ -126,9 +125,9 @@ beyond-test i j p q = go (decLt (j + 2) i)
     go : Dec (j + 2 < i) → (ltb (j + 2) i && (margin ≺ d)) ≡ beyondAt i j
     go (no h) = ap (λ (s : Bool). s && (margin ≺ d)) (le-ltb (j + 2) i (omega arith)) ∙ near (decLt j i) (omega arith) ∙ sym (beyond-is i j p q)
     go (yes h) =
-        let u = larger-unsigned i j (omega arith) p in
+        let u = unsigned-distance d (sub-fits binary32 (ofBits binary32 i) (ofBits binary32 j)) (larger-unsigned i j (omega arith) p) in
         ap (λ (s : Bool). s && (margin ≺ d)) (lt-ltb (j + 2) i h)
-        ∙ above-or-not margin d margin-distance (unsigned-distance d (sub-fits binary32 (ofBits binary32 i) (ofBits binary32 j)) u)
+        ∙ above-or-not margin d margin-distance u
         ∙ ap (λ (v : Float). not (v ≦ margin)) (sym (own-magnitude d (distance-sign d u)))
         ∙ ap not (sym (alike-far i j p q (omega arith)))
         ∙ ap (λ (s : Bool). s && not (alike (ofBits binary32 i) (ofBits binary32 j))) (sym (lt-ltb j i (omega arith)))

@@ -6,3 +6,5 @@ pub mod Farther
 pub mod Signs
 pub mod Patterns
 pub mod Total
+pub mod Laws
+pub mod Cases

@@ -3,13 +3,12 @@
 use Prim.Native.Nat.{ℕ, _+_, _-_, _/_, _≤_, _<_}
 use native.Mathlib.Omega.{arith}
 use native.Mathlib.Decide.{decLt}
-use mathlib.Core.Path.{_≡_, refl, sym, ap, ap₂, _∙_, subst}
+use mathlib.Core.Path.{_≡_, refl, sym, ap, ap₂, _∙_}
 use mathlib.Core.Bool.{Bool, true, false, cond}
 use lib.Dec.{ltb}
 use lib.Ieee.{binary32, toBits}
 use borrow.Author.Tests.{lt-ltb, le-ltb}
 use Rattle.float.specs.Arith.{if_then_else_}
-use Rattle.distances.specs.declared.Order.{Order}
 use Rattle.distances.specs.declared.Order.the-variants.{Less, Equal, Greater}
 use Rattle.distances.specs.Compare.{signBit, order, ofNumbers}
 use Rattle.distances.specs.Total.{Value}

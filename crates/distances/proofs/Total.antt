@@ -6,16 +6,14 @@ use native.Mathlib.Nat.{le-trans, le-of-lt, le-antisymm}
 use native.Mathlib.Omega.{arith}
 use native.Mathlib.Decide.{decLt}
 use mathlib.Core.Path.{_≡_, refl, sym, ap, ap₂, _∙_, subst}
-use mathlib.Core.Logic.{_↔_}
 use mathlib.Core.Bool.{Bool, true, false, not, true≢false}
 use lib.Dec.{T, T-prop, leb, ltb}
-use lib.Ieee.{Float, binary32, toBits, fits, isNan}
+use lib.Ieee.{Float, binary32, fits, isNan}
 use borrow.Author.Tests.{lt-ltb, le-ltb, lt-leb, le-leb, leb-true, leb-false, not-true, not-false}
 use Rattle.float.specs.Arith.{if_then_else_}
-use Rattle.distances.specs.declared.Order.{Order}
 use Rattle.distances.specs.declared.Order.the-variants.{Less, Equal, Greater}
-use Rattle.distances.specs.Compare.{signBit, magnitude, order, ofNumbers}
-use Rattle.distances.specs.Total.{Total, Value, notGreater, goesFirst, opposite}
+use Rattle.distances.specs.Compare.{signBit, ofNumbers}
+use Rattle.distances.specs.Total.{Total, Value, notGreater, goesFirst}
 use Rattle.distances.proofs.Values.{same-value}
 use Rattle.distances.proofs.Farther.{beyondAt, beyond-up, beyond-down}
 use Rattle.distances.proofs.Signs.{pattern, pattern-small, order-same, order-positive, order-negative}

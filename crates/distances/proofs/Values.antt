@@ -1,13 +1,13 @@
 -- A value taken apart: its pattern is its sign bit and, below it, the pattern of its magnitude, which is a distance unless the value is the NaN. So
 -- sign bit and magnitude's pattern together are the value. Assumes nothing.
-use Prim.Native.Nat.{ℕ, zero, suc, _+_, _*_, _/_, _^_}
+use Prim.Native.Nat.{ℕ, zero, suc, _+_}
 use native.Mathlib.Omega.{arith}
 use mathlib.Core.Path.{_≡_, refl, sym, ap₂, _∙_}
 use mathlib.Core.Bool.{Bool, true, false, not, cond, true≢false}
 use lib.Dec.{T}
 use lib.Ieee.{Float, nan, inf, fin, binary32, fits, isNan, toBits}
 use Rattle.float.specs.Distance.{Distance, unsigned}
-use Rattle.float.proofs.Order.{unsigned-distance, same-bits}
+use Rattle.float.proofs.Order.{unsigned-distance, distance-unsigned, same-bits}
 use Rattle.distances.specs.Compare.{signBit, magnitude}
 
 -- ---- the magnitude of a value that is no NaN is a distance
@@ -51,9 +51,13 @@ own-magnitude (inf false) h = refl
 own-magnitude (fin true m e) h = absurd (true≢false h)
 own-magnitude (fin false m e) h = refl
 
-pub distance-sign : (x : Float) → T (unsigned x) → signBit x ≡ false
-distance-sign nan u = absurd u
-distance-sign (inf true) u = absurd u
-distance-sign (inf false) u = refl
-distance-sign (fin true m e) u = absurd u
-distance-sign (fin false m e) u = refl
+-- and a distance has none
+pub distance-sign : (x : Float) → Distance x → signBit x ≡ false
+distance-sign x d = none x (distance-unsigned x d)
+  where
+    none : (v : Float) → T (unsigned v) → signBit v ≡ false
+    none nan u = absurd u
+    none (inf true) u = absurd u
+    none (inf false) u = refl
+    none (fin true m e) u = absurd u
+    none (fin false m e) u = refl

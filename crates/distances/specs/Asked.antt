@@ -1,7 +1,7 @@
 -- "Asked by itself, .. the comparison answers 6 for a NaN." (document 01). Definitions only.
 use Prim.Native.Nat.{ℕ}
 use mathlib.Core.Path.{_≡_}
-use mathlib.Core.Bool.{Bool, _||_}
+use mathlib.Core.Bool.{_||_}
 use mathlib.Core.Option.{Option, none, some}
 use lib.Ieee.{Float, isNan}
 use Rattle.float.specs.Arith.{if_then_else_}

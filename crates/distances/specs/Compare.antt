@@ -1,7 +1,7 @@
 -- "Magnitudes are alike if equal, or if their rounded difference is at most 1e-6, or if their bit patterns differ by at most 2. Alike with
 -- opposite sign bits: the positive one is smaller. In all other cases the magnitudes decide." (document 01). Definitions only.
 use Prim.Native.Nat.{ℕ, _+_, _-_}
-use mathlib.Core.Bool.{Bool, true, false, not, _&&_, _||_}
+use mathlib.Core.Bool.{Bool, false, not, _&&_, _||_}
 use lib.Dec.{leb, ltb}
 use lib.Ieee.{Float, nan, inf, fin, binary32, ofBits, toBits, unlike}
 use Rattle.float.specs.Arith.{_⊖_, _≺_, _≦_, _≐_, if_then_else_}

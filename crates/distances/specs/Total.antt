@@ -1,4 +1,4 @@
--- "That comparison is a total order" (document 02 §8; document 01 asks for the comparison alone). Definitions only.
+-- "That comparison is a total order" (document 02 §8), over the values that are no NaN. Definitions only.
 use mathlib.Core.Path.{_≡_}
 use mathlib.Core.Bool.{Bool, true, false, not}
 use lib.Dec.{T}
@@ -7,7 +7,8 @@ use Rattle.distances.specs.Compare.{order}
 use Rattle.distances.specs.declared.Order.{Order}
 use Rattle.distances.specs.declared.Order.the-variants.{Less, Equal, Greater}
 
--- a test `le` that is a total order: of two one goes first, it goes on, and two that each go first are the same
+-- a test `le` that is a total order: of any two one goes first; what goes first before a second goes first before all that the second does;
+-- and two that each go first are the same
 pub record Total {A : Type 0} (le : A → A → Bool) : Type 0 where
   pub total : (x y : A) → le x y ≡ false → le y x ≡ true
   pub trans : (x y z : A) → le x y ≡ true → le y z ≡ true → le x z ≡ true

@@ -36,13 +36,13 @@ fn beyond(x: u32, y: u32) -> bool
     (x > y + 2) & (f32::from_bits(x) - f32::from_bits(y) > 1e-6)
 }
 
-// Two whole numbers in order.
-fn order_of(p: u32, q: u32) -> Order
-    ensures { λ r. ⌜ r ≡ Compare.ofNumbers p q ⌝ }
+// The order of two whole numbers.
+fn order_of(m: u32, n: u32) -> Order
+    ensures { λ r. ⌜ r ≡ Compare.ofNumbers m n ⌝ }
 {
-    if p < q {
+    if m < n {
         Order::Less
-    } else if q < p {
+    } else if n < m {
         Order::Greater
     } else {
         Order::Equal
@@ -63,18 +63,14 @@ pub fn compare_distances(a: f32, b: f32) -> Order
         return order_of(p, q);
     }
     if p < q {
-        if beyond(p, q - SIGN) {
-            return Order::Greater;
-        }
-        return Order::Less;
+        let far = beyond(p, q - SIGN);
+        return if far { Order::Greater } else { Order::Less };
     }
-    if beyond(q, p - SIGN) {
-        return Order::Less;
-    }
-    Order::Greater
+    let far = beyond(q, p - SIGN);
+    if far { Order::Less } else { Order::Greater }
 }
 
-// The comparison asked by itself: it refuses a NaN, on which the Rust panics.
+// The comparison asked by itself: it refuses a NaN, where the Rust panics or goes by the NaN's bits.
 pub fn compare(a: f32, b: f32) -> Comparison
     ensures { λ r. ⌜ Answered a b r ⌝ }
 {

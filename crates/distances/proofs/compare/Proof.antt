@@ -1,6 +1,6 @@
 -- `distances::compare`: the NaN alone differs from itself. Assumes nothing.
 use Prim.Native.Nat.{_*_}
-use mathlib.Core.Path.{_≡_, refl, sym, ap, ap₂, _∙_, subst}
+use mathlib.Core.Path.{_≡_, refl, sym, ap, ap₂, _∙_}
 use mathlib.Core.Bool.{Bool, true, false, not, _&&_, _||_, true≢false}
 use mathlib.Core.Option.{some}
 use lib.Dec.{T, eqb, eqb-refl}
