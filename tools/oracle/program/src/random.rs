@@ -1,0 +1,36 @@
+//! Seeded random numbers (splitmix64) and the f32 patterns that are likely to show a difference.
+
+pub struct Random(pub u64);
+
+impl Random {
+    pub fn next(&mut self) -> u64 {
+        self.0 = self.0.wrapping_add(0x9e37_79b9_7f4a_7c15);
+        let mut z = self.0;
+        z = (z ^ (z >> 30)).wrapping_mul(0xbf58_476d_1ce4_e5b9);
+        z = (z ^ (z >> 27)).wrapping_mul(0x94d0_49bb_1331_11eb);
+        z ^ (z >> 31)
+    }
+
+    pub fn below(&mut self, n: u64) -> u64 {
+        self.next() % n
+    }
+
+    pub fn pick<T: Copy>(&mut self, choices: &[T]) -> T {
+        choices[self.below(choices.len() as u64) as usize]
+    }
+
+    /// Any bit pattern but a NaN's.
+    pub fn any(&mut self) -> f32 {
+        loop {
+            let x = f32::from_bits(self.next() as u32);
+            if !x.is_nan() {
+                return x;
+            }
+        }
+    }
+
+    /// From −1 to 1, in steps of 2^−23.
+    pub fn unit(&mut self) -> f32 {
+        (self.below((1 << 24) + 1) as i64 - (1 << 23)) as f32 / (1 << 23) as f32
+    }
+}
