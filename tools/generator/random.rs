@@ -1,4 +1,4 @@
-//! Seeded random numbers (splitmix64) and the f32 patterns that are likely to show a difference.
+//! Seeded random numbers (splitmix64): the same seed gives the same numbers on every machine.
 
 pub struct Random(pub u64);
 
@@ -11,22 +11,23 @@ impl Random {
         z ^ (z >> 31)
     }
 
+    /// 0 to n − 1.
     pub fn below(&mut self, n: u64) -> u64 {
         self.next() % n
+    }
+
+    /// From a to b, ends included.
+    pub fn between(&mut self, a: u32, b: u32) -> u32 {
+        a + self.below(u64::from(b - a) + 1) as u32
     }
 
     pub fn pick<T: Copy>(&mut self, choices: &[T]) -> T {
         choices[self.below(choices.len() as u64) as usize]
     }
 
-    /// Any bit pattern but a NaN's.
-    pub fn any(&mut self) -> f32 {
-        loop {
-            let x = f32::from_bits(self.next() as u32);
-            if !x.is_nan() {
-                return x;
-            }
-        }
+    /// True once in n times.
+    pub fn once_in(&mut self, n: u64) -> bool {
+        self.below(n) == 0
     }
 
     /// From −1 to 1, in steps of 2^−23.
