@@ -26,7 +26,7 @@ pub const LARGE: [(&str, Make); 5] = [
     ("large-too-many-vertices", too_many_vertices),
 ];
 
-pub const KINDS: [(&str, Make); 61] = [
+pub const KINDS: [(&str, Make); 63] = [
     // Closed hulls, and a tank with its blanking plate on or off.
     ("box", closed_box),
     ("box-on-centres", box_on_centres),
@@ -58,6 +58,8 @@ pub const KINDS: [(&str, Make); 61] = [
     ("underflow-segment", underflow_segment),
     ("underflow-triangle", underflow_triangle),
     ("underflow-in-spreading", underflow_in_spreading),
+    ("hair-corner", hair_corner),
+    ("infinite-distance", infinite_distance),
     // Topology.
     ("strip", strip),
     ("strip-no-indices", strip_no_indices),
@@ -517,6 +519,45 @@ fn underflow_in_spreading(r: &mut Random) -> Job {
     far[y] = tiny * slope;
     job.vertices = vec![[0.0; 3], [0.0; 3], far];
     job
+}
+
+/// A proper triangle two corners of which lie a hair apart: the weights of the inside may sum to 0, and 0/0 comes of it.
+fn hair_corner(r: &mut Random) -> Job {
+    let mut job = soup_lattice(r);
+    let axis = r.below(3) as usize;
+    job.grid.first[axis] = 0.0;
+    for t in 0..job.vertices.len() / 3 {
+        let (from, to) = r.pick(&[(0, 2), (0, 1), (1, 2)]);
+        job.vertices[3 * t + from][axis] = 0.0;
+        job.vertices[3 * t + to] = job.vertices[3 * t + from];
+        job.vertices[3 * t + to][axis] = f32::from_bits(r.pick(&[1, 2, 0x10_0000, 0x80_0000]));
+    }
+    job
+}
+
+/// A tiny triangle, its corners all but on one line, for which some centre's distance is infinite: the weights' sum is
+/// so small that its inverse overflows. No cell takes such a distance.
+fn infinite_distance(r: &mut Random) -> Job {
+    loop {
+        let mut job = one_triangle(r);
+        job.grid.first = [0; 3].map(|_| r.pick(&[0.0, 0.0, -1.0, 1.0, -0.5]));
+        let scale = f32::from_bits(r.between(80, 102) << 23);
+        let a = [0; 3].map(|_| r.unit() * scale * r.pick(&[1.0, 1.0, 1e-3, 1e-12]));
+        let b = a.map(|x| x * r.unit() * 1e-10);
+        let c = [0, 1, 2].map(|axis| a[axis] + (b[axis] - a[axis]) * r.pick(&[3.0, 3.0, 2.0]));
+        let mut corners = [a, b, c];
+        shuffle(&mut corners, r);
+        let cells = (0..job.grid.cells()).map(|i| job.grid.centre(job.grid.coordinates(i)));
+        if cells.into_iter().any(|p| model::geometry::distance(p, corners).is_infinite()) {
+            job.vertices = corners.to_vec();
+            if r.once_in(2) {
+                // A plain triangle beside it.
+                job.vertices.extend(one_triangle(r).vertices);
+                job.indices.as_mut().unwrap().extend([3, 4, 5]);
+            }
+            return job;
+        }
+    }
 }
 
 // Topology.
