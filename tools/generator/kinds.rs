@@ -26,7 +26,7 @@ pub const LARGE: [(&str, Make); 5] = [
     ("large-too-many-vertices", too_many_vertices),
 ];
 
-pub const KINDS: [(&str, Make); 63] = [
+pub const KINDS: [(&str, Make); 64] = [
     // Closed hulls, and a tank with its blanking plate on or off.
     ("box", closed_box),
     ("box-on-centres", box_on_centres),
@@ -97,20 +97,26 @@ pub const KINDS: [(&str, Make); 63] = [
     ("beyond-limits", beyond_limits),
     ("counts-that-wrap", counts_that_wrap),
     ("large-numbers", large_numbers),
+    // Document 01's own points, one after the other.
+    ("document-01", document_01),
     // The text itself; the kind's job is spoiled afterwards.
     ("damaged", soup),
     ("damaged-small", one_triangle),
 ];
 
-/// The text of one job of the kind.
+/// The text of job `number` of the kind.
 pub fn make(kind: &str, number: u64, r: &mut Random) -> Option<Vec<u8>> {
     let (_, make) = KINDS.iter().chain(&LARGE).find(|(name, _)| *name == kind)?;
-    let job = text::write(&make(r));
-    if !kind.starts_with("damaged") {
-        return Some(job.into());
-    }
-    let ways = damage::WAYS;
-    Some(damage::damage(ways[number as usize % ways.len()], &job, r))
+    let number = number as usize;
+    let way = |number: usize| damage::WAYS[number % damage::WAYS.len()];
+    let job = make(r);
+    Some(match kind {
+        "document-01" => text::write(&point_of_document_01(job, number)).into(),
+        // The two kinds begin at different ways, so that together they show all of them sooner.
+        "damaged" => damage::damage(way(number + damage::WAYS.len() / 2), &text::write(&job), r),
+        "damaged-small" => damage::damage(way(number), &text::write(&job), r),
+        _ => text::write(&job).into(),
+    })
 }
 
 // Grids.
@@ -803,6 +809,37 @@ fn large_numbers(r: &mut Random) -> Job {
     let mut job = soup(r);
     job.pops = r.pick(&[u32::MAX, u32::MAX - 1, 1 << 31, 999_999_999, 1_000_000_000]);
     job.queue = r.pick(&[2_048, 2_047, 999, 1_000, 100]);
+    job
+}
+
+// Document 01's own points.
+
+/// The job of its listing.
+fn document_01(_: &mut Random) -> Job {
+    Job {
+        grid: Grid { first: [1.0; 3], size: [1.0, 1.0, 2.0], count: [1; 3] },
+        topology: Topology::List,
+        vertices: vec![[0.0; 3], [4.0, 0.0, 0.0], [0.0, 4.0, 0.0]],
+        indices: Some(vec![0, 1, 2]),
+        queue: 8,
+        pops: 100,
+    }
+}
+
+/// The listing, and the jobs of "Points on each side".
+fn point_of_document_01(mut job: Job, number: usize) -> Job {
+    match number % 7 {
+        0 => {}
+        1 => job.grid.count = [2, 1, 1],
+        2 => (job.grid.count, job.queue) = ([2, 1, 1], 1),
+        3 => (job.grid.count, job.pops) = ([2, 1, 1], 1),
+        4 => {
+            job.grid.first = [0.0; 3];
+            job.vertices = vec![[0.0; 3], [0.0; 3], [f32::from_bits(27 << 23), 0.0, 0.0]]; // 2^-100
+        }
+        5 => (job.indices, job.queue) = (Some(vec![]), 0),
+        _ => (job.grid.count, job.queue, job.pops) = ([2, 1, 1], 2, 2),
+    }
     job
 }
 
