@@ -1,0 +1,2 @@
+-- Laws of the run that other crates cite.
+pub mod Offers
