@@ -190,17 +190,22 @@ pattern-is X m e lo hi u =
 pub normal-form : (b : ℕ) → 0 < b → b < 0x7f80_0000 → (w : ℕ) × NormalForm b w
 normal-form b p h = ⊎-elim (λ (c : 0x80_0000 ≤ b). (_, normal-high b c h)) (λ (c : b < 0x80_0000). (_, normal-low b p c)) (le-or-lt 0x80_0000 b)
 
-at-bits : (b : ℕ) → 0 < b → b < 0x7f80_0000 → NearestRoot (ofBits binary32 b) (ofBits binary32 (rootPattern (unitsOf (ofBits binary32 b))))
+at-bits : (b : ℕ) → 0 < b → b < 0x7f80_0000
+    → (rootPattern (unitsOf (ofBits binary32 b)) < 0x7f80_0000) × NearestRoot (ofBits binary32 b) (ofBits binary32 (rootPattern (unitsOf (ofBits binary32 b))))
 at-bits b p h =
     let f = normal-form b p h in
     let w = f .0 in
     let n = f .1 in
     let m = w % 2 ^ 23 + 2 ^ 23 in
     let e = w / 2 ^ 23 in
+    let q = nearestWhole (lifted m e) in
     let range = lifted-range m e (omega arith) (omega arith) in
-    subst (λ (r : ℕ). NearestRoot (ofBits binary32 b) (ofBits binary32 r)) (sym (pattern-is (unitsOf (ofBits binary32 b)) m e (omega arith) (omega arith) (n .same)))
-    (is-root (ofBits binary32 b) m e (nearestWhole (lifted m e)) (omega (arith, n .small)) (omega arith) (omega arith) (n .same)
-    (nearest-whole (lifted m e) (lt-of-lt-of-le (lit< tt) (range .0)) (lt-of-le-of-lt (range .1) (lit< tt))))
+    let near : NearestTo (lifted m e) q = nearest-whole (lifted m e) (lt-of-lt-of-le (lit< tt) (range .0)) (lt-of-le-of-lt (range .1) (lit< tt)) in
+    subst (λ (r : ℕ). (r < 0x7f80_0000) × NearestRoot (ofBits binary32 b) (ofBits binary32 r))
+    (sym (pattern-is (unitsOf (ofBits binary32 b)) m e (omega arith) (omega arith) (n .same))) (
+      packed-lt (51 + e / 2) q (omega (arith, n .small)) (nearest-most (lifted m e) q (range .1) (near .0)),
+      is-root (ofBits binary32 b) m e q (omega (arith, n .small)) (omega arith) (omega arith) (n .same) near,
+    )
 
 pub zero-is : ofBits binary32 0 ≡ fin false 0 (pos 0)
 unfolding ofBits
@@ -242,7 +247,7 @@ root-of (fin true (suc m) e) f = refl
 root-of (fin false (suc m) e) f =
     let b = toBits binary32 (fin false (suc m) e) in
     let r = above-bits m e f in
-    subst (λ (v : Float). NearestRoot v (ofBits binary32 (rootPattern (unitsOf v)))) (ofBits-toBits binary32 (fin false (suc m) e) f) (at-bits b (r .0) (r .1))
+    subst (λ (v : Float). NearestRoot v (ofBits binary32 (rootPattern (unitsOf v)))) (ofBits-toBits binary32 (fin false (suc m) e) f) (at-bits b (r .0) (r .1) .1)
 
 -- ---- the laws that callers cite
 
@@ -266,6 +271,12 @@ pub bits-root : (b r : ℕ) → 0 < b → b < 0x7f80_0000 → r < 0x7f80_0000 �
 bits-root b r p h k n =
     sym (bits-back r (le-of-lt k))
     ∙ ap (toBits binary32) (root-is (ofBits binary32 b) (ofBits binary32 r) (ofBits-fits binary32 b) (above-root (ofBits binary32 b) (ofBits binary32 r) (unitsAt b) (value b h) (units-grow 0 b p) n))
+
+pub nearest-bits : (b : ℕ) → 0 < b → b < 0x7f80_0000 → (rootBits b < 0x7f80_0000) × NearestRoot (ofBits binary32 b) (ofBits binary32 (rootBits b))
+nearest-bits b p h =
+    let a = at-bits b p h in
+    subst (λ (r : ℕ). (r < 0x7f80_0000) × NearestRoot (ofBits binary32 b) (ofBits binary32 r))
+    (bits-root b (rootPattern (unitsOf (ofBits binary32 b))) p h (a .0) (a .1)) a
 
 held-root : (x r : Float) → T (fits binary32 x) → Root x r → T (fits binary32 r)
 held-root nan r f h = subst (λ (v : Float). T (fits binary32 v)) (sym h) (nan-fits binary32)
