@@ -1,4 +1,5 @@
 pub mod Closest
 pub mod Flat
 pub mod Distance
+pub mod Box
 pub mod Ray

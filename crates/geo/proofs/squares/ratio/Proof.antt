@@ -1,7 +1,7 @@
--- `closest::ratio`: the quotient of the two picks. Assumes nothing.
+-- `squares::ratio`: the quotient of the two picks. Assumes nothing.
 use Rattle.geo.specs.Flat.{ratio}
-use Rattle.geo.proofs.closest.ratio.Statement.{statement}
-use Rattle.geo.proofs.closest.ratio.Tie as tie
+use Rattle.geo.proofs.squares.ratio.Statement.{statement}
+use Rattle.geo.proofs.squares.ratio.Tie as tie
 
 pub ratio-spec : {M : Type 1} → statement M
 unfolding ratio

@@ -1,7 +1,7 @@
--- `closest::place`: the calls in turn, from the last. Assumes nothing.
+-- `squares::place`: the calls in turn, from the last. Assumes nothing.
 use Rattle.geo.specs.Flat.{place}
-use Rattle.geo.proofs.closest.place.Statement.{statement}
-use Rattle.geo.proofs.closest.place.Tie as tie
+use Rattle.geo.proofs.squares.place.Statement.{statement}
+use Rattle.geo.proofs.squares.place.Tie as tie
 
 returns : tie.Need-returns
 unfolding place
