@@ -11,5 +11,6 @@ pub mod Whole
 pub mod Roots
 pub mod Signs
 pub mod ZeroSign
+pub mod NoSign
 pub mod RootOrder
 pub mod Marked
