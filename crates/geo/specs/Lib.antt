@@ -3,3 +3,4 @@ pub mod Flat
 pub mod Distance
 pub mod Box
 pub mod Ray
+pub mod Asked

@@ -1,5 +1,6 @@
 // Geometry of triangles, after `geo.rs`: the closest point, the distance, the box, and the ray along an
 // axis. Each function equals a definition of specs/. A part of the public face `sdf`.
+pub mod asked;
 mod bounding;
 mod closest;
 mod distance;

@@ -2,7 +2,6 @@
 -- Assumes nothing.
 use borrow.Author.Needs.{needs}
 use Prim.Native.Nat.{ℕ, zero, suc, _+_, _-_, _*_, _^_, _≤_, _<_}
-use native.Mathlib.Nat.{le-of-lt, le-trans}
 use native.Mathlib.Omega.{arith}
 use mir.Facts.{fits-bits}
 use Rattle.float.proofs.Squares.{mul-lt, next-square, root-digits}
