@@ -4,3 +4,5 @@ pub mod Moves
 pub mod Order
 pub mod Flat
 pub mod Zeros
+pub mod Meaning
+pub mod Uses
