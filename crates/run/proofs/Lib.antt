@@ -1,0 +1,6 @@
+pub mod Values
+pub mod Offers
+pub mod Waiting
+pub mod Seeding
+pub mod Queueing
+pub mod Spreading
