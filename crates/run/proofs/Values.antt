@@ -93,6 +93,11 @@ module _ (g : Ground) (F : Fair g) where
   pub not-less-bits : (x y : Float) → Distance x → Distance y → (x ≺ y) ≡ false → bits y ≤ bits x
   not-less-bits x y p q h = ltb-false (bits x) (bits y) (sym (distance-lt x y p q) ∙ h)
 
+  -- no cell holds more than f32::MAX
+  pub holds-at-most-max : {d : Float} {k c : ℕ} → Holds g d k c → bits d ≤ bits fMax
+  holds-at-most-max (isBare e n) = rw e (omega arith)
+  holds-at-most-max {d} {k} {c} (has l e n b) = omega (arith, less-bits d fMax (holds-distance {d = d} {k = k} {c = c} (has l e n b)) max-distance b)
+
   -- a cell that names a triangle has it
   pub has-named : {d : Float} {k c : ℕ} → Holds g d k c → k < g .triangles → (d ≡ g .distance k c) × (isNan d ≡ false) × ((d ≺ fMax) ≡ true)
   has-named (isBare e n) l = absurd (omega (arith, F .few))
