@@ -17,9 +17,9 @@ use lib.Ieee.Exact.{HasValue, odd-sign}
 use lib.Ieee.Fits.{down-pos, nan-fits}
 use Rattle.float.specs.Distance.{Distance, unsigned}
 use Rattle.float.specs.Root.{unitsOf, Nearer, NearestRoot, Root}
-use Rattle.float.specs.RootOf.{NearestTo, nearestWhole, rootPattern, rootOf, NormalForm}
-use Rattle.float.proofs.Units.{unitsAt, value, infinity, ofBits-is, field-zero, field-suc, units-value}
-use Rattle.float.proofs.Order.{unsigned-distance, distance-unsigned}
+use Rattle.float.specs.RootOf.{NearestTo, nearestWhole, rootPattern, rootOf, rootBits, IsRoot, NormalForm}
+use Rattle.float.proofs.Units.{unitsAt, units-grow, value, infinity, ofBits-is, field-zero, field-suc, units-value}
+use Rattle.float.proofs.Order.{unsigned-distance, distance-unsigned, bits-back}
 use Rattle.float.proofs.Squares.{le-or-lt, nearest-least, nearest-most}
 use Rattle.float.proofs.Grid.{nearest, scale}
 use Rattle.float.proofs.Normal.{normal-low, normal-high}
@@ -75,7 +75,7 @@ packed-value k q K Q h =
     power = omega arith
 
 -- a value of no units has no digits
-none : (e : ℤ) (a : ℕ) → 0 < a → zero * up e * 2 ^ 149 ≡ a * down e → ⊥
+pub none : (e : ℤ) (a : ℕ) → 0 < a → zero * up e * 2 ^ 149 ≡ a * down e → ⊥
 none e a p h =
     lt-irrefl 0
     (subst (λ (x : ℕ). 0 < x) (sym h ∙ ap (λ (x : ℕ). x * 2 ^ 149) (zero-mul (up e)) ∙ zero-mul (2 ^ 149)) (mul-pos p (down-pos e)))
@@ -190,19 +190,24 @@ pattern-is X m e lo hi u =
 pub normal-form : (b : ℕ) → 0 < b → b < 0x7f80_0000 → (w : ℕ) × NormalForm b w
 normal-form b p h = ⊎-elim (λ (c : 0x80_0000 ≤ b). (_, normal-high b c h)) (λ (c : b < 0x80_0000). (_, normal-low b p c)) (le-or-lt 0x80_0000 b)
 
-at-bits : (b : ℕ) → 0 < b → b < 0x7f80_0000 → NearestRoot (ofBits binary32 b) (ofBits binary32 (rootPattern (unitsOf (ofBits binary32 b))))
+at-bits : (b : ℕ) → 0 < b → b < 0x7f80_0000
+    → (rootPattern (unitsOf (ofBits binary32 b)) < 0x7f80_0000) × NearestRoot (ofBits binary32 b) (ofBits binary32 (rootPattern (unitsOf (ofBits binary32 b))))
 at-bits b p h =
     let f = normal-form b p h in
     let w = f .0 in
     let n = f .1 in
     let m = w % 2 ^ 23 + 2 ^ 23 in
     let e = w / 2 ^ 23 in
+    let q = nearestWhole (lifted m e) in
     let range = lifted-range m e (omega arith) (omega arith) in
-    subst (λ (r : ℕ). NearestRoot (ofBits binary32 b) (ofBits binary32 r)) (sym (pattern-is (unitsOf (ofBits binary32 b)) m e (omega arith) (omega arith) (n .same)))
-    (is-root (ofBits binary32 b) m e (nearestWhole (lifted m e)) (omega (arith, n .small)) (omega arith) (omega arith) (n .same)
-    (nearest-whole (lifted m e) (lt-of-lt-of-le (lit< tt) (range .0)) (lt-of-le-of-lt (range .1) (lit< tt))))
+    let near : NearestTo (lifted m e) q = nearest-whole (lifted m e) (lt-of-lt-of-le (lit< tt) (range .0)) (lt-of-le-of-lt (range .1) (lit< tt)) in
+    subst (λ (r : ℕ). (r < 0x7f80_0000) × NearestRoot (ofBits binary32 b) (ofBits binary32 r))
+    (sym (pattern-is (unitsOf (ofBits binary32 b)) m e (omega arith) (omega arith) (n .same))) (
+      packed-lt (51 + e / 2) q (omega (arith, n .small)) (nearest-most (lifted m e) q (range .1) (near .0)),
+      is-root (ofBits binary32 b) m e q (omega (arith, n .small)) (omega arith) (omega arith) (n .same) near,
+    )
 
-zero-is : ofBits binary32 0 ≡ fin false 0 (pos 0)
+pub zero-is : ofBits binary32 0 ≡ fin false 0 (pos 0)
 unfolding ofBits
 zero-is = refl
 
@@ -242,11 +247,36 @@ root-of (fin true (suc m) e) f = refl
 root-of (fin false (suc m) e) f =
     let b = toBits binary32 (fin false (suc m) e) in
     let r = above-bits m e f in
-    subst (λ (v : Float). NearestRoot v (ofBits binary32 (rootPattern (unitsOf v)))) (ofBits-toBits binary32 (fin false (suc m) e) f) (at-bits b (r .0) (r .1))
+    subst (λ (v : Float). NearestRoot v (ofBits binary32 (rootPattern (unitsOf v)))) (ofBits-toBits binary32 (fin false (suc m) e) f) (at-bits b (r .0) (r .1) .1)
+
+-- ---- the laws that callers cite
 
 -- whatever is a root of x is `rootOf x`
 pub root-is : (x r : Float) → T (fits binary32 x) → Root x r → r ≡ rootOf x
 root-is x r f h = one-root x r (rootOf x) h (root-of x f)
+
+-- and what is `rootOf x` is a root of x: all that `sqrt` ensures
+pub is-root-of : (x r : Float) → T (fits binary32 x) → r ≡ rootOf x → IsRoot x r
+is-root-of x r f e = record { root = subst (Root x) (sym e) (root-of x f); is = e }
+
+-- a pattern r of the nearest root of the pattern b is `rootBits b`
+above-root : (v r : Float) (a : ℕ) → HasValue v false a (2 ^ 149) → 0 < a → NearestRoot v r → Root v r
+above-root nan r a h p n = absurd h
+above-root (inf t) r a h p n = absurd h
+above-root (fin true m e) r a h p n = absurd (true≢false (h .0))
+above-root (fin false zero e) r a h p n = absurd (none e a p (h .1))
+above-root (fin false (suc m) e) r a h p n = n
+
+pub bits-root : (b r : ℕ) → 0 < b → b < 0x7f80_0000 → r < 0x7f80_0000 → NearestRoot (ofBits binary32 b) (ofBits binary32 r) → r ≡ rootBits b
+bits-root b r p h k n =
+    sym (bits-back r (le-of-lt k))
+    ∙ ap (toBits binary32) (root-is (ofBits binary32 b) (ofBits binary32 r) (ofBits-fits binary32 b) (above-root (ofBits binary32 b) (ofBits binary32 r) (unitsAt b) (value b h) (units-grow 0 b p) n))
+
+pub nearest-bits : (b : ℕ) → 0 < b → b < 0x7f80_0000 → (rootBits b < 0x7f80_0000) × NearestRoot (ofBits binary32 b) (ofBits binary32 (rootBits b))
+nearest-bits b p h =
+    let a = at-bits b p h in
+    subst (λ (r : ℕ). (r < 0x7f80_0000) × NearestRoot (ofBits binary32 b) (ofBits binary32 r))
+    (bits-root b (rootPattern (unitsOf (ofBits binary32 b))) p h (a .0) (a .1)) a
 
 held-root : (x r : Float) → T (fits binary32 x) → Root x r → T (fits binary32 r)
 held-root nan r f h = subst (λ (v : Float). T (fits binary32 v)) (sym h) (nan-fits binary32)

@@ -36,6 +36,10 @@ pub sq-pos : (n r : ℕ) → n < r * r → 1 ≤ r
 sq-pos n zero h = absurd (not-suc-le-zero h)
 sq-pos n (suc r) h = suc-le-suc zero-le
 
+-- the root of a number of 48 digits has 24
+pub root-digits : (n r : ℕ) → r * r ≤ n → n < 2 ^ 48 → r < 2 ^ 24
+root-digits n r h k = root-lt r (2 ^ 24) (lt-of-le-of-lt h k)
+
 -- ---- the number nearest to a root of 47 or 48 digits has 24
 
 pub nearest-least : (n q : ℕ) → 2 ^ 46 ≤ n → n ≤ q * q + q → 2 ^ 23 ≤ q

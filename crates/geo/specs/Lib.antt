@@ -1,3 +1,4 @@
 pub mod Closest
 pub mod Flat
+pub mod Distance
 pub mod Ray

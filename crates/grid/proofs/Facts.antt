@@ -1,12 +1,12 @@
 -- What the tests of a grid and of a cell say of their numbers. Assumes nothing.
 use mathlib.Core.Path.{_≡_, refl, sym, ap, _∙_}
-use mathlib.Core.Bool.{Bool, true, false, _&&_, true≢false}
+use mathlib.Core.Bool.{Bool, true, false, not, _&&_, true≢false}
 use Prim.Native.Nat.{ℕ, _+_, _*_, _^_, _≤_, _<_}
 use native.Mathlib.Nat.{mul-le-mul, le-mul-of-pos-right, lt-of-le-of-lt, lt-of-lt-of-le}
 use native.Mathlib.Omega.{arith}
 use lib.Dec.{leb, ltb, lit<}
 use lib.Ieee.{Float}
-use borrow.Author.Tests.{leb-true, ltb-true, lt-ltb}
+use borrow.Author.Tests.{leb-true, ltb-true, lt-ltb, not-true, not-false}
 use Rattle.point.specs.declared.Axis.{Axis}
 use Rattle.point.specs.declared.Axis.the-variants.{X, Y, Z}
 use Rattle.grid.specs.declared.Grid.{Grid}
@@ -19,6 +19,13 @@ use Rattle.grid.proofs.Laws.{index-below}
 both : (a b : Bool) → (a && b) ≡ true → (a ≡ true) × (b ≡ true)
 both true b h = (refl, h)
 both false b h = absurd (true≢false (sym h))
+
+-- what a call found, when it is turned round and tested: the definition's test is false, or true
+pub fails : {found test : Bool} → found ≡ test → not found ≡ true → test ≡ false
+fails e h = sym e ∙ not-true _ h
+
+pub passes : {found test : Bool} → found ≡ test → not found ≡ false → test ≡ true
+passes e h = sym e ∙ not-false _ h
 
 -- a test that holds on every axis holds on each
 pub each : (t : Axis → Bool) → onEvery t ≡ true → (a : Axis) → t a ≡ true

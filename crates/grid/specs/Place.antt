@@ -63,6 +63,11 @@ clamped g p = onSome (λ a. outside (countOn a g) (floorOn a g p))
 unfoldable pub snap : Grid → Point → SnapResult
 snap g p = if clamped g p then Outside (snapCell g p) else Inside (snapCell g p)
 
+-- the cell that a snap names, inside or outside
+abbrev pub cellIn : SnapResult → Cell
+cellIn (Inside c) = c
+cellIn (Outside c) = c
+
 -- "`get_last_cell` gives first + count·size, one cell further than its comment says."
 unfoldable pub lastCell : Grid → Point
 lastCell g = pointBy (λ a. centreOn (firstOn a g) (sizeOn a g) (countOn a g))

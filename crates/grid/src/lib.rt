@@ -1,6 +1,8 @@
 // The grid of cells that a field is worked out on, after `grid.rs` (document 01, "Grid"). Its questions
 // are methods that take the grid by value. Those of `asked` refuse what is out of bounds; those of this
 // file are its parts, and some ask their caller for the bounds. A part of the port: users call `sdf`.
+pub mod asked;
+
 use float::Place;
 use point::Axis;
 use point::Point;
@@ -112,6 +114,18 @@ impl Cell {
     }
 }
 
+impl SnapResult {
+    // The cell that it names, inside or outside.
+    pub fn cell(self) -> Cell
+        ensures { λ r. ⌜ r ≡ Spec.cellIn self ⌝ }
+    {
+        match self {
+            SnapResult::Inside(c) => c,
+            SnapResult::Outside(c) => c,
+        }
+    }
+}
+
 impl Grid {
     // Whether the grid lies within the bounds on a job. Only then is the product of the counts formed.
     pub fn in_bounds(self) -> bool
@@ -167,6 +181,20 @@ impl Grid {
         ensures { λ r. ⌜ r ≡ total self ⌝ }
     {
         self.count_x * self.count_y * self.count_z
+    }
+
+    // Whether a cell lies within the counts, and an index below the number of cells.
+    pub fn is_cell(self, cell: Cell) -> bool
+        ensures { λ r. ⌜ r ≡ isCell self cell ⌝ }
+    {
+        (cell.x < self.count_x) & (cell.y < self.count_y) & (cell.z < self.count_z)
+    }
+
+    pub fn is_index(self, cell_idx: u32) -> bool
+        requires { ⌜ inBounds self ≡ true ⌝ }
+        ensures { λ r. ⌜ r ≡ isIndex self «cell_idx» ⌝ }
+    {
+        cell_idx < self.get_total_cell_count()
     }
 
     // The index of a cell: z fastest, then y, then x.

@@ -3,6 +3,7 @@
 use mathlib.Core.Bool.{Bool, _&&_}
 use lib.Ieee.{Float}
 use Rattle.float.specs.Arith.{_⊕_, _⊖_, _⊗_, _⊘_, _≐_}
+use Rattle.float.specs.RootOf.{rootOf}
 use Rattle.point.specs.declared.Point.{Point}
 use Rattle.point.specs.declared.Axis.{Axis}
 use Rattle.point.specs.declared.Axis.the-variants.{X, Y, Z}
@@ -29,6 +30,13 @@ p ÷ᵥ q = vec (p .x ⊘ q .x) (p .y ⊘ q .y) (p .z ⊘ q .z)
 
 abbrev pub _·_ : Point → Point → Float
 p · q = (p .x ⊗ q .x ⊕ p .y ⊗ q .y) ⊕ p .z ⊗ q .z
+
+-- the length of a vector, and the distance of two points
+abbrev pub lengthOf : Point → Float
+lengthOf p = rootOf (p · p)
+
+abbrev pub distOf : Point → Point → Float
+distOf p q = lengthOf (p -ᵥ q)
 
 -- equality, with -0 equal to +0
 abbrev pub _≐ᵥ_ : Point → Point → Bool

@@ -44,6 +44,18 @@ impl Point {
         self.x * other.x + self.y * other.y + self.z * other.z
     }
 
+    pub fn length(self) -> f32
+        ensures { λ r. ⌜ r ≡ Spec.lengthOf self ⌝ }
+    {
+        float::sqrt(self.dot(self))
+    }
+
+    pub fn dist(self, other: Point) -> f32
+        ensures { λ r. ⌜ r ≡ Spec.distOf self other ⌝ }
+    {
+        self.sub(other).length()
+    }
+
     pub fn fmul(self, other: f32) -> Point
         ensures { λ r. ⌜ r ≡ self *ᵥ other ⌝ }
     {

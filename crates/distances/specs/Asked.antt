@@ -1,0 +1,25 @@
+-- "Asked by itself, .. the comparison answers 6 for a NaN." (document 01). Definitions only.
+use Prim.Native.Nat.{ℕ}
+use mathlib.Core.Path.{_≡_}
+use mathlib.Core.Bool.{_||_}
+use mathlib.Core.Option.{Option, none, some}
+use lib.Ieee.{Float, isNan}
+use Rattle.float.specs.Arith.{if_then_else_}
+use Rattle.distances.specs.Compare.{order}
+use Rattle.distances.specs.declared.Order.{Order}
+use Rattle.distances.specs.declared.Comparison.{Comparison}
+use Rattle.distances.specs.declared.Comparison.the-variants.{Is, NotANumber}
+
+-- document 01's number for each answer, and the order that it gives: a refusal gives none
+abbrev pub numberOf : Comparison → ℕ
+numberOf (Is o) = 0
+numberOf NotANumber = 6
+
+abbrev pub orderOf : Comparison → Option Order
+orderOf (Is o) = some o
+orderOf NotANumber = none
+
+-- r answers for a and b: 6 and no order where either is a NaN, else 0 and the order of the two
+pub record Answered (a b : Float) (r : Comparison) : Type 0 where
+  pub number : numberOf r ≡ (if isNan a || isNan b then 6 else 0)
+  pub value : orderOf r ≡ (if isNan a || isNan b then none else some (order a b))

@@ -1,0 +1,110 @@
+//! Damaged texts: each takes a readable job's text and spoils it in one way. A few ways leave it readable now and
+//! then (a changed digit); the model says what is owed.
+
+use crate::random::Random;
+
+pub const WAYS: [&str; 40] = [
+    "crlf", "no-last-lf", "two-last-lf", "leading-zero", "upper-hex", "double-space", "trailing-space", "leading-space",
+    "tab", "trailing-byte", "empty", "only-lf", "missing-line", "swapped-lines", "doubled-line", "above-u32",
+    "far-above-u32", "plus", "minus", "short-hex", "long-hex", "0x", "two-values", "four-values", "no-value",
+    "other-topology", "upper-key", "no-equals", "count-too-high", "count-too-low", "none-with-i", "upper-none",
+    "nul", "high-byte", "byte-order-mark", "cut-short", "one-byte-other", "one-byte-less", "one-byte-more", "long-noise",
+];
+
+pub fn damage(way: &str, text: &str, r: &mut Random) -> Vec<u8> {
+    let mut lines: Vec<String> = text.lines().map(str::to_string).collect();
+    let at = r.below(lines.len() as u64) as usize;
+    let other = (at + 1) % lines.len();
+    let tail = |lines: &[String]| (lines.join("\n") + "\n").into_bytes();
+    // A line whose value begins with a digit, or one of floats.
+    let decimal = pick_line(&lines, r, |l| !is_floats(l) && l.split_once('=').unwrap().1.starts_with(|c: char| c.is_ascii_digit()));
+    let floats = pick_line(&lines, r, is_floats);
+    let triple = pick_line(&lines, r, |l| l.contains(' '));
+    let value = |line: &str| line.split_once('=').map(|(key, value)| (key.to_string(), value.to_string())).unwrap();
+    match way {
+        "crlf" => return text.replace('\n', "\r\n").into_bytes(),
+        "no-last-lf" => return text.strip_suffix('\n').unwrap().into(),
+        "two-last-lf" => return format!("{text}\n").into(),
+        "empty" => return Vec::new(),
+        "only-lf" => return b"\n".to_vec(),
+        "trailing-byte" => return format!("{text}{}", r.pick(&["x", " ", "\0", "p", "="])).into(),
+        "cut-short" => return text.as_bytes()[..r.below(text.len() as u64) as usize].to_vec(),
+        "byte-order-mark" => return format!("\u{feff}{text}").into(),
+        "long-noise" => return format!("{text}{}", "pops=1\n".repeat(r.between(1, 9_000) as usize)).into(),
+        "one-byte-other" | "one-byte-less" | "one-byte-more" | "nul" | "high-byte" => return one_byte(way, text, r),
+        "leading-zero" => {
+            let (key, v) = value(&lines[decimal]);
+            lines[decimal] = format!("{key}=0{v}");
+        }
+        "upper-hex" => {
+            // A letter is put in, so that the case shows.
+            let (key, v) = value(&lines[floats]);
+            lines[floats] = format!("{key}={}A{}", &v[..7], &v[8..]);
+        }
+        "double-space" => lines[triple] = lines[triple].replacen(' ', "  ", 1),
+        "tab" => lines[triple] = lines[triple].replacen(' ', "\t", 1),
+        "trailing-space" => lines[at].push(' '),
+        "leading-space" => lines[at].insert(0, ' '),
+        "missing-line" => drop(lines.remove(at)),
+        "swapped-lines" => lines.swap(at, other),
+        "doubled-line" => lines.insert(at, lines[at].clone()),
+        "above-u32" => lines[decimal] = format!("{}=4294967296", value(&lines[decimal]).0),
+        "far-above-u32" => {
+            lines[decimal] = format!("{}={}", value(&lines[decimal]).0, r.pick(&["18446744073709551616", "42949672960", "99999999999999999999999999999999999999999"]));
+        }
+        "plus" => lines[decimal] = lines[decimal].replacen('=', "=+", 1),
+        "minus" => lines[decimal] = lines[decimal].replacen('=', "=-", 1),
+        "short-hex" => drop(lines[floats].pop()),
+        "long-hex" => lines[floats].push('0'),
+        "0x" => lines[floats] = lines[floats].replacen('=', "=0x", 1),
+        "two-values" => lines[triple] = lines[triple].rsplit_once(' ').unwrap().0.to_string(),
+        "four-values" => {
+            let last = lines[triple].rsplit_once(' ').unwrap().1.to_string();
+            lines[triple] = format!("{} {last}", lines[triple]);
+        }
+        "no-value" => lines[at] = format!("{}=", value(&lines[at]).0),
+        "other-topology" => lines[3] = format!("topology={}", r.pick(&["fan", "List", "lists", "stri", "", "list strip"])),
+        "upper-key" => lines[at] = lines[at].replacen(|c: char| c.is_ascii_lowercase(), "V", 1),
+        "no-equals" => lines[at] = lines[at].replacen('=', r.pick(&[" ", ":", "", "=="]), 1),
+        "count-too-high" | "count-too-low" => {
+            let line = pick_line(&lines, r, |l| l.starts_with("vertices=") || l.starts_with("indices="));
+            let (key, v) = value(&lines[line]);
+            let n: u32 = v.parse().unwrap_or(0);
+            lines[line] = format!("{key}={}", if way == "count-too-high" { n + 1 } else { n.saturating_sub(1) });
+        }
+        "none-with-i" => {
+            let line = lines.iter().position(|l| l.starts_with("indices=")).unwrap();
+            lines[line] = "indices=none".to_string();
+            lines.insert(line + 1, "i=0".to_string());
+        }
+        "upper-none" => {
+            let line = lines.iter().position(|l| l.starts_with("indices=")).unwrap();
+            lines[line] = format!("indices={}", r.pick(&["None", "nones", "non", "none ", "-"]));
+        }
+        _ => unreachable!("no such way: {way}"),
+    }
+    tail(&lines)
+}
+
+fn one_byte(way: &str, text: &str, r: &mut Random) -> Vec<u8> {
+    let mut bytes = text.as_bytes().to_vec();
+    let at = r.below(bytes.len() as u64) as usize;
+    match way {
+        "one-byte-other" => bytes[at] = r.pick(b"0123456789abcdefgATZvi= \n\r\t,.-"),
+        "one-byte-less" => drop(bytes.remove(at)),
+        "one-byte-more" => bytes.insert(at, r.pick(b"0123456789abcdef= \n")),
+        "nul" => bytes[at] = 0,
+        _ => bytes[at] |= 0x80,
+    }
+    bytes
+}
+
+fn is_floats(line: &str) -> bool {
+    ["first=", "size=", "v="].iter().any(|key| line.starts_with(key))
+}
+
+/// A random one of the lines that fit. Every job has one.
+fn pick_line(lines: &[String], r: &mut Random, fits: impl Fn(&str) -> bool) -> usize {
+    let found: Vec<usize> = (0..lines.len()).filter(|&i| fits(&lines[i])).collect();
+    r.pick(&found)
+}

@@ -1,0 +1,39 @@
+//! jobs N SEED [KIND]: prints N jobs, each as a line `job=INDEX KIND BYTES` and then exactly that many bytes of the
+//! job's text. The same seed gives the same jobs; job INDEX does not depend on N. Without a KIND the kinds take turns.
+//! jobs --kinds: prints the names of the kinds.
+
+mod damage;
+mod kinds;
+mod random;
+mod shapes;
+
+use random::Random;
+use std::io::Write;
+
+fn main() {
+    let args: Vec<String> = std::env::args().skip(1).collect();
+    if args == ["--kinds"] {
+        kinds::KINDS.iter().for_each(|(name, _)| println!("{name}"));
+        kinds::LARGE.iter().for_each(|(name, _)| println!("{name} (by name alone)"));
+        return;
+    }
+    let number = |i: usize| args.get(i).and_then(|a| a.parse::<u64>().ok());
+    let (Some(jobs), Some(seed)) = (number(0), number(1)) else {
+        eprintln!("usage: jobs N SEED [KIND] | jobs --kinds");
+        std::process::exit(2);
+    };
+    let mut out = std::io::BufWriter::new(std::io::stdout().lock());
+    for index in 0..jobs {
+        let turns = kinds::KINDS.len() as u64;
+        let kind = args.get(2).map_or(kinds::KINDS[(index % turns) as usize].0, |kind| kind);
+        let round = if args.len() > 2 { index } else { index / turns };
+        let mut r = Random(seed.wrapping_mul(0x1_0000_0001).wrapping_add(index.wrapping_mul(0x51_7cc1)));
+        r.next();
+        let Some(text) = kinds::make(kind, round, &mut r) else {
+            eprintln!("no such kind: {kind}");
+            std::process::exit(2);
+        };
+        writeln!(out, "job={index} {kind} {}", text.len()).expect("standard output");
+        out.write_all(&text).expect("standard output");
+    }
+}

@@ -1,0 +1,37 @@
+//! Seeded random numbers (splitmix64): the same seed gives the same numbers on every machine.
+
+pub struct Random(pub u64);
+
+impl Random {
+    pub fn next(&mut self) -> u64 {
+        self.0 = self.0.wrapping_add(0x9e37_79b9_7f4a_7c15);
+        let mut z = self.0;
+        z = (z ^ (z >> 30)).wrapping_mul(0xbf58_476d_1ce4_e5b9);
+        z = (z ^ (z >> 27)).wrapping_mul(0x94d0_49bb_1331_11eb);
+        z ^ (z >> 31)
+    }
+
+    /// 0 to n − 1.
+    pub fn below(&mut self, n: u64) -> u64 {
+        self.next() % n
+    }
+
+    /// From a to b, ends included.
+    pub fn between(&mut self, a: u32, b: u32) -> u32 {
+        a + self.below(u64::from(b - a) + 1) as u32
+    }
+
+    pub fn pick<T: Copy>(&mut self, choices: &[T]) -> T {
+        choices[self.below(choices.len() as u64) as usize]
+    }
+
+    /// True once in n times.
+    pub fn once_in(&mut self, n: u64) -> bool {
+        self.below(n) == 0
+    }
+
+    /// From −1 to 1, in steps of 2^−23.
+    pub fn unit(&mut self) -> f32 {
+        (self.below((1 << 24) + 1) as i64 - (1 << 23)) as f32 / (1 << 23) as f32
+    }
+}

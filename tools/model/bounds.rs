@@ -1,0 +1,46 @@
+//! "Bounds on a job" and, in the order of "Reply numbers", what is checked before the run.
+
+use crate::{topology, Job, Refusal};
+
+const MOST_OF_ONE_COUNT: u32 = 1_024;
+const MOST_CELLS: u128 = 1_048_576;
+const LARGEST_COORDINATE: f32 = 1_048_576.0;
+const SMALLEST_SIZE: f32 = 1.0 / 1_024.0;
+const LARGEST_SIZE: f32 = 1_024.0;
+const MOST_VERTICES: usize = 393_216;
+const MOST_TRIANGLES: usize = 131_072;
+
+pub fn check(job: &Job) -> Result<(), Refusal> {
+    if !grid_in_bounds(job) {
+        return Err(1);
+    }
+    if job.vertices.len() > MOST_VERTICES || !job.vertices.iter().flatten().all(|&x| coordinate_in_bounds(x)) {
+        return Err(2);
+    }
+    let triangles = topology::triangles(job);
+    if triangles.len() > MOST_TRIANGLES {
+        return Err(3);
+    }
+    if !triangles.iter().flatten().all(|&index| (index as usize) < job.vertices.len()) {
+        return Err(4);
+    }
+    Ok(())
+}
+
+fn grid_in_bounds(job: &Job) -> bool {
+    let grid = &job.grid;
+    grid.count.iter().all(|&n| (1..=MOST_OF_ONE_COUNT).contains(&n))
+        && cells(grid.count) <= MOST_CELLS
+        && grid.first.iter().all(|&x| coordinate_in_bounds(x))
+        && grid.size.iter().all(|&s| (SMALLEST_SIZE..=LARGEST_SIZE).contains(&s))
+}
+
+/// The product of the counts, whatever they are.
+pub fn cells(count: [u32; 3]) -> u128 {
+    count.iter().map(|&n| u128::from(n)).product()
+}
+
+/// Finite, magnitude at most 1,048,576.
+fn coordinate_in_bounds(x: f32) -> bool {
+    x.is_finite() && x.abs() <= LARGEST_COORDINATE
+}

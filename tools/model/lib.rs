@@ -1,0 +1,62 @@
+//! A plain model of a whole job, written from document 01 alone. One file for each of its sections:
+//!
+//!   text.rs       One job, one listing
+//!   bounds.rs     Bounds on a job; Reply numbers 1 to 4
+//!   grid.rs       Grid
+//!   geometry.rs   Geometry, and the steps on points of "What is carried over"
+//!   order.rs      Order of two distances
+//!   topology.rs   Topology
+//!   run.rs        The run; Reply numbers 6 to 8
+//!
+//! Nothing here is meant to be fast. Every f32 operation below is one of IEEE 754 binary32, rounded once: that is
+//! what Rust gives. Reply number 5 speaks of lent buffers; a job's text lends none, so it cannot occur.
+
+pub mod bounds;
+pub mod geometry;
+pub mod grid;
+pub mod order;
+pub mod run;
+pub mod text;
+pub mod topology;
+
+use geometry::Point;
+use grid::Grid;
+use topology::Topology;
+
+/// A job, as its text gives it.
+#[derive(Clone)]
+pub struct Job {
+    pub grid: Grid,
+    pub topology: Topology,
+    pub vertices: Vec<Point>,
+    pub indices: Option<Vec<u32>>,
+    /// Queue room: how many entries may wait at once.
+    pub queue: u32,
+    /// Pop limit: how many entries may be taken.
+    pub pops: u32,
+}
+
+/// The number of a refusal, 1 to 9.
+pub type Refusal = u32;
+
+/// The name of a cell that took no triangle.
+pub const NONE: u32 = 4_294_967_295;
+
+/// What is given for a job that is done.
+pub struct Done {
+    pub pops: u32,
+    pub peak: u32,
+    /// Distance and named triangle of each cell.
+    pub field: Vec<f32>,
+    pub names: Vec<u32>,
+    /// Crossing counts along x, y, z of each cell.
+    pub crossings: Vec<[u32; 3]>,
+    /// Cells with a distance less than zero, for each layer z.
+    pub rows: Vec<u32>,
+}
+
+/// The answer to a job: the first number that applies, or Done.
+pub fn answer(job: &Job) -> Result<Done, Refusal> {
+    bounds::check(job)?;
+    run::run(job)
+}

@@ -1,0 +1,49 @@
+//! Reads a job in document 01's text, of any size. Its limits and the lines `queue=` and `pops=` mean nothing
+//! to the Rust: they are looked at for their form and dropped.
+
+use crate::Job;
+
+/// More cells than this are not worth trying: document 01 ends at 1,048,576.
+const MOST_CELLS: u128 = 1 << 24;
+
+pub fn read(text: &[u8]) -> Option<Job> {
+    let text = std::str::from_utf8(text).ok()?.strip_suffix('\n')?;
+    let mut lines = text.split('\n');
+    let count = three(value(&mut lines, "count")?, decimal)?;
+    let first = three(value(&mut lines, "first")?, float)?;
+    let size = three(value(&mut lines, "size")?, float)?;
+    let strip = match value(&mut lines, "topology")? {
+        "list" => false,
+        "strip" => true,
+        _ => return None,
+    };
+    let vertices = decimal(value(&mut lines, "vertices")?)?;
+    let vertices = (0..vertices).map(|_| three(value(&mut lines, "v")?, float)).collect::<Option<Vec<_>>>()?;
+    let indices = match value(&mut lines, "indices")? {
+        "none" => None,
+        n => Some((0..decimal(n)?).map(|_| decimal(value(&mut lines, "i")?)).collect::<Option<Vec<_>>>()?),
+    };
+    decimal(value(&mut lines, "queue")?)?;
+    decimal(value(&mut lines, "pops")?)?;
+    let cells = count.iter().fold(1u128, |cells, &n| cells * u128::from(n));
+    (lines.next().is_none() && cells <= MOST_CELLS).then_some(Job { count, first, size, strip, vertices, indices })
+}
+
+fn value<'a>(lines: &mut std::str::Split<'a, char>, key: &str) -> Option<&'a str> {
+    lines.next()?.strip_prefix(key)?.strip_prefix('=')
+}
+
+fn three<T: Copy>(text: &str, one: fn(&str) -> Option<T>) -> Option<[T; 3]> {
+    let parts = text.split(' ').map(one).collect::<Option<Vec<T>>>()?;
+    parts.try_into().ok()
+}
+
+fn decimal(text: &str) -> Option<u32> {
+    let plain = !text.is_empty() && text.bytes().all(|b| b.is_ascii_digit()) && (text == "0" || !text.starts_with('0'));
+    if plain { text.parse().ok() } else { None }
+}
+
+fn float(text: &str) -> Option<f32> {
+    let plain = text.len() == 8 && text.bytes().all(|b| matches!(b, b'0'..=b'9' | b'a'..=b'f'));
+    if plain { u32::from_str_radix(text, 16).ok().map(f32::from_bits) } else { None }
+}

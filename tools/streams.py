@@ -1,0 +1,42 @@
+"""Streams of jobs: for each a line `job=INDEX KIND BYTES`, then exactly that many bytes. tools/jobs prints one, and
+the model and the oracle read one with --batch and print one of answers."""
+import subprocess
+
+
+def parts(stream):
+    """(kind, bytes) of each part."""
+    at = 0
+    while at < len(stream):
+        end = stream.index(b"\n", at)
+        _, kind, length = stream[at:end].decode().split(" ")
+        at = end + 1 + int(length)
+        yield kind, stream[end + 1:at]
+
+
+def generated(number, seed, *kind):
+    """The jobs of tools/jobs, as (kind, text)."""
+    command = ["tools/jobs", str(number), str(seed), *kind]
+    return list(parts(subprocess.run(command, check=True, stdout=subprocess.PIPE).stdout))
+
+
+def batch(command, jobs):
+    """The answers of a program to all jobs."""
+    stream = b"".join(f"job={i} {kind} {len(text)}\n".encode() + text for i, (kind, text) in enumerate(jobs))
+    answers = subprocess.run(command, input=stream, check=True, stdout=subprocess.PIPE).stdout
+    answers = [answer for _, answer in parts(answers)]
+    assert len(answers) == len(jobs), f"{command}: {len(answers)} answers to {len(jobs)} jobs"
+    return answers
+
+
+def number_of(listing):
+    """The number N of a listing that begins with answer=N."""
+    return int(listing.split(b"\n", 1)[0].removeprefix(b"answer="))
+
+
+def values(listing):
+    """The values of a listing's lines by key, in order."""
+    found = {}
+    for line in listing.decode().split("\n")[:-1]:
+        key, _, value = line.partition("=")
+        found.setdefault(key, []).append(value)
+    return found
