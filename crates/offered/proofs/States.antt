@@ -6,13 +6,14 @@ use native.Mathlib.Omega.{arith}
 use mathlib.Core.Path.{_≡_, refl, sym, ap, _∙_, subst}
 use mathlib.Core.Logic.{_⊎_, inl, inr}
 use mathlib.Core.List.{List, [], _∷_}
+use lib.ListN.{length, getD}
 use Rattle.lists.specs.Turns.{Turn, goes, turns}
 use Rattle.lists.proofs.Made.{goes-same}
 use Rattle.queue.specs.declared.Entry.{Entry}
 use Rattle.run.specs.Run.{Ground, State, named, seeding, queueCell, queueing, taken, spreadAround, spreading, run}
 use Rattle.run.proofs.Values.{Fair, Met}
 use Rattle.run.proofs.Offers.{Spread, over, pops, spreading-went, Popped, spreading-pops, Ran, run-went}
-use Rattle.run.proofs.Waiting.{Good, good-taken, WaitsFor, waits-for-on, Waits}
+use Rattle.run.proofs.Waiting.{apart-at, Good, good-taken, WaitsFor, waits-for-on, Waits}
 use Rattle.run.proofs.Seeding.{seeding-good, seeding-empty}
 use Rattle.run.proofs.Queueing.{QueuedTo, queued-to, queueing-to}
 use Rattle.run.proofs.Spreading.{Led, Served, first-lead, rest-lead, around-leads, Ends, ends}
@@ -47,6 +48,11 @@ module _ (g : Ground) (F : Fair g) where
   since-good t (inQueueing {s} {i = i} p l h) = queueing-good s t i p l h .good
   since-good s (beforePop B) = before-pop-good s B
   since-good t (inPop {s} {e = e} {w = w} {j = j} B q l h) = offers-lead e w j s t (before-pop-good s B) q h .good
+
+  -- "Two waiting entries never agree in both distance and cell": two at different places of what waits differ in one of the two
+  pub never-agree : (s : State) → Since g s → (none : Entry) (i j : ℕ) → i < j → j < length (s .waiting)
+      → getD (s .waiting) i none .distance ≡ getD (s .waiting) j none .distance → getD (s .waiting) i none .cell ≡ getD (s .waiting) j none .cell → ⊥
+  never-agree s S none i j l m = apart-at (s .waiting) none i j (since-good s S .apart) l m
 
   -- ---- the run's end is one of them
 
@@ -125,7 +131,7 @@ module _ (g : Ground) (F : Fair g) where
         let r = run-went g f D in
         let a : r .seeded ≡ s = goes-same (sym (r .by-seeding) ∙ p) in
         let h : queueing g s ≡ goes (r .queued-all) = ap (queueing g) (sym a) ∙ r .by-queueing in
-        let same : named (r .queued-all) c ≡ named s c = ap (λ (ns : List ℕ). lib.ListN.getD ns c 0) (queueing-all s (r .queued-all) p h .names-same) in
+        let same : named (r .queued-all) c ≡ named s c = ap (λ (ns : List ℕ). getD ns c 0) (queueing-all s (r .queued-all) p h .names-same) in
         subst (Served g f c) same (after-queueing s (r .queued-all) p h .served c l (rw same n))
 
     in-pop-served : (e : Entry) (w : List Entry) (j : ℕ) (s t : State) → BeforePop g s → s .waiting ≡ e ∷ w → j ≤ 27 → firstOffers g e j (taken w s) ≡ goes t
@@ -154,7 +160,7 @@ module _ (g : Ground) (F : Fair g) where
     pub since-served : (s : State) → Since g s → (c : ℕ) → c < g .cells → named s c < g .triangles → Served g f c (named s c)
     since-served s (endOfSeeding p) c l n = seeded-served s p c l n
     since-served t (inQueueing {s} {i = i} p m h) c l n =
-        let same : named t c ≡ named s c = ap (λ (ns : List ℕ). lib.ListN.getD ns c 0) (queueing-good s t i p m h .names-same) in
+        let same : named t c ≡ named s c = ap (λ (ns : List ℕ). getD ns c 0) (queueing-good s t i p m h .names-same) in
         rw same (seeded-served s p c l (rw same at n))
     since-served s (beforePop B) c l n = before-pop-to-end s B .served c l n
     since-served t (inPop {s} {e = e} {w = w} {j = j} B q m h) c l n = in-pop-served e w j s t B q m h c l n

@@ -4,3 +4,4 @@ pub mod Waiting
 pub mod Seeding
 pub mod Queueing
 pub mod Spreading
+pub mod Steps

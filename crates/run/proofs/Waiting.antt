@@ -2,6 +2,7 @@
 -- more since. A cell queues an entry only when its value falls, so two waiting entries never agree in both distance and cell. The
 -- entries that wait never outgrow the peak, nor the peak the room. Assumes nothing but what `Fair` asks of the ground.
 use Prim.Native.Nat.{ℕ, zero, suc, _+_, _≤_, _<_, max}
+use native.Mathlib.Nat.{le-of-suc-le-suc, not-suc-le-zero}
 use native.Mathlib.Decide.{ℕ-discrete}
 use native.Mathlib.Omega.{arith}
 use mathlib.Core.Path.{_≡_, refl, sym, ap, _∙_, subst}
@@ -39,6 +40,12 @@ waits-on g a b x p w =
       above = omega (arith, p (x .cell) (w .cell-on), w .above);
     }
 
+-- what stands at a place is a member
+pub member-at : {A : Type 0} (l : List A) (i : ℕ) (d : A) → i < length l → List·Memᴰ (getD l i d) l
+member-at [] i d h = absurd (not-suc-le-zero h)
+member-at (x ∷ l) zero d h = List·Memᴰ·head refl
+member-at (x ∷ l) (suc i) d h = List·Memᴰ·tail (member-at l i d (le-of-suc-le-suc h))
+
 -- two entries that do not agree in both distance and cell
 abbrev pub Differ : Entry → Entry → Type 0
 Differ x y = x .distance ≡ y .distance → x .cell ≡ y .cell → ⊥
@@ -62,6 +69,14 @@ module _ (le : Entry → Entry → Bool) (e : Entry) where
   unfolding insert
   apart-insert [] a h = (λ z m. absurd (List·Memᴰ·not-nil m), tt)
   apart-insert (y ∷ l) a h = apart-cond (le e y) y l a h (apart-insert l (a .1) (λ z m. h z (List·Memᴰ·tail m)))
+
+-- two at different places differ
+pub apart-at : (l : List Entry) (d : Entry) (i j : ℕ) → Apart l → i < j → j < length l → Differ (getD l i d) (getD l j d)
+apart-at [] d i j a l m = absurd (not-suc-le-zero m)
+apart-at (x ∷ r) d zero zero a l m = absurd (not-suc-le-zero l)
+apart-at (x ∷ r) d zero (suc j) a l m = a .0 (getD r j d) (member-at r j d (le-of-suc-le-suc m))
+apart-at (x ∷ r) d (suc i) zero a l m = absurd (not-suc-le-zero l)
+apart-at (x ∷ r) d (suc i) (suc j) a l m = apart-at r d i j (a .1) (le-of-suc-le-suc l) (le-of-suc-le-suc m)
 
 -- ---- what is true of a state from the end of seeding on
 
