@@ -1,3 +1,4 @@
 pub mod Run
 pub mod Steps
+pub mod Ground
 pub mod Signs
