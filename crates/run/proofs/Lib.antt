@@ -5,3 +5,4 @@ pub mod Seeding
 pub mod Queueing
 pub mod Spreading
 pub mod Steps
+pub mod Grounds
