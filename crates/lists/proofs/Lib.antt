@@ -2,3 +2,4 @@
 pub mod Turns
 pub mod Range
 pub mod Table
+pub mod Made

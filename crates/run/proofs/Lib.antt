@@ -1,2 +1,10 @@
 -- Laws of the run that other crates cite.
+pub mod Grounds
 pub mod Offers
+pub mod Queueing
+pub mod Seeding
+pub mod Spreading
+pub mod Steps
+pub mod Values
+pub mod Waiting
+pub mod Ways

@@ -17,7 +17,7 @@ use Rattle.grid.proofs.Laws.{cell-of-index}
 use Rattle.geo.specs.declared.closest.Facet.{Facet}
 use Rattle.geo.specs.Distance.{squaredOn, distanceOn}
 use Rattle.run.specs.Run.{State, offerAt, nothingElse}
-use Rattle.run.proofs.Offers.{offer-nan, offer-passed, offer-taken, is-nan, is-number}
+use Rattle.run.proofs.Ways.{offer-nan, offer-passed, offer-taken, is-nan, is-number}
 use Rattle.seeding.specs.Parts.{seedState, offerTo}
 
 module _ (field : List Float) (names : List ℕ) (c k : ℕ) (q : Float) (alike : isNan (rootOf q) ≡ isNan q) where

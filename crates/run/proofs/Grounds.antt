@@ -1,0 +1,91 @@
+-- What a run is told of a job's grid and mesh is fair: snapped boxes and steps stay on the grid, and a distance that is no NaN has no
+-- sign bit, since it is the root of the dot of a vector with itself. Assumes nothing.
+use Prim.Native.Nat.{ℕ, _+_, _-_, _≤_, _<_}
+use native.Mathlib.Omega.{arith}
+use mathlib.Core.Path.{_≡_, refl}
+use mathlib.Core.Bool.{Bool, true, false, not, cond, _&&_, true≢false}
+use lib.Dec.{T, ltb}
+use lib.ListN.{length}
+use lib.Ieee.{Float, nan, inf, fin, isNan}
+use borrow.Author.Tests.{ltb-true}
+use Rattle.float.specs.Distance.{Distance}
+use Rattle.float.specs.RootOf.{rootOf}
+use Rattle.float.proofs.Floors.{cell-lt}
+use Rattle.float.proofs.Roots.{root-distance}
+use Rattle.point.specs.declared.Point.{Point}
+use Rattle.point.specs.declared.Axis.{Axis}
+use Rattle.point.specs.declared.Axis.the-variants.{X, Y, Z}
+use Rattle.point.proofs.Squares.{dot-self}
+use Rattle.grid.specs.declared.Grid.{Grid}
+use Rattle.grid.specs.declared.Cell.{Cell}
+use Rattle.grid.specs.Axes.{countOn, cellOn, cell}
+use Rattle.grid.specs.Index.{indexOf, cellAt, total, Inside}
+use Rattle.grid.specs.Place.{snapCell, floorOn}
+use Rattle.grid.proofs.Laws.{index-below}
+use Rattle.geo.specs.Distance.{squaredOn}
+use Rattle.mesh.specs.declared.Corners.{Corners}
+use Rattle.mesh.specs.Mesh.{Mesh, trianglesIn, cornersAt}
+use Rattle.run.specs.Run.{none}
+use Rattle.run.specs.Ground.{raised, lastOf, boxOf, distanceFrom, groundOf}
+use Rattle.run.proofs.Values.{Fair}
+use Rattle.run.proofs.Steps.{around-on}
+
+-- ---- a snapped box lies on the grid
+
+module _ (g : Grid) (some : (a : Axis) → 0 < countOn a g) where
+  raised-on : (a : Axis) (high : Point) (i : ℕ) → i < countOn a g → raised a g high i < countOn a g
+  raised-on a high i l = go (ltb i (countOn a g - 1)) _ refl
+    where
+      go : (b t : Bool) → ltb i (countOn a g - 1) ≡ b → cond (b && t) (i + 1) i < countOn a g
+      go true true e = omega (arith, ltb-true i (countOn a g - 1) e)
+      go true false e = l
+      go false t e = l
+
+  snap-on : (a : Axis) (p : Point) → cellOn a (snapCell g p) < countOn a g
+  unfolding snapCell
+  snap-on X p = cell-lt (countOn X g) (floorOn X g p) (some X)
+  snap-on Y p = cell-lt (countOn Y g) (floorOn Y g p) (some Y)
+  snap-on Z p = cell-lt (countOn Z g) (floorOn Z g p) (some Z)
+
+  pub last-inside : (high : Point) → Inside g (lastOf g high)
+  unfolding lastOf
+  last-inside high =
+      record {
+        x-below = raised-on X high (cellOn X (snapCell g high)) (snap-on X high);
+        y-below = raised-on Y high (cellOn Y (snapCell g high)) (snap-on Y high);
+        z-below = raised-on Z high (cellOn Z (snapCell g high)) (snap-on Z high);
+      }
+
+  pub box-inside : (t : Corners) → Inside g (boxOf g t .high)
+  unfolding boxOf
+  box-inside t = last-inside _
+
+-- ---- a distance has no sign bit
+
+root-number : (x : Float) → isNan (rootOf x) ≡ false → T (not (isNan x))
+unfolding rootOf isNan
+root-number nan h = absurd (true≢false h)
+root-number (inf s) h = tt
+root-number (fin s m e) h = tt
+
+pub distance-unsigned : (g : Grid) (t : Corners) (c : Cell) → isNan (distanceFrom g t c) ≡ false → Distance (distanceFrom g t c)
+unfolding distanceFrom squaredOn
+distance-unsigned g t c h = root-distance _ (dot-self _ (root-number _ h))
+
+-- ---- so a job's ground is fair
+
+pub fair-ground : (g : Grid) (m : Mesh) (room limit : ℕ) → ((a : Axis) → 0 < countOn a g) → length (trianglesIn m) ≤ none → Fair (groundOf g m room limit)
+unfolding groundOf
+fair-ground g m room limit some few =
+    record {
+      few = few;
+      distances = λ k c. distance-unsigned g (cornersAt m k) (cellAt g c);
+      steps-on = around-on g;
+      boxes-on = boxes-on;
+    }
+  where
+    boxes-on : (k x y z : ℕ) → k < length (trianglesIn m) → x ≤ boxOf g (cornersAt m k) .high .x → y ≤ boxOf g (cornersAt m k) .high .y → z ≤ boxOf g (cornersAt m k) .high .z
+        → indexOf g (cell x y z) < total g
+    boxes-on k x y z l a b c =
+        let w = box-inside g some (cornersAt m k) in
+        index-below (record { x-below = omega (arith, w .x-below); y-below = omega (arith, w .y-below); z-below = omega (arith, w .z-below) })

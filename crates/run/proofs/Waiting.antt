@@ -1,0 +1,224 @@
+-- What waits in a run. Every waiting entry is of a cell and a triangle of the job, has that triangle's distance, and its cell holds no
+-- more since. A cell queues an entry only when its value falls, so two waiting entries never agree in both distance and cell. The
+-- entries that wait never outgrow the peak, nor the peak the room. Assumes nothing but what `Fair` asks of the ground.
+use Prim.Native.Nat.{ℕ, zero, suc, _+_, _≤_, _<_, max}
+use native.Mathlib.Nat.{le-of-suc-le-suc, not-suc-le-zero}
+use native.Mathlib.Decide.{ℕ-discrete}
+use native.Mathlib.Omega.{arith}
+use mathlib.Core.Path.{_≡_, refl, sym, ap, _∙_, subst}
+use mathlib.Core.Logic.{_⊎_, inl, inr}
+use mathlib.Core.Bool.{Bool, true, false, cond}
+use mathlib.Core.List.{List, [], _∷_, List·Memᴰ, List·Memᴰ·head, List·Memᴰ·tail, List·Memᴰ·cases-cons, List·Memᴰ·not-nil}
+use lib.ListN.{length, getD, set}
+use lib.Ieee.{Float, nan, isNan}
+use Rattle.float.specs.Arith.{_≺_}
+use Rattle.lists.specs.Turns.{Turn, goes}
+use Rattle.queue.specs.declared.Entry.{Entry}
+use Rattle.queue.specs.InOrder.{insert}
+use Rattle.queue.proofs.Meaning.{length-insert, in-insert, still-in, from-insert}
+use Rattle.run.specs.Run.{Ground, State, held, named, entry, takes, offer, queued, queue, taken}
+use Rattle.run.proofs.Values.{Fair, bits, Sound, Falls, Met, Nearer, takes-less, takes-sound, takes-falls, takes-met, takes-named, takes-name, passes-met}
+use Rattle.run.proofs.Offers.{Offer, passes, takesIt, offer-went, Queued, queue-went}
+
+-- ---- the entries that wait
+
+-- an entry that waits: of a cell and a triangle of the job, at its distance, and the cell holds no more
+pub record Waits (g : Ground) (field : List Float) (x : Entry) : Type 0 where
+  pub cell-on : x .cell < g .cells
+  pub triangle-is : x .triangle < g .triangles
+  pub number : isNan (g .distance (x .triangle) (x .cell)) ≡ false
+  pub far : x .distance ≡ bits (g .distance (x .triangle) (x .cell))
+  pub above : bits (getD field (x .cell) nan) ≤ x .distance
+
+pub waits-on : (g : Ground) (a b : List Float) (x : Entry) → Falls g a b → Waits g a x → Waits g b x
+waits-on g a b x p w =
+    record {
+      cell-on = w .cell-on;
+      triangle-is = w .triangle-is;
+      number = w .number;
+      far = w .far;
+      above = omega (arith, p (x .cell) (w .cell-on), w .above);
+    }
+
+-- what stands at a place is a member
+pub member-at : {A : Type 0} (l : List A) (i : ℕ) (d : A) → i < length l → List·Memᴰ (getD l i d) l
+member-at [] i d h = absurd (not-suc-le-zero h)
+member-at (x ∷ l) zero d h = List·Memᴰ·head refl
+member-at (x ∷ l) (suc i) d h = List·Memᴰ·tail (member-at l i d (le-of-suc-le-suc h))
+
+-- two entries that do not agree in both distance and cell
+abbrev pub Differ : Entry → Entry → Type 0
+Differ x y = x .distance ≡ y .distance → x .cell ≡ y .cell → ⊥
+
+-- each differs from all behind it
+abbrev pub Apart : List Entry → Type 0
+Apart [] = Unit {0}
+Apart (x ∷ l) = ((y : Entry) → List·Memᴰ y l → Differ x y) × Apart l
+
+module _ (le : Entry → Entry → Bool) (e : Entry) where
+  apart-cond : (b : Bool) (y : Entry) (l : List Entry) → Apart (y ∷ l) → ((z : Entry) → List·Memᴰ z (y ∷ l) → Differ e z) → Apart (insert le e l)
+      → Apart (cond b (e ∷ y ∷ l) (y ∷ insert le e l))
+  apart-cond true y l a h r = (h, a)
+  apart-cond false y l a h r = (λ z m. go z (from-insert le z e l m), r)
+    where
+      go : (z : Entry) → (z ≡ e) ⊎ List·Memᴰ z l → Differ y z
+      go z (inl q) d c = h y (List·Memᴰ·head refl) (sym (d ∙ ap (λ (x : Entry). x .distance) q)) (sym (c ∙ ap (λ (x : Entry). x .cell) q))
+      go z (inr m) d c = a .0 z m d c
+
+  pub apart-insert : (l : List Entry) → Apart l → ((z : Entry) → List·Memᴰ z l → Differ e z) → Apart (insert le e l)
+  unfolding insert
+  apart-insert [] a h = (λ z m. absurd (List·Memᴰ·not-nil m), tt)
+  apart-insert (y ∷ l) a h = apart-cond (le e y) y l a h (apart-insert l (a .1) (λ z m. h z (List·Memᴰ·tail m)))
+
+-- two at different places differ
+pub apart-at : (l : List Entry) (d : Entry) (i j : ℕ) → Apart l → i < j → j < length l → Differ (getD l i d) (getD l j d)
+apart-at [] d i j a l m = absurd (not-suc-le-zero m)
+apart-at (x ∷ r) d zero zero a l m = absurd (not-suc-le-zero l)
+apart-at (x ∷ r) d zero (suc j) a l m = a .0 (getD r j d) (member-at r j d (le-of-suc-le-suc m))
+apart-at (x ∷ r) d (suc i) zero a l m = absurd (not-suc-le-zero l)
+apart-at (x ∷ r) d (suc i) (suc j) a l m = apart-at r d i j (a .1) (le-of-suc-le-suc l) (le-of-suc-le-suc m)
+
+-- ---- what is true of a state from the end of seeding on
+
+pub record Good (g : Ground) (s : State) : Type 0 where
+  pub sound : Sound g (s .field) (s .names)
+  pub waits : (x : Entry) → List·Memᴰ x (s .waiting) → Waits g (s .field) x
+  pub apart : Apart (s .waiting)
+  pub in-peak : length (s .waiting) ≤ s .peak
+  pub in-room : s .peak ≤ g .room
+
+-- an entry is queued
+pub good-queued : (g : Ground) (e : Entry) (s : State) → Good g s → Waits g (s .field) e → ((z : Entry) → List·Memᴰ z (s .waiting) → Differ e z)
+    → length (s .waiting) < g .room → Good g (queued g e s)
+good-queued g e s G w h l =
+    record {
+      sound = G .sound;
+      waits = λ x m. go x (from-insert (g .goesFirst) x e (s .waiting) m);
+      apart = apart-insert (g .goesFirst) e (s .waiting) (G .apart) h;
+      in-peak = rw (length-insert (g .goesFirst) e (s .waiting)) (omega arith);
+      in-room = omega (arith, G .in-room);
+    }
+  where
+    go : (x : Entry) → (x ≡ e) ⊎ List·Memᴰ x (s .waiting) → Waits g (s .field) x
+    go x (inl q) = subst (Waits g (s .field)) (sym q) w
+    go x (inr m) = G .waits x m
+
+-- the first is taken
+pub good-taken : (g : Ground) (e : Entry) (w : List Entry) (s : State) → Good g s → s .waiting ≡ e ∷ w → Good g (taken w s) × Waits g (s .field) e
+good-taken g e w s G q = (
+  record {
+    sound = G .sound;
+    waits = λ x m. G .waits x (subst (List·Memᴰ x) (sym q) (List·Memᴰ·tail m));
+    apart = subst Apart q (G .apart) .1;
+    in-peak = omega (arith, G .in-peak, ap length q);
+    in-room = G .in-room;
+  },
+  G .waits e (subst (List·Memᴰ e) (sym q) (List·Memᴰ·head refl)),
+)
+
+-- ---- an offer in spreading
+
+-- an entry of cell c and triangle k waits
+pub record WaitsFor (s : State) (c k : ℕ) : Type 0 where
+  pub waiting-entry : Entry
+  pub waits : List·Memᴰ waiting-entry (s .waiting)
+  pub of-cell : waiting-entry .cell ≡ c
+  pub of-triangle : waiting-entry .triangle ≡ k
+
+-- from s to t no cell holds more, what waits goes on waiting, and a cell that names another triangle has queued it
+pub record Onward (g : Ground) (s t : State) : Type 0 where
+  pub falls : Falls g (s .field) (t .field)
+  pub keeps : (x : Entry) → List·Memᴰ x (s .waiting) → List·Memᴰ x (t .waiting)
+  pub names : (c : ℕ) → (named t c ≡ named s c) ⊎ WaitsFor t c (named t c)
+  pub pops-same : t .pops ≡ s .pops
+
+pub waits-for-on : {s t : State} {c k : ℕ} → ((x : Entry) → List·Memᴰ x (s .waiting) → List·Memᴰ x (t .waiting)) → WaitsFor s c k → WaitsFor t c k
+waits-for-on f p =
+    record { waiting-entry = p .waiting-entry; waits = f (p .waiting-entry) (p .waits); of-cell = p .of-cell; of-triangle = p .of-triangle }
+
+pub onward-stays : (g : Ground) (s : State) → Onward g s s
+onward-stays g s = record { falls = λ c l. omega arith; keeps = λ x m. m; names = λ c. inl refl; pops-same = refl }
+
+pub onward-on : (g : Ground) (s t u : State) → Onward g s t → Onward g t u → Onward g s u
+onward-on g s t u p q =
+    record {
+      falls = λ c l. omega (arith, p .falls c l, q .falls c l);
+      keeps = λ x m. q .keeps x (p .keeps x m);
+      names = λ c. go c (q .names c) (p .names c);
+      pops-same = q .pops-same ∙ p .pops-same;
+    }
+  where
+    go : (c : ℕ) → (named u c ≡ named t c) ⊎ WaitsFor u c (named u c) → (named t c ≡ named s c) ⊎ WaitsFor t c (named t c) → (named u c ≡ named s c) ⊎ WaitsFor u c (named u c)
+    go c (inr w) r = inr w
+    go c (inl e) (inl f) = inl (e ∙ f)
+    go c (inl e) (inr w) = inr (waits-for-on {s = t} {t = u} (q .keeps) (subst (WaitsFor t c) (sym e) w))
+
+-- what an offer of triangle k to cell c does
+pub record Offered (g : Ground) (k c : ℕ) (s t : State) : Type 0 where
+  pub good : Good g t
+  pub onward : Onward g s t
+  pub met : Met g (t .field) k c
+
+module _ (g : Ground) (F : Fair g) (k c : ℕ) (kl : k < g .triangles) (cl : c < g .cells) (s : State) (G : Good g s) where
+  module _ (N : Nearer g (s .field) k c) where
+    -- the cell takes the triangle
+    takes-good : Good g (takes c k (g .distance k c) s)
+    takes-good =
+        record {
+          sound = takes-sound g F (s .field) (s .names) k c (G .sound) kl cl N;
+          waits = λ x m. waits-on g (s .field) (set (s .field) c (g .distance k c)) x (takes-falls g F (s .field) (s .names) k c (G .sound) kl cl N) (G .waits x m);
+          apart = G .apart;
+          in-peak = G .in-peak;
+          in-room = G .in-room;
+        }
+
+    -- its entry is at the new value, and those of the same cell are above the old
+    new-waits : Waits g (set (s .field) c (g .distance k c)) (entry (g .distance k c) c k)
+    new-waits =
+        record {
+          cell-on = cl;
+          triangle-is = kl;
+          number = N .number;
+          far = refl;
+          above = takes-met g F (s .field) (s .names) k c (G .sound) kl cl N .least;
+        }
+
+    new-differs : (z : Entry) → List·Memᴰ z (s .waiting) → Differ (entry (g .distance k c) c k) z
+    new-differs z m d e =
+        let less = takes-less g F (s .field) (s .names) k c (G .sound) kl cl N in
+        let above : bits (getD (s .field) c nan) ≤ z .distance = rw e (G .waits z m .above) in
+        omega arith
+
+    takes-names : (t : State) → t ≡ queued g (entry (g .distance k c) c k) (takes c k (g .distance k c) s) → (i : ℕ) → Dec (i ≡ c)
+        → (named t i ≡ named s i) ⊎ WaitsFor t i (named t i)
+    takes-names t q i (yes e) =
+        inr
+        (rw q
+        (record {
+          waiting-entry = entry (g .distance k c) c k;
+          waits = in-insert (g .goesFirst) (entry (g .distance k c) c k) (s .waiting);
+          of-cell = sym e;
+          of-triangle = sym (takes-name g F (s .field) (s .names) k c (G .sound) kl cl N i e);
+        }))
+    takes-names t q i (no n) = inl (ap (λ (u : State). named u i) q ∙ takes-named g F (s .field) (s .names) k c (G .sound) kl cl N i n)
+
+    takes-offered : (t : State) → Queued g (entry (g .distance k c) c k) (takes c k (g .distance k c) s) t → Offered g k c s t
+    takes-offered t Q =
+        rw (Q .is)
+        (record {
+          good = good-queued g (entry (g .distance k c) c k) (takes c k (g .distance k c) s) takes-good new-waits new-differs (Q .room);
+          onward = record {
+            falls = takes-falls g F (s .field) (s .names) k c (G .sound) kl cl N;
+            keeps = λ x m. still-in (g .goesFirst) x (entry (g .distance k c) c k) (s .waiting) m;
+            names = λ i. takes-names (queued g (entry (g .distance k c) c k) (takes c k (g .distance k c) s)) refl i (ℕ-discrete i c);
+            pops-same = refl;
+          };
+          met = takes-met g F (s .field) (s .names) k c (G .sound) kl cl N;
+        })
+
+  pub offered : (t : State) → offer g (queue g) k c s ≡ goes t → Offered g k c s t
+  offered t h = go (offer-went g (queue g) k c s t h)
+    where
+      go : Offer (queue g) k c (g .distance k c) s t → Offered g k c s t
+      go (passes n l e) = rw e (record { good = G; onward = onward-stays g s; met = passes-met g F (s .field) (s .names) k c (G .sound) cl n l })
+      go (takesIt n l w) = takes-offered (record { number = n; less = l }) t (queue-went g (entry (g .distance k c) c k) (takes c k (g .distance k c) s) t w)
