@@ -40,5 +40,5 @@ pub placed : (g : Grid) (f : Facet) (k : ℕ) (at : Cell) (p : Point) (q : Float
 unfolding offerTo
 placed g f k at p q c s w hp hq hc h =
     let same : distanceOn f (centreOf g (cellAt g (indexOf g at))) ≡ rootOf q =
-        ap rootOf (ap (λ (a : Cell). squaredOn f (centreOf g a)) (cell-of-index w) ∙ sym (hq ∙ ap (squaredOn f) hp)) in
+    ap rootOf (ap (λ (a : Cell). squaredOn f (centreOf g a)) (cell-of-index w) ∙ sym (hq ∙ ap (squaredOn f) hp)) in
     ap₂ (λ (d : Float) (i : ℕ). offerAt nothingElse k i d s) same (sym hc) ∙ h

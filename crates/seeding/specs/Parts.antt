@@ -10,8 +10,12 @@ use Rattle.grid.specs.Axes.{cell}
 use Rattle.grid.specs.Index.{indexOf, cellAt}
 use Rattle.grid.specs.Place.{centreOf}
 use Rattle.geo.specs.declared.closest.Facet.{Facet}
+use Rattle.geo.specs.Closest.{facetOf}
 use Rattle.geo.specs.Distance.{distanceOn}
-use Rattle.run.specs.Run.{State, offerAt, nothingElse}
+use Rattle.mesh.specs.declared.Corners.{Corners}
+use Rattle.mesh.specs.Mesh.{Mesh, cornersAt}
+use Rattle.run.specs.Run.{State, Box, offerAt, nothingElse}
+use Rattle.run.specs.Ground.{boxOf}
 
 -- in seeding nothing waits, and nothing was taken
 abbrev pub seedState : List Float → List ℕ → State
@@ -31,3 +35,10 @@ alongPlane g f k x low high s = through (λ y. alongLine g f k x y (low .z) (hig
 
 unfoldable pub alongBox : Grid → Facet → ℕ → Cell → Cell → State → Turn State
 alongBox g f k low high s = through (λ x. alongPlane g f k x low high) (low .x) (high .x) s
+
+-- to the snapped box of a triangle, by its corners, and by its number
+unfoldable pub overBox : Grid → Corners → ℕ → State → Turn State
+overBox g t k s = alongBox g (facetOf (t .a) (t .b) (t .c)) k (boxOf g t .low) (boxOf g t .high) s
+
+unfoldable pub overTriangle : Grid → Mesh → ℕ → State → Turn State
+overTriangle g m k s = overBox g (cornersAt m k) k s

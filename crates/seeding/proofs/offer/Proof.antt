@@ -31,8 +31,8 @@ returns-3 c =
     let root = c .before .sqrt .ensures .is in
     subst
     (λ (d : Float).
-        offerAt nothingElse (s .args .k) (s .args .c) (rootOf (s .args .q)) (seedState field (s .args .names .now))
-        ≡ told 0 (seedState (set field (s .args .c) d) (set (s .args .names .now) (s .args .c) (s .args .k))))
+    offerAt nothingElse (s .args .k) (s .args .c) (rootOf (s .args .q)) (seedState field (s .args .names .now))
+    ≡ told 0 (seedState (set field (s .args .c) d) (set (s .args .names .now) (s .args .c) (s .args .k))))
     (sym root)
     (took field (s .args .names .now) (s .args .c) (s .args .k) (s .args .q) (s .pre .1) (e .if1 .left)
     (sym (ap (λ (d : Float). d ≺ getD field (s .args .c) nan) root) ∙ c .if3 .taken))

@@ -4,19 +4,15 @@ use mathlib.Core.Path.{_≡_, sym, subst}
 use native.Mathlib.Omega.{arith}
 use lib.Ieee.{Float, isNan}
 use Rattle.float.specs.RootOf.{rootOf}
-use Rattle.grid.proofs.Facts.{bounds-of}
 use Rattle.grid.proofs.Laws.{index-below}
 use Rattle.geo.proofs.Laws.{nan-alike}
+use Rattle.seeding.proofs.Boxes.{small}
 use Rattle.seeding.proofs.Offers.{placed}
 use Rattle.seeding.proofs.offer_at.Statement.{statement}
 use Rattle.seeding.proofs.offer_at.Tie as tie
 
 get-cell-center-requires : tie.Need-get-cell-center-requires
-get-cell-center-requires c κs =
-    let s = c .before .before in
-    let b = bounds-of (s .args .grid) (s .pre .0 .0) in
-    let w = s .pre .0 .1 in
-    (omega (arith, b .on-x .few, w .x-below), omega (arith, b .on-y .few, w .y-below), omega (arith, b .on-z .few, w .z-below))
+get-cell-center-requires c κs = let s = c .before .before in small (s .args .grid) (s .args .at) (s .pre .0 .0) (s .pre .0 .1)
 
 offer-requires : tie.Need-offer-requires
 offer-requires c κs =
@@ -25,8 +21,7 @@ offer-requires c κs =
     let s = q .before .before .before .before in
     let below = index-below (s .pre .0 .1) in
     let at = i .get-cell-idx .ensures in
-    let square = q .squared-on .ensures in
-    (
+    let square = q .squared-on .ensures in (
       (omega (arith, below, at, s .pre .1 .0), omega (arith, below, at, s .pre .1 .1)),
       subst (λ (x : Float). isNan (rootOf x) ≡ isNan x) (sym square) (nan-alike (s .args .f) (q .before .get-cell-center .result)),
     )

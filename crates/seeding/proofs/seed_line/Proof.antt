@@ -37,8 +37,7 @@ offer-at-requires : tie.Need-offer-at-requires Inv-loop μ-loop
 offer-at-requires c κs =
     let n = c .before .before in
     let s = n .before .before .before .before in
-    let inside = s .pre .0 .1 in
-    (
+    let inside = s .pre .0 .1 in (
       (s .pre .0 .0, record { x-below = inside .x-below; y-below = inside .y-below; z-below = omega (arith, inside .z-below, n .loop-test .taken) }),
       (n .before .loop .inv .2 ∙ s .pre .1 .0, n .before .loop .inv .3 ∙ s .pre .1 .1),
     )
@@ -67,8 +66,7 @@ loop-less c = omega arith
 loop-again : tie.Need-loop-again Inv-loop μ-loop
 loop-again c =
     let o = c .before .before .before .before .before in
-    let l = o .before .before .before .before in
-    (
+    let l = o .before .before .before .before in (
       omega arith,
       inr (omega arith),
       omega arith,
