@@ -211,7 +211,7 @@ signed-bits b h u =
     signed-fields (b % 0x8000_0000 / 0x80_0000) (b % 0x80_0000)
     (subst (λ (v : Float). T (unsigned v)) (ofBits-is b ∙ ap (λ (s : Bool). ofFields binary32 s (b % 0x8000_0000 / 0x80_0000) (b % 0x80_0000)) (le-leb 0x8000_0000 b h)) u)
 
-unsigned-no-nan : (x : Float) → T (unsigned x) → T (not (isNan x))
+pub unsigned-no-nan : (x : Float) → T (unsigned x) → T (not (isNan x))
 unfolding isNan
 unsigned-no-nan nan u = u
 unsigned-no-nan (inf s) u = tt

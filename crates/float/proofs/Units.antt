@@ -1,7 +1,7 @@
 -- What a bit pattern of binary32 stands for, in units of 2 ^ -149, its smallest value above zero: the exponent's field x and the digits t are
 -- (t + 2 ^ 23) * 2 ^ (x - 1) units, without the 2 ^ 23 where x is 0. That grows with the pattern. Assumes nothing.
 use Prim.Native.Nat.{ℕ, zero, suc, _+_, _-_, _*_, _/_, _%_, _^_, _≤_, _<_, min}
-use native.Mathlib.Nat.{le-of-lt, le-trans, le-of-eq, lt-of-lt-of-le, lt-of-le-of-lt, eq-or-lt-of-le, mod-eq-of-lt, mul-assoc, mul-le-mul-right, mul-le-mul-left, mul-lt-mul-of-pos-right, pow-succ'}
+use native.Mathlib.Nat.{le-of-lt, le-trans, le-of-eq, lt-of-lt-of-le, lt-of-le-of-lt, eq-or-lt-of-le, mod-eq-of-lt, mul-assoc, mul-le-mul-right, mul-le-mul-left, mul-lt-mul-of-pos-right, mul-div-cancel, pow-succ'}
 use native.Mathlib.Omega.{arith}
 use native.Mathlib.Decide.{decLt}
 use mathlib.Core.Path.{_≡_, refl, sym, ap, ap₂, _∙_, subst}
@@ -9,10 +9,12 @@ use mathlib.Core.Logic.{_⊎_, inl, inr}
 use mathlib.Core.Bool.{Bool, true, false, cond}
 use lib.Dec.{T, leb, ltb, eqb, not-T, eqb→eq}
 use lib.Pow.{pow-pos, pow-mono}
-use lib.Ieee.{Float, nan, inf, fin, binary32, odd, ofFields, ofBits}
+use lib.Ieee.{Float, nan, inf, fin, binary32, up, down, odd, ofFields, ofBits}
 use lib.Ieee.Bits.{cond-no}
 use lib.Ieee.Exact.{HasValue, odd-sign}
+use lib.Ieee.Fits.{down-pos}
 use borrow.Author.Tests.{lt-ltb, le-ltb, lt-leb}
+use Rattle.float.specs.Root.{unitsOf}
 
 -- the digits of a pattern, the leading one with them, and its units
 abbrev pub digitsOf : ℕ → ℕ
@@ -108,3 +110,10 @@ value b h =
 pub infinity : ofBits binary32 0x7f80_0000 ≡ inf false
 unfolding ofBits ofFields
 infinity = refl
+
+-- a value by its units
+pub units-value : (v : Float) (s : Bool) (a : ℕ) → HasValue v s a (2 ^ 149) → unitsOf v ≡ a
+unfolding unitsOf
+units-value nan s a h = absurd h
+units-value (inf t) s a h = absurd h
+units-value (fin t m e) s a h = ap (λ (x : ℕ). x / down e) (h .1) ∙ mul-div-cancel a (down-pos e)

@@ -1,0 +1,28 @@
+-- `root::nearest_root`: the guess itself by the two tests, or what `walked` ensures. Assumes nothing.
+use borrow.Author.Needs.{needs}
+use mir.Facts.{fits-bits}
+use Rattle.float.proofs.Squares.{mul-lt}
+use Rattle.float.proofs.root.nearest_root.Statement.{statement}
+use Rattle.float.proofs.root.nearest_root.Tie as tie
+
+mul-square : tie.Need-mul-square
+mul-square c = fits-bits 50 tt (mul-lt 25 25 (c .pre .2) (c .pre .2))
+
+add-if1 : tie.Need-add-if1
+add-if1 c = search needs
+
+add-if2 : tie.Need-add-if2
+add-if2 c = search needs
+
+returns : tie.Need-returns
+returns c = search needs
+
+walked-requires : tie.Need-walked-requires
+walked-requires c κs = search needs
+
+returns-2 : tie.Need-returns-2
+returns-2 c = search needs
+
+pub nearest-root-spec : {M : Type 1} → statement M
+nearest-root-spec =
+    tie.close (tie.spec mul-square add-if1 add-if2 returns walked-requires returns-2)
