@@ -1,12 +1,9 @@
--- The marked cases of document 01 that speak of the grid, computed. Assumes nothing.
+-- The marked cases of the grid, computed. Assumes nothing.
 use mathlib.Core.Path.{_≡_, refl}
 use mathlib.Core.Bool.{true}
-use lib.Ieee.{add, sub, mul, div, ofBits, ofInt}
-use Rattle.float.specs.Cell.{floorOf, cellOf, outside}
-use Rattle.grid.specs.Place.{snap, snapCell, clamped}
-use Rattle.grid.specs.Bounds.{all}
-use Rattle.grid.specs.Cases.{rows}
+use Rattle.float.specs.Case.{allHold}
+use Rattle.grid.specs.Cases.{snapCases}
 
-pub marked : all rows ≡ true
-unfolding snap snapCell clamped floorOf cellOf outside add sub mul div ofBits ofInt
-marked = refl
+pub snap-cases : allHold snapCases ≡ true
+unfolding snapCases
+snap-cases = refl
