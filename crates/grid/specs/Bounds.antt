@@ -8,6 +8,7 @@ use lib.Ieee as Ieee
 use lib.Ieee.{Float, binary32}
 use Rattle.float.specs.Arith.{_≦_}
 use Rattle.float.specs.Steps.{finiteAtMost}
+use Rattle.point.specs.declared.Axis.{Axis}
 use Rattle.grid.specs.declared.Grid.{Grid}
 use Rattle.grid.specs.Axes.{countOn, firstOn, sizeOn, onEvery}
 use Rattle.grid.specs.Index.{total}
@@ -42,12 +43,12 @@ isSize x = (f2⁻¹⁰ ≦ x) && (x ≦ f2¹⁰)
 abbrev pub axisInBounds : ℕ → Float → Float → Bool
 axisInBounds count first size = isCount count && isCoordinate first && isSize size
 
+abbrev pub isAxis : Grid → Axis → Bool
+isAxis g a = axisInBounds (countOn a g) (firstOn a g) (sizeOn a g)
+
 -- every test that a grid must pass
 abbrev pub bounds : Grid → List Bool
-bounds g =
-    onEvery (λ a. axisInBounds (countOn a g) (firstOn a g) (sizeOn a g)) ∷
-    isTotal (total g) ∷
-    []
+bounds g = onEvery (isAxis g) ∷ isTotal (total g) ∷ []
 
 abbrev pub all : List Bool → Bool
 all [] = true

@@ -6,8 +6,8 @@ use mathlib.Core.Path.{_≡_, _∙_}
 use mathlib.Core.Bool.{_&&_, and-true}
 use Prim.Native.Nat.{_*_, _^_, _<_}
 use Rattle.point.specs.declared.Axis.the-variants.{X, Y, Z}
-use Rattle.grid.specs.Axes.{countOn, firstOn, sizeOn, onEvery}
-use Rattle.grid.specs.Bounds.{axisInBounds, inBounds}
+use Rattle.grid.specs.Axes.{onEvery}
+use Rattle.grid.specs.Bounds.{isAxis, inBounds}
 use Rattle.grid.proofs.Facts.{axes-of, counts-fit}
 use Rattle.grid.proofs.Grid.in_bounds.Statement.{statement}
 use Rattle.grid.proofs.Grid.in_bounds.Tie as tie
@@ -15,7 +15,7 @@ use Rattle.grid.proofs.Grid.in_bounds.Tie as tie
 -- what the three calls found is the test of every axis
 found : (c : tie.After-axis-in-bounds3) →
     let g = c .before .before .before .before .before .args .self in
-    onEvery (λ a. axisInBounds (countOn a g) (firstOn a g) (sizeOn a g)) ≡ (c .before .before .axis-in-bounds .result && c .before .axis-in-bounds2 .result && c .axis-in-bounds3 .result)
+    onEvery (isAxis g) ≡ (c .before .before .axis-in-bounds .result && c .before .axis-in-bounds2 .result && c .axis-in-bounds3 .result)
 found c = rw (c .before .before .axis-in-bounds .ensures, c .before .axis-in-bounds2 .ensures, c .axis-in-bounds3 .ensures)
 
 fit : (c : tie.Else1) →
