@@ -1,7 +1,6 @@
 -- `grid::axis_in_bounds`: the tests are the definition's. Assumes nothing.
-use borrow.Author.Needs.{needs}
 use Rattle.grid.proofs.axis_in_bounds.Statement.{statement}
 use Rattle.grid.proofs.axis_in_bounds.Tie as tie
 
 pub axis-in-bounds-spec : {M : Type 1} → statement M
-axis-in-bounds-spec = tie.close (tie.spec (λ c κs. search needs) (λ c. rw (c .finite-at-most .ensures)))
+axis-in-bounds-spec = tie.close (tie.spec (λ c κs. tt) (λ c. rw (c .finite-at-most .ensures)))

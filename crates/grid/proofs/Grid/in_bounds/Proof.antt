@@ -1,6 +1,5 @@
 -- `Grid::in_bounds`: the product is formed only where each axis is within its bounds, and then it fits (`counts-fit`). Assumes
 -- nothing.
-use borrow.Author.Needs.{needs}
 use borrow.Author.Tests.{not-true, not-false}
 use mathlib.Core.Path.{_≡_, _∙_}
 use mathlib.Core.Bool.{_&&_, and-true}
@@ -30,9 +29,9 @@ unfolding inBounds
 in-bounds-spec =
     tie.close
     (tie.spec
-    (λ c κs. search needs)
-    (λ c κs. search needs)
-    (λ c κs. search needs)
+    (λ c κs. tt)
+    (λ c κs. tt)
+    (λ c κs. tt)
     (λ c. rw (found (c .before) ∙ not-true _ (c .if1 .taken)))
     (λ c. record { fits = fit (c .before) .0 })
     (λ c. record { fits = fit (c .before .before) .1 })
