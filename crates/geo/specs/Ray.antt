@@ -1,8 +1,11 @@
 -- "Aligned ray: weights w0, w1, w2 and t exactly as in 001, with the products summed w0, w2, w1. The answer of a ray test is either a
 -- miss or a hit carrying its f32 distance t. Hit only if all weights are below 0 or all above 0, and t > 0" (document 01).
 -- Definitions only.
-use mathlib.Core.Bool.{Bool, _&&_, _||_}
-use lib.Ieee.{Float, neg}
+use mathlib.Core.Bool.{Bool, false, _&&_, _||_}
+use mathlib.Core.List.{List}
+use Prim.Native.Nat.{ℕ, zero, suc}
+use lib.ListN.{getD}
+use lib.Ieee.{Float, nan, neg}
 use Rattle.float.specs.Arith.{_⊕_, _⊖_, _⊗_, _⊘_, _≺_, f0, if_then_else_}
 use Rattle.point.specs.Point.{_-ᵥ_, turned}
 use Rattle.point.specs.declared.Point.{Point}
@@ -34,8 +37,11 @@ allBelow w = (w .v0 ≺ f0) && (w .v1 ≺ f0) && (w .v2 ≺ f0)
 abbrev pub allAbove : Three → Bool
 allAbove w = (f0 ≺ w .v0) && (f0 ≺ w .v1) && (f0 ≺ w .v2)
 
+abbrev pub oneSign : Three → Bool
+oneSign w = allBelow w || allAbove w
+
 abbrev pub reply : Three → Float → RayHit
-reply w t = if allBelow w || allAbove w then (if f0 ≺ t then Hit t else Miss) else Miss
+reply w t = if oneSign w then (if f0 ≺ t then Hit t else Miss) else Miss
 
 unfoldable pub rayX : Point → Point → Point → Point → RayHit
 rayX o v0 v1 v2 = reply (weightsX o v0 v1 v2) (reachX o v0 v1 v2)
@@ -71,3 +77,14 @@ weightsOf zs ys = record { v0 = zs .v0 ⊖ ys .v0; v1 = zs .v1 ⊖ ys .v1; v2 = 
 
 unfoldable pub rayOf : Three → Three → Three → RayHit
 rayOf zs ys xs = reply (weightsOf zs ys) (reach (weightsOf zs ys) xs)
+
+-- ---- a row of rays that differ in z alone
+
+-- whether the weights of ray k have one sign
+abbrev pub insideAt : Cast → Three → List Float → ℕ → Bool
+insideAt f ys zs k = oneSign (weightsOf (acrossZ f (getD zs k nan)) ys)
+
+-- whether the test passes anywhere below n
+unfoldable pub anyBelow : (ℕ → Bool) → ℕ → Bool
+anyBelow t zero = false
+anyBelow t (suc n) = anyBelow t n || t n

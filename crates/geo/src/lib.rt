@@ -26,4 +26,5 @@ pub use ray::along_x;
 pub use ray::cast_of;
 pub use ray::ray_of;
 pub use ray::ray_triangle_intersection_aligned;
+pub use ray::row_inside;
 pub use squares::squares_on;
