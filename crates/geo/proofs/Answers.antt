@@ -15,7 +15,6 @@ use Rattle.point.specs.declared.Axis.{Axis}
 use Rattle.geo.specs.Box.{margin, leastOf3, greatestOf3, boxOf}
 use Rattle.geo.specs.Ray.{weightsX, reachX, allBelow, allAbove, reply, rayX, rayAligned}
 use Rattle.geo.specs.Asked.{bound, within, pointNan, boxNan, rayNan, Answer, answered, refused, value}
-use Rattle.geo.specs.declared.ray.Three.{Three}
 use Rattle.geo.specs.declared.ray.RayHit.{RayHit}
 use Rattle.geo.specs.declared.ray.RayHit.the-variants.{Miss, Hit}
 
@@ -39,8 +38,8 @@ above-no-nan nan h = absurd (true≢false (sym h))
 above-no-nan (inf s) h = refl
 above-no-nan (fin s m e) h = refl
 
-reply-no-nan : (w : Three) (t : Float) → rayNan (reply w t) ≡ false
-reply-no-nan w t = go (allBelow w || allAbove w) (f0 ≺ t) refl
+reply-no-nan : (w0 w1 w2 t : Float) → rayNan (reply w0 w1 w2 t) ≡ false
+reply-no-nan w0 w1 w2 t = go (allBelow w0 w1 w2 || allAbove w0 w1 w2) (f0 ≺ t) refl
   where
     go : (u v : Bool) → f0 ≺ t ≡ v → rayNan (if u then (if v then Hit t else Miss) else Miss) ≡ false
     go true true e = above-no-nan t e
@@ -54,7 +53,8 @@ ray-no-nan o v0 v1 v2 axis =
     let a = turned axis v0 in
     let b = turned axis v1 in
     let c = turned axis v2 in
-    reply-no-nan (weightsX p a b c) (reachX p a b c)
+    let w = weightsX p a b c in
+    reply-no-nan (w .v0) (w .v1) (w .v2) (reachX p a b c)
 
 -- ---- a box
 

@@ -1,11 +1,8 @@
 -- "Aligned ray: weights w0, w1, w2 and t exactly as in 001, with the products summed w0, w2, w1. The answer of a ray test is either a
 -- miss or a hit carrying its f32 distance t. Hit only if all weights are below 0 or all above 0, and t > 0" (document 01).
 -- Definitions only.
-use mathlib.Core.Bool.{Bool, false, _&&_, _||_}
-use mathlib.Core.List.{List}
-use Prim.Native.Nat.{ℕ, zero, suc}
-use lib.ListN.{getD}
-use lib.Ieee.{Float, nan, neg}
+use mathlib.Core.Bool.{Bool, _&&_, _||_}
+use lib.Ieee.{Float, neg}
 use Rattle.float.specs.Arith.{_⊕_, _⊖_, _⊗_, _⊘_, _≺_, f0, if_then_else_}
 use Rattle.point.specs.Point.{_-ᵥ_, turned}
 use Rattle.point.specs.declared.Point.{Point}
@@ -25,26 +22,24 @@ abbrev pub weightsX : Point → Point → Point → Point → Three
 weightsX o v0 v1 v2 = record { v0 = weight (o -ᵥ v1) (v2 -ᵥ v1); v1 = weight (o -ᵥ v2) (v0 -ᵥ v2); v2 = weight (o -ᵥ v0) (v1 -ᵥ v0) }
 
 -- t, from the weights and from where the origin lies along x, seen from each corner
-abbrev pub reach : Three → Three → Float
-reach w x = neg (w .v0 ⊗ x .v0 ⊕ w .v2 ⊗ x .v2 ⊕ w .v1 ⊗ x .v1) ⊘ (w .v0 ⊕ w .v1 ⊕ w .v2)
+abbrev pub reach : Float → Float → Float → Float → Float → Float → Float
+reach w0 w1 w2 x0 x1 x2 = neg (w0 ⊗ x0 ⊕ w2 ⊗ x2 ⊕ w1 ⊗ x1) ⊘ (w0 ⊕ w1 ⊕ w2)
 
 abbrev pub reachX : Point → Point → Point → Point → Float
-reachX o v0 v1 v2 = reach (weightsX o v0 v1 v2) (record { v0 = (o -ᵥ v0) .x; v1 = (o -ᵥ v1) .x; v2 = (o -ᵥ v2) .x })
+reachX o v0 v1 v2 =
+    let w = weightsX o v0 v1 v2 in reach (w .v0) (w .v1) (w .v2) ((o -ᵥ v0) .x) ((o -ᵥ v1) .x) ((o -ᵥ v2) .x)
 
-abbrev pub allBelow : Three → Bool
-allBelow w = (w .v0 ≺ f0) && (w .v1 ≺ f0) && (w .v2 ≺ f0)
+abbrev pub allBelow : Float → Float → Float → Bool
+allBelow w0 w1 w2 = (w0 ≺ f0) && (w1 ≺ f0) && (w2 ≺ f0)
 
-abbrev pub allAbove : Three → Bool
-allAbove w = (f0 ≺ w .v0) && (f0 ≺ w .v1) && (f0 ≺ w .v2)
+abbrev pub allAbove : Float → Float → Float → Bool
+allAbove w0 w1 w2 = (f0 ≺ w0) && (f0 ≺ w1) && (f0 ≺ w2)
 
-abbrev pub oneSign : Three → Bool
-oneSign w = allBelow w || allAbove w
-
-abbrev pub reply : Three → Float → RayHit
-reply w t = if oneSign w then (if f0 ≺ t then Hit t else Miss) else Miss
+abbrev pub reply : Float → Float → Float → Float → RayHit
+reply w0 w1 w2 t = if allBelow w0 w1 w2 || allAbove w0 w1 w2 then (if f0 ≺ t then Hit t else Miss) else Miss
 
 unfoldable pub rayX : Point → Point → Point → Point → RayHit
-rayX o v0 v1 v2 = reply (weightsX o v0 v1 v2) (reachX o v0 v1 v2)
+rayX o v0 v1 v2 = let w = weightsX o v0 v1 v2 in reply (w .v0) (w .v1) (w .v2) (reachX o v0 v1 v2)
 
 -- ---- along any axis: with the coordinates turned, it is along x
 
@@ -71,20 +66,9 @@ acrossY f y = record { v0 = (y ⊖ f .v1 .y) ⊗ f .e12 .z; v1 = (y ⊖ f .v2 .y
 unfoldable pub alongX : Cast → Float → Three
 alongX f x = record { v0 = x ⊖ f .v0 .x; v1 = x ⊖ f .v1 .x; v2 = x ⊖ f .v2 .x }
 
--- the weights, from the two products of each
-abbrev pub weightsOf : Three → Three → Three
-weightsOf zs ys = record { v0 = zs .v0 ⊖ ys .v0; v1 = zs .v1 ⊖ ys .v1; v2 = zs .v2 ⊖ ys .v2 }
-
 unfoldable pub rayOf : Three → Three → Three → RayHit
-rayOf zs ys xs = reply (weightsOf zs ys) (reach (weightsOf zs ys) xs)
-
--- ---- a row of rays that differ in z alone
-
--- whether the weights of ray k have one sign
-abbrev pub insideAt : Cast → Three → List Float → ℕ → Bool
-insideAt f ys zs k = oneSign (weightsOf (acrossZ f (getD zs k nan)) ys)
-
--- whether the test passes anywhere below n
-unfoldable pub anyBelow : (ℕ → Bool) → ℕ → Bool
-anyBelow t zero = false
-anyBelow t (suc n) = anyBelow t n || t n
+rayOf zs ys xs =
+    let w0 = zs .v0 ⊖ ys .v0 in
+    let w1 = zs .v1 ⊖ ys .v1 in
+    let w2 = zs .v2 ⊖ ys .v2 in
+    reply w0 w1 w2 (reach w0 w1 w2 (xs .v0) (xs .v1) (xs .v2))

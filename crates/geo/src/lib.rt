@@ -4,7 +4,7 @@ pub mod asked;
 mod bounding;
 mod closest;
 mod distance;
-mod ray;
+pub mod ray;
 mod squares;
 
 pub use bounding::TriangleBox;
@@ -26,5 +26,4 @@ pub use ray::along_x;
 pub use ray::cast_of;
 pub use ray::ray_of;
 pub use ray::ray_triangle_intersection_aligned;
-pub use ray::row_inside;
 pub use squares::squares_on;

@@ -2,7 +2,6 @@
 // once, and the parts of the origin's three coordinates, so that a pass over many rays works out each
 // product once for all the rays that share it. The operations stay those of the source, in its order.
 ghost use mathlib.Core.Path.{_≡_};
-ghost use lib.ListN.{length};
 ghost use Rattle.geo.specs.Ray as Ray;
 use point::Axis;
 use point::Point;
@@ -100,33 +99,6 @@ pub fn ray_of(zs: Three, ys: Three, xs: Three) -> RayHit
         }
     }
     RayHit::Miss
-}
-
-// Whether the weights have one sign.
-fn inside(zs: Three, ys: Three) -> bool
-    ensures { λ r. ⌜ r ≡ Ray.oneSign (Ray.weightsOf zs ys) ⌝ }
-{
-    let w0 = zs.v0 - ys.v0;
-    let w1 = zs.v1 - ys.v1;
-    let w2 = zs.v2 - ys.v2;
-    let below = (w0 < 0.0) & (w1 < 0.0) & (w2 < 0.0);
-    let above = (w0 > 0.0) & (w1 > 0.0) & (w2 > 0.0);
-    below | above
-}
-
-// Whether any ray of a row has weights of one sign. The rays differ in z alone. Most rows of most
-// triangles have none, and a pass can leave them out: the loop has no branch, and takes several rays at
-// a time.
-pub fn row_inside(f: Cast, ys: Three, zs: &[f32]) -> bool
-    ensures { λ r. ⌜ r ≡ Ray.anyBelow (Ray.insideAt f ys (now (zs .entry))) (length (now (zs .entry))) ⌝ }
-{
-    let mut any = false;
-    let mut k = 0;
-    while k < zs.len() {
-        any = any | inside(across_z(f, zs[k]), ys);
-        k += 1;
-    }
-    any
 }
 
 pub fn ray_triangle_intersection_aligned(
