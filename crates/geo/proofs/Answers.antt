@@ -13,7 +13,7 @@ use Rattle.point.specs.Point.{turned}
 use Rattle.point.specs.declared.Point.{Point}
 use Rattle.point.specs.declared.Axis.{Axis}
 use Rattle.geo.specs.Box.{margin, leastOf3, greatestOf3, boxOf}
-use Rattle.geo.specs.Ray.{allBelow, allAbove, reply, rayX, rayAligned}
+use Rattle.geo.specs.Ray.{weightsX, reachX, allBelow, allAbove, reply, rayX, rayAligned}
 use Rattle.geo.specs.Asked.{bound, within, pointNan, boxNan, rayNan, Answer, answered, refused, value}
 use Rattle.geo.specs.declared.ray.RayHit.{RayHit}
 use Rattle.geo.specs.declared.ray.RayHit.the-variants.{Miss, Hit}
@@ -48,7 +48,13 @@ reply-no-nan w0 w1 w2 t = go (allBelow w0 w1 w2 || allAbove w0 w1 w2) (f0 ≺ t)
 
 pub ray-no-nan : (o v0 v1 v2 : Point) (axis : Axis) → rayNan (rayAligned o v0 v1 v2 axis) ≡ false
 unfolding rayAligned rayX
-ray-no-nan o v0 v1 v2 axis = reply-no-nan _ _ _ _
+ray-no-nan o v0 v1 v2 axis =
+    let p = turned axis o in
+    let a = turned axis v0 in
+    let b = turned axis v1 in
+    let c = turned axis v2 in
+    let w = weightsX p a b c in
+    reply-no-nan (w .v0) (w .v1) (w .v2) (reachX p a b c)
 
 -- ---- a box
 

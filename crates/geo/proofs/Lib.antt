@@ -5,3 +5,4 @@ mod Answers
 -- what crates above cite
 pub mod Laws
 pub mod Rays
+pub mod Marked

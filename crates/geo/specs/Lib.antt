@@ -4,3 +4,4 @@ pub mod Distance
 pub mod Box
 pub mod Ray
 pub mod Asked
+pub mod Cases

@@ -4,7 +4,7 @@ pub mod asked;
 mod bounding;
 mod closest;
 mod distance;
-mod ray;
+pub mod ray;
 mod squares;
 
 pub use bounding::TriangleBox;
