@@ -3,16 +3,14 @@
 -- Assumes nothing.
 use Prim.Native.Nat.{ℕ, zero, suc, _-_, _≤_, _<_}
 use native.Mathlib.Omega.{arith}
-use native.Mathlib.Decide.{decLt}
-use mathlib.Core.Path.{_≡_, refl, sym, ap, subst, _∙_}
+use mathlib.Core.Path.{_≡_, refl, ap, subst, _∙_}
 use mathlib.Core.Bool.{Bool, true}
-use mathlib.Core.List.{List, [], _∷_, List·Memᴰ}
-use lib.ListN.{length, getD, take, replicate, length-replicate, List·getD-eq-default}
+use mathlib.Core.List.{List, [], List·Memᴰ}
+use lib.ListN.{length, getD, take, replicate}
 use Rattle.queue.specs.declared.Entry.{Entry}
 use Rattle.queue.specs.InOrder.{Total, inOrder}
 use Rattle.queue.specs.Queue.{blank, entries, Even, Held, waiting, Cleared, Taken}
-use Rattle.queue.proofs.Bags.{After}
-use Rattle.queue.proofs.Flat.{length-entries, at-entries, held-fit}
+use Rattle.queue.proofs.Flat.{at-entries, held-fit}
 use Rattle.queue.proofs.Zeros.{zeros}
 use Rattle.queue.proofs.Meaning.{length-inOrder, count, count-inOrder, Sorted, sorted-inOrder, after-member}
 
