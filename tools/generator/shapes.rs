@@ -32,6 +32,11 @@ pub fn cuboid(low: [f64; 3], high: [f64; 3]) -> Mesh {
     mesh
 }
 
+/// Which triangles of a cuboid are its lower face across an axis.
+pub fn cuboid_face(axis: usize) -> std::ops::Range<usize> {
+    [8..10, 4..6, 0..2][axis].clone()
+}
+
 /// A closed sphere (an ellipsoid) of bands and segments.
 pub fn sphere(centre: [f64; 3], radius: [f64; 3], bands: u32, segments: u32) -> Mesh {
     let mut mesh = Mesh::default();

@@ -103,7 +103,7 @@ fn hold(kind: usize, a: f32, b: f32, counts: &mut [[u64; 3]; 10]) {
 fn main() {
     let args: Vec<u64> = std::env::args().skip(1).map(|a| a.parse().expect("a number")).collect();
     let (pairs, seed) = (args.first().copied().unwrap_or(20_000_000), args.get(1).copied().unwrap_or(1));
-    let mut r = Random(seed);
+    let mut r = Random::new(seed, 0);
     let mut counts = [[0; 3]; 10];
     for n in 0..pairs {
         let kind = (n % 10) as usize;

@@ -138,7 +138,7 @@ fn grid_case(r: &mut Random) {
 fn main() {
     let args: Vec<u64> = std::env::args().skip(1).map(|a| a.parse().expect("a number")).collect();
     let (cases, seed) = (args.first().copied().unwrap_or(2_000_000), args.get(1).copied().unwrap_or(1));
-    let mut r = Random(seed);
+    let mut r = Random::new(seed, 0);
     for _ in 0..cases {
         geometry_case(&mut r);
         grid_case(&mut r);
