@@ -517,9 +517,9 @@ fn zeros_and_subnormals(r: &mut Random) -> Job {
 
 /// Corners that are alike as numbers and not as bits: +0 and −0.
 fn signed_zero_corners(r: &mut Random) -> Job {
-    let mut job = if r.once_in(3) { soup_lattice(r) } else { soup(r) };
+    let mut job = if r.once_in(5) { soup_lattice(r) } else { soup(r) };
     for t in 0..job.vertices.len() / 3 {
-        let [one, other] = r.pick(&[[0, 1], [1, 2], [0, 2]]).map(|corner| 3 * t + corner);
+        let [one, other] = r.turn(&[[0, 1], [1, 2], [0, 2]]).map(|corner| 3 * t + corner);
         let axis = r.below(3) as usize;
         job.vertices[one][axis] = r.pick(&[0.0, -0.0]);
         job.vertices[other] = job.vertices[one];
@@ -577,7 +577,7 @@ fn underflow_in_spreading(r: &mut Random) -> Job {
     job.grid.count[y] = r.between(2, 5);
     job.grid.count[z] = r.between(1, 3);
     let tiny = f32::from_bits(r.between(10, 20) << 23);
-    let slope = r.pick(&[3.0, 5.0, 1.0]);
+    let slope = r.pick(&[3.0, 5.0, 1.0, -3.0, -3.0, -5.0]);
     // The grid is moved instead of the triangle: a hair counts near zero alone.
     job.grid.first[x] = -0.5;
     job.grid.first[y] = -0.5;
@@ -593,6 +593,7 @@ fn underflow_in_spreading(r: &mut Random) -> Job {
 fn nan_or_full(r: &mut Random) -> Job {
     loop {
         let mut job = underflow_in_spreading(r);
+        job.grid.count = job.grid.count.map(|n| n.max(2));
         job.queue = 0;
         while model::answer(&job).err() == Some(7) {
             job.queue += 1;
@@ -776,9 +777,8 @@ fn first_beyond(r: &mut Random) -> Job {
 
 fn size_beyond(r: &mut Random) -> Job {
     let mut job = soup(r);
-    let special = [below(LEAST_SIZE), above(MOST_SIZE), 0.0, f32::NAN, -1.0, f32::INFINITY, -0.0, -LEAST_SIZE, f32::from_bits(1)];
-    let size = if r.once_in(4) { f32::from_bits(r.pick(&BEYOND)) } else { r.turn(&special) };
-    job.grid.size[r.below(3) as usize] = size;
+    let special = [below(LEAST_SIZE), above(MOST_SIZE), 0.0, f32::NAN, -1.0, f32::INFINITY, -LEAST_SIZE, -0.0, f32::from_bits(1)];
+    job.grid.size[r.below(3) as usize] = r.turn(&special);
     job
 }
 
