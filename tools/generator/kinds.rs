@@ -164,7 +164,6 @@ fn span(grid: &Grid) -> [f64; 3] {
 fn job(grid: Grid, mesh: &Mesh, r: &mut Random) -> Job {
     let vertices = mesh.vertices.iter().map(|v| place(&grid, *v)).collect();
     let indices = Some(mesh.triangles.iter().flatten().copied().collect());
-    // A small sphere or tank may have more triangles than the program reads: it then answers 9.
     let queue = if r.once_in(12) { r.between(0, MOST_ENTRIES) } else { MOST_ENTRIES };
     let pops = r.pick(&[100_000, 1_000_000, u32::MAX]);
     Job { grid, topology: Topology::List, vertices, indices, queue, pops }
@@ -509,7 +508,14 @@ fn zeros_and_subnormals(r: &mut Random) -> Job {
     job.grid.first = [0; 3].map(|_| r.pick(&[0.0, -0.0, f32::from_bits(1), -f32::from_bits(0x7f_ffff)]));
     for x in job.vertices.iter_mut().flatten() {
         if r.once_in(2) {
-            *x = r.pick(&[0.0, -0.0, f32::from_bits(1), -f32::from_bits(1), f32::from_bits(0x7f_ffff), f32::MIN_POSITIVE]);
+            *x = r.pick(&[
+                0.0,
+                -0.0,
+                f32::from_bits(1),
+                -f32::from_bits(1),
+                f32::from_bits(0x7f_ffff),
+                f32::MIN_POSITIVE,
+            ]);
         }
     }
     job
@@ -755,8 +761,18 @@ fn tight(r: &mut Random, set: fn(&mut Job, u32, u32, &mut Random)) -> Job {
 
 /// Just outside the bound on both sides, NaNs, infinities, and others far outside.
 const BEYOND: [u32; 12] = [
-    0x4980_0001, 0xc980_0001, 0x7fc0_0000, 0x7f80_0000, 0xff80_0000, 0xff7f_ffff, 0x7f80_0001, 0xffc0_0000,
-    0x4a00_0000, 0xca00_0000, 0x7f7f_ffff, 0xffff_ffff,
+    0x4980_0001,
+    0xc980_0001,
+    0x7fc0_0000,
+    0x7f80_0000,
+    0xff80_0000,
+    0xff7f_ffff,
+    0x7f80_0001,
+    0xffc0_0000,
+    0x4a00_0000,
+    0xca00_0000,
+    0x7f7f_ffff,
+    0xffff_ffff,
 ];
 
 fn count_zero(r: &mut Random) -> Job {
@@ -777,7 +793,8 @@ fn first_beyond(r: &mut Random) -> Job {
 
 fn size_beyond(r: &mut Random) -> Job {
     let mut job = soup(r);
-    let special = [below(LEAST_SIZE), above(MOST_SIZE), 0.0, f32::NAN, -1.0, f32::INFINITY, -LEAST_SIZE, -0.0, f32::from_bits(1)];
+    let special =
+        [below(LEAST_SIZE), above(MOST_SIZE), 0.0, f32::NAN, -1.0, f32::INFINITY, -LEAST_SIZE, -0.0, f32::from_bits(1)];
     job.grid.size[r.below(3) as usize] = r.turn(&special);
     job
 }
@@ -833,8 +850,10 @@ fn at_limit(r: &mut Random, which: u32) -> Job {
     let over = r.turn(&[0, 1, 0]);
     match which {
         0 => {
-            let count = r.pick(&[[8, 8, 8], [512, 1, 1], [1, 512, 1], [1, 1, 512], [2, 16, 16], [4, 128, 1], [32, 1, 16]]);
-            job.grid.count = if over == 1 { r.pick(&[[513, 1, 1], [1, 27, 19], [9, 57, 1], [3, 9, 19]]) } else { count };
+            let count =
+                r.pick(&[[8, 8, 8], [512, 1, 1], [1, 512, 1], [1, 1, 512], [2, 16, 16], [4, 128, 1], [32, 1, 16]]);
+            job.grid.count =
+                if over == 1 { r.pick(&[[513, 1, 1], [1, 27, 19], [9, 57, 1], [3, 9, 19]]) } else { count };
             let mesh = shapes::soup(r, -1.0, span(&job.grid), 1);
             job.vertices = mesh.vertices.iter().map(|v| place(&job.grid, *v)).collect();
         }
@@ -858,7 +877,10 @@ fn at_limit(r: &mut Random, which: u32) -> Job {
 fn beyond_limits(r: &mut Random) -> Job {
     let mut job = soup(r);
     match r.below(4) {
-        0 => job.grid.count = r.pick(&[[1_024, 1, 1], [1_025, 1, 1], [1_024, 1_024, 1], [102, 102, 100], [1, 1, u32::MAX]]),
+        0 => {
+            job.grid.count =
+                r.pick(&[[1_024, 1, 1], [1_025, 1, 1], [1_024, 1_024, 1], [102, 102, 100], [1, 1, u32::MAX]])
+        }
         1 => job.vertices = vec![[0.0; 3]; r.pick(&[257, 300, 1_000])],
         2 => job.indices = Some(vec![0; r.pick(&[769, 1_000, 3_000])]),
         _ => job.queue = r.pick(&[2_049, 4_096, 1 << 31, u32::MAX]),
@@ -908,7 +930,8 @@ fn document_01(r: &mut Random) -> Job {
         3 => (job.grid.count, job.pops) = ([2, 1, 1], 1),
         4 => {
             job.grid.first = [0.0; 3];
-            job.vertices = vec![[0.0; 3], [0.0; 3], [f32::from_bits(27 << 23), 0.0, 0.0]]; // 2^-100
+            job.vertices = vec![[0.0; 3], [0.0; 3], [f32::from_bits(27 << 23), 0.0, 0.0]];
+            // 2^-100
         }
         5 => (job.indices, job.queue) = (Some(vec![]), 0),
         _ => (job.grid.count, job.queue, job.pops) = ([2, 1, 1], 2, 2),

@@ -82,12 +82,21 @@ fn geometry_case(r: &mut Random, met: &mut Met) {
     let p = point(style, r);
     let [a, b, c] = triangle(style, r);
     let case = (p, a, b, c);
-    hold("closest_point_triangle",
-         same_point(probe::closest_point_triangle(&p, &a, &b, &c), geometry::closest_point(p, [a, b, c])), case);
-    hold("closest_point_segment",
-         same_point(probe::closest_point_segment(&p, &a, &b), geometry::closest_on_segment(p, a, b)), case);
-    hold("point_triangle_distance",
-         same(probe::point_triangle_distance(&p, &a, &b, &c), geometry::distance(p, [a, b, c])), case);
+    hold(
+        "closest_point_triangle",
+        same_point(probe::closest_point_triangle(&p, &a, &b, &c), geometry::closest_point(p, [a, b, c])),
+        case,
+    );
+    hold(
+        "closest_point_segment",
+        same_point(probe::closest_point_segment(&p, &a, &b), geometry::closest_on_segment(p, a, b)),
+        case,
+    );
+    hold(
+        "point_triangle_distance",
+        same(probe::point_triangle_distance(&p, &a, &b, &c), geometry::distance(p, [a, b, c])),
+        case,
+    );
     let distance = geometry::distance(p, [a, b, c]);
     met.nan_distances += u64::from(distance.is_nan());
     met.infinite_distances += u64::from(distance.is_infinite());
@@ -145,10 +154,15 @@ fn grid_case(r: &mut Random, met: &mut Met) {
         let back = theirs.get_cell_integer_coordinates(index).map(|n| n as u32);
         hold("get_cell_integer_coordinates", back == cell && ours.coordinates(index as u32) == cell, (case, cell));
     }
-    let (made, model_made) = (Grid::from_bounding_box(&near, &far, count.map(|n| n as usize)),
-                              grid::Grid::from_bounding_box(near, far, count));
-    hold("from_bounding_box", same_point(made.get_first_cell(), model_made.first)
-         && same_point(made.get_cell_size(), model_made.size), (near, far, count));
+    let (made, model_made) = (
+        Grid::from_bounding_box(&near, &far, count.map(|n| n as usize)),
+        grid::Grid::from_bounding_box(near, far, count),
+    );
+    hold(
+        "from_bounding_box",
+        same_point(made.get_first_cell(), model_made.first) && same_point(made.get_cell_size(), model_made.size),
+        (near, far, count),
+    );
 }
 
 fn main() {
