@@ -13,10 +13,10 @@ use Rattle.point.specs.declared.Axis.{Axis}
 use Rattle.point.specs.declared.Axis.the-variants.{X, Y, Z}
 use Rattle.grid.specs.declared.Grid.{Grid}
 use Rattle.grid.specs.declared.Cell.{Cell}
-use Rattle.grid.specs.Axes.{countOn, firstOn, sizeOn, cellOn}
+use Rattle.grid.specs.Axes.{countOn, sizeOn, cellOn}
 use Rattle.grid.specs.Index.{Inside, cellAt, total}
 use Rattle.grid.specs.Bounds.{inBounds}
-use Rattle.grid.specs.Place.{centreOn, centreOf}
+use Rattle.grid.specs.Place.{centreOf}
 use Rattle.grid.proofs.Facts.{bounds-of, on-axis}
 use Rattle.geo.specs.declared.ray.Three.{Three}
 use Rattle.geo.specs.declared.ray.RayHit.{RayHit}
@@ -29,7 +29,7 @@ use Rattle.lists.proofs.Table.{is-table}
 use Rattle.mesh.specs.declared.Corners.{Corners}
 use Rattle.mesh.specs.Mesh.{Mesh, trianglesIn, cornersAt}
 use Rattle.run.specs.Signs.{axisAt, rayFrom, reaches, crosses, crossings, crossingsAt, allCrossings}
-use Rattle.crossing.specs.Lines.{next, uOf, vOf, cellFrom, entryOf}
+use Rattle.crossing.specs.Lines.{next, uOf, vOf, centreAlong, cellFrom, entryOf}
 use Rattle.crossing.specs.Pass.{Grown, same, onLine, lineCrossed, hitOn, crossedBy, mayHit, ahead, threeAt, Across, rowHit, castHit}
 use Rattle.crossing.proofs.Entries.{inside-on, inside-at, entry-at}
 use Rattle.crossing.proofs.Grown.{grown-as, axis-as}
@@ -70,18 +70,18 @@ hit-grown g axis u v last t b h e s =
 
 pub in-parts-on : (g : Grid) (t : Corners) (axis : Axis) (u v : ℕ)
     → (let f = castOf axis (t .a) (t .b) (t .c) in
-    rayOf (acrossZ f (centreOn (firstOn (next (next axis)) g) (sizeOn (next (next axis)) g) v)) (acrossY f (centreOn (firstOn (next axis) g) (sizeOn (next axis) g) u)) (alongX f (centreOn (firstOn axis g) (sizeOn axis g) 0)) ≡ hitOn g t axis u v)
+    rayOf (acrossZ f (centreAlong g (next (next axis)) v)) (acrossY f (centreAlong g (next axis) u)) (alongX f (centreAlong g axis 0)) ≡ hitOn g t axis u v)
 unfolding hitOn centreOf
 in-parts-on g t X u v = in-parts (centreOf g (cellFrom X 0 u v)) (t .a) (t .b) (t .c) X
 in-parts-on g t Y u v = in-parts (centreOf g (cellFrom Y 0 u v)) (t .a) (t .b) (t .c) Y
 in-parts-on g t Z u v = in-parts (centreOf g (cellFrom Z 0 u v)) (t .a) (t .b) (t .c) Z
 
 pub cast-hits : (g : Grid) (t : Corners) (axis : Axis) (z0 z1 z2 : List Float)
-    → Across (castOf axis (t .a) (t .b) (t .c)) (firstOn (next (next axis)) g) (sizeOn (next (next axis)) g) (countOn (next (next axis)) g) z0 z1 z2
+    → Across g (next (next axis)) (castOf axis (t .a) (t .b) (t .c)) (countOn (next (next axis)) g) z0 z1 z2
     → (u v : ℕ) → v < countOn (next (next axis)) g → castHit g axis (castOf axis (t .a) (t .b) (t .c)) z0 z1 z2 u v ≡ hitOn g t axis u v
 cast-hits g t axis z0 z1 z2 p u v h =
     let f = castOf axis (t .a) (t .b) (t .c) in
-    ap (λ (zs : Three). rayOf zs (acrossY f (centreOn (firstOn (next axis) g) (sizeOn (next axis) g) u)) (alongX f (centreOn (firstOn axis g) (sizeOn axis g) 0))) (p .each v h) ∙ in-parts-on g t axis u v
+    ap (λ (zs : Three). rayOf zs (acrossY f (centreAlong g (next axis) u)) (alongX f (centreAlong g axis 0))) (p .each v h) ∙ in-parts-on g t axis u v
 
 -- ---- the counts of the run
 

@@ -11,25 +11,27 @@ use lib.Seq.{getD-set-same, getD-set-other}
 use lib.Ieee.{Float, nan}
 use borrow.Author.Count.{below-more}
 use Rattle.lists.proofs.Table.{stored-at}
-use Rattle.grid.specs.Place.{centreOn}
+use Rattle.point.specs.declared.Axis.{Axis}
+use Rattle.grid.specs.declared.Grid.{Grid}
 use Rattle.geo.specs.declared.ray.Three.{Three}
 use Rattle.geo.specs.declared.ray.Cast.{Cast}
 use Rattle.geo.specs.Ray.{acrossZ}
+use Rattle.crossing.specs.Lines.{centreAlong}
 use Rattle.crossing.specs.Pass.{threeAt, mayHit, Across, Marked}
 
 -- ---- the parts of the weights
 
-pub across-none : (f : Cast) (first size : Float) (z0 z1 z2 : List Float) → Across f first size 0 z0 z1 z2
-across-none f first size z0 z1 z2 = record { each = λ v h. absurd (not-suc-le-zero h) }
+pub across-none : (g : Grid) (axis : Axis) (f : Cast) (z0 z1 z2 : List Float) → Across g axis f 0 z0 z1 z2
+across-none g axis f z0 z1 z2 = record { each = λ v h. absurd (not-suc-le-zero h) }
 
-pub across-more : (f : Cast) (first size : Float) (i : ℕ) (z0 z1 z2 : List Float) (part : Three) → i < length z0 → i < length z1 → i < length z2
-    → part ≡ acrossZ f (centreOn first size i) → Across f first size i z0 z1 z2 → Across f first size (i + 1) (set z0 i (part .v0)) (set z1 i (part .v1)) (set z2 i (part .v2))
-across-more f first size i z0 z1 z2 part h0 h1 h2 e s = record { each = λ v h. go v h (ℕ-discrete v i) }
+pub across-more : (g : Grid) (axis : Axis) (f : Cast) (i : ℕ) (z0 z1 z2 : List Float) (part : Three) → i < length z0 → i < length z1 → i < length z2
+    → part ≡ acrossZ f (centreAlong g axis i) → Across g axis f i z0 z1 z2 → Across g axis f (i + 1) (set z0 i (part .v0)) (set z1 i (part .v1)) (set z2 i (part .v2))
+across-more g axis f i z0 z1 z2 part h0 h1 h2 e s = record { each = λ v h. go v h (ℕ-discrete v i) }
   where
-    go : (v : ℕ) → v < i + 1 → Dec (v ≡ i) → threeAt (set z0 i (part .v0)) (set z1 i (part .v1)) (set z2 i (part .v2)) v ≡ acrossZ f (centreOn first size v)
+    go : (v : ℕ) → v < i + 1 → Dec (v ≡ i) → threeAt (set z0 i (part .v0)) (set z1 i (part .v1)) (set z2 i (part .v2)) v ≡ acrossZ f (centreAlong g axis v)
     go v h (yes q) =
         rw (stored-at nan z0 i v (part .v0) h0 q, stored-at nan z1 i v (part .v1) h1 q, stored-at nan z2 i v (part .v2) h2 q)
-        (e ∙ ap (λ (k : ℕ). acrossZ f (centreOn first size k)) (sym q))
+        (e ∙ ap (λ (k : ℕ). acrossZ f (centreAlong g axis k)) (sym q))
     go v h (no q) =
         rw (getD-set-other z0 i v (part .v0) nan q, getD-set-other z1 i v (part .v1) nan q, getD-set-other z2 i v (part .v2) nan q) (s .each v (omega arith))
 

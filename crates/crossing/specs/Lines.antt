@@ -2,12 +2,14 @@
 -- the ray test reads the coordinates, so that what is said of one axis is said of all three. "3 × cells (x, y, z of each cell in turn)"
 -- (document 01): of the three numbers of a cell the axis has one, its entry. Definitions only.
 use Prim.Native.Nat.{ℕ, _+_, _*_}
+use lib.Ieee.{Float}
 use Rattle.point.specs.declared.Axis.{Axis}
 use Rattle.point.specs.declared.Axis.the-variants.{X, Y, Z}
 use Rattle.grid.specs.declared.Grid.{Grid}
 use Rattle.grid.specs.declared.Cell.{Cell}
-use Rattle.grid.specs.Axes.{countOn, cellOn, cell}
+use Rattle.grid.specs.Axes.{countOn, firstOn, sizeOn, cellOn, cell}
 use Rattle.grid.specs.Index.{indexOf}
+use Rattle.grid.specs.Place.{centreOn}
 
 -- the axis after this one; u counts along the next, v along the one after that
 abbrev pub next : Axis → Axis
@@ -20,6 +22,10 @@ uOf axis c = cellOn (next axis) c
 
 abbrev pub vOf : Axis → Cell → ℕ
 vOf axis c = cellOn (next (next axis)) c
+
+-- the centre of cell i on the axis
+abbrev pub centreAlong : Grid → Axis → ℕ → Float
+centreAlong g axis i = centreOn (firstOn axis g) (sizeOn axis g) i
 
 -- cell number n of line (u, v)
 abbrev pub cellFrom : Axis → ℕ → ℕ → ℕ → Cell

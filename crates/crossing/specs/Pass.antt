@@ -10,9 +10,9 @@ use Rattle.float.specs.Arith.{_⊖_, _≺_, f0}
 use Rattle.point.specs.declared.Axis.{Axis}
 use Rattle.grid.specs.declared.Grid.{Grid}
 use Rattle.grid.specs.declared.Cell.{Cell}
-use Rattle.grid.specs.Axes.{firstOn, sizeOn, cellOn}
+use Rattle.grid.specs.Axes.{sizeOn, cellOn}
 use Rattle.grid.specs.Index.{Inside}
-use Rattle.grid.specs.Place.{centreOn, centreOf}
+use Rattle.grid.specs.Place.{centreOf}
 use Rattle.geo.specs.declared.ray.Three.{Three}
 use Rattle.geo.specs.declared.ray.Cast.{Cast}
 use Rattle.geo.specs.declared.ray.RayHit.{RayHit}
@@ -20,7 +20,7 @@ use Rattle.geo.specs.declared.ray.RayHit.the-variants.{Miss, Hit}
 use Rattle.geo.specs.Ray.{allBelow, allAbove, acrossZ, acrossY, alongX, rayOf, rayAligned}
 use Rattle.mesh.specs.declared.Corners.{Corners}
 use Rattle.run.specs.Signs.{reaches}
-use Rattle.crossing.specs.Lines.{next, uOf, vOf, cellFrom, placeOf, entryOf}
+use Rattle.crossing.specs.Lines.{next, uOf, vOf, centreAlong, cellFrom, placeOf, entryOf}
 
 -- ---- entries that grow by one
 
@@ -76,8 +76,8 @@ ahead Miss = true
 ahead (Hit t) = f0 ≺ t
 
 -- the parts of the weights on the lines of a row, worked out once for a triangle
-pub record Across (f : Cast) (first size : Float) (count : ℕ) (z0 z1 z2 : List Float) : Type 0 where
-  pub each : (v : ℕ) → v < count → threeAt z0 z1 z2 v ≡ acrossZ f (centreOn first size v)
+pub record Across (g : Grid) (axis : Axis) (f : Cast) (count : ℕ) (z0 z1 z2 : List Float) : Type 0 where
+  pub each : (v : ℕ) → v < count → threeAt z0 z1 z2 v ≡ acrossZ f (centreAlong g axis v)
 
 -- the lines of a row that may be hit are marked
 pub record Marked (z0 z1 z2 : List Float) (ys : Three) (count : ℕ) (flags : List Bool) : Type 0 where
@@ -90,4 +90,4 @@ rowHit z0 z1 z2 ys xs v = rayOf (threeAt z0 z1 z2 v) ys xs
 -- the answers on all lines along the axis, from the triangle made ready and those parts
 abbrev pub castHit : Grid → Axis → Cast → List Float → List Float → List Float → ℕ → ℕ → RayHit
 castHit g axis f z0 z1 z2 u v =
-    rowHit z0 z1 z2 (acrossY f (centreOn (firstOn (next axis) g) (sizeOn (next axis) g) u)) (alongX f (centreOn (firstOn axis g) (sizeOn axis g) 0)) v
+    rowHit z0 z1 z2 (acrossY f (centreAlong g (next axis) u)) (alongX f (centreAlong g axis 0)) v

@@ -6,12 +6,12 @@ use grid::Grid;
 use point::Axis;
 ghost use mathlib.Core.Path.{_≡_};
 ghost use mathlib.Core.Bool.{true};
-ghost use Prim.Native.Nat.{_*_};
+ghost use Prim.Native.Nat.{_*_, _^_, _<_};
 ghost use Rattle.grid.specs.Index.{Inside};
 ghost use Rattle.grid.specs.Bounds.{inBounds};
 ghost use Rattle.crossing.specs.Lines as Lines;
 
-// The axis that comes after this one, round and round.
+// The axis that comes after this one, round and round. Along it u counts.
 pub fn next(axis: Axis) -> Axis
     ensures { λ r. ⌜ r ≡ Lines.next axis ⌝ }
 {
@@ -20,6 +20,27 @@ pub fn next(axis: Axis) -> Axis
         Axis::Y => Axis::Z,
         Axis::Z => Axis::X,
     }
+}
+
+// The axis after the next, along which v counts.
+pub fn second(axis: Axis) -> Axis
+    ensures { λ r. ⌜ r ≡ Lines.next (Lines.next axis) ⌝ }
+{
+    match axis {
+        Axis::X => Axis::Z,
+        Axis::Y => Axis::X,
+        Axis::Z => Axis::Y,
+    }
+}
+
+// The centre of cell i on the axis.
+pub fn centre(grid: Grid, axis: Axis, i: u32) -> f32
+    requires { ⌜ i < 2 ^ 16 ⌝ }
+    ensures { λ r. ⌜ r ≡ Lines.centreAlong grid axis i ⌝ }
+{
+    let first = grid.first_cell;
+    let size = grid.cell_size;
+    grid::centre_on(first.get(axis), size.get(axis), i)
 }
 
 // Cell number n of line (u, v).

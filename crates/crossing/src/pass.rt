@@ -49,23 +49,24 @@ fn may_hit(zs: Three, ys: Three) -> bool
     below | above
 }
 
-// The parts of the weights that depend on v, for every line of a row.
+// The parts of the weights that depend on v, for every line of a row. The axis is that along which v counts.
 fn fill_across(
+    grid: Grid,
+    axis: Axis,
     cast: Cast,
-    first: f32,
-    size: f32,
-    count: u32,
     z0: &mut [f32],
     z1: &mut [f32],
     z2: &mut [f32],
 )
-    requires { ⌜ (count ≤ length (now z0)) × (count ≤ length (now z1)) × (count ≤ length (now z2)) × (count < 2 ^ 16) ⌝ }
-    ensures { λ _. ⌜ Across cast first size count (now (z0 .exit)) (now (z1 .exit)) (now (z2 .exit)) ⌝ }
+    requires { ⌜ inBounds grid ≡ true ⌝ }
+    requires { ⌜ (1024 ≤ length (now z0)) × (1024 ≤ length (now z1)) × (1024 ≤ length (now z2)) ⌝ }
+    ensures { λ _. ⌜ Across grid axis cast (countOn axis grid) (now (z0 .exit)) (now (z1 .exit)) (now (z2 .exit)) ⌝ }
 {
+    let count = grid.count_on(axis);
     let mut i: u32 = 0;
     while i < count {
         let at = i as usize;
-        let part = ray::across_z(cast, grid::centre_on(first, size, i));
+        let part = ray::across_z(cast, lines::centre(grid, axis, i));
         z0[at] = part.v0;
         z1[at] = part.v1;
         z2[at] = part.v2;
@@ -150,7 +151,7 @@ fn cross_marked(
     requires { ⌜ Room 2 (now crossings) ⌝ }
     ensures { λ _. ⌜ Grown grid (rowCrossed grid axis u (rowHit (now (z0 .entry)) (now (z1 .entry)) (now (z2 .entry)) ys xs)) (now (crossings .entry)) (now (crossings .exit)) ⌝ }
 {
-    let count = grid.count_on(lines::next(lines::next(axis)));
+    let count = grid.count_on(lines::second(axis));
     let mut v: u32 = 0;
     while v < count {
         let at = v as usize;
@@ -181,7 +182,7 @@ fn cross_row(
     requires { ⌜ Room 2 (now crossings) ⌝ }
     ensures { λ _. ⌜ Grown grid (rowCrossed grid axis u (rowHit (now (z0 .entry)) (now (z1 .entry)) (now (z2 .entry)) ys xs)) (now (crossings .entry)) (now (crossings .exit)) ⌝ }
 {
-    let count = grid.count_on(lines::next(lines::next(axis))) as usize;
+    let count = grid.count_on(lines::second(axis)) as usize;
     let any = mark_row(z0, z1, z2, ys, count, flags);
     if any {
         cross_marked(grid, axis, u, z0, z1, z2, ys, xs, flags, crossings);
@@ -205,16 +206,12 @@ fn cross_rows(
     requires { ⌜ Room 3 (now crossings) ⌝ }
     ensures { λ _. ⌜ Grown grid (axisCrossed grid axis (castHit grid axis cast (now (z0 .entry)) (now (z1 .entry)) (now (z2 .entry)))) (now (crossings .entry)) (now (crossings .exit)) ⌝ }
 {
-    let first = grid.first_cell;
-    let size = grid.cell_size;
+    let xs = ray::along_x(cast, lines::centre(grid, axis, 0));
     let across = lines::next(axis);
-    let xs = ray::along_x(cast, grid::centre_on(first.get(axis), size.get(axis), 0));
-    let first_u = first.get(across);
-    let size_u = size.get(across);
     let count = grid.count_on(across);
     let mut u: u32 = 0;
     while u < count {
-        let ys = ray::across_y(cast, grid::centre_on(first_u, size_u, u));
+        let ys = ray::across_y(cast, lines::centre(grid, across, u));
         cross_row(grid, axis, u, z0, z1, z2, ys, xs, flags, crossings);
         u += 1;
     }
@@ -237,19 +234,8 @@ fn cross_along(
     requires { ⌜ Room 3 (now crossings) ⌝ }
     ensures { λ _. ⌜ Grown grid (axisCrossed grid axis (hitOn grid t axis)) (now (crossings .entry)) (now (crossings .exit)) ⌝ }
 {
-    let first = grid.first_cell;
-    let size = grid.cell_size;
-    let across = lines::next(lines::next(axis));
     let cast = ray::cast_of(axis, t.a, t.b, t.c);
-    fill_across(
-        cast,
-        first.get(across),
-        size.get(across),
-        grid.count_on(across),
-        z0,
-        z1,
-        z2,
-    );
+    fill_across(grid, lines::second(axis), cast, z0, z1, z2);
     cross_rows(grid, axis, cast, z0, z1, z2, flags, crossings);
 }
 

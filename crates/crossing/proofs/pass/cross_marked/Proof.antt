@@ -3,9 +3,8 @@
 use borrow.Author.Needs.{needs}
 use Prim.Native.Nat.{ℕ, _+_, _-_, _≤_, _<_}
 use native.Mathlib.Omega.{arith}
-use mathlib.Core.Path.{_≡_, refl, sym, ap, _∙_, subst}
+use mathlib.Core.Path.{_≡_, refl, sym, ap, _∙_}
 use mathlib.Core.Bool.{_&&_}
-use mathlib.Core.List.{List}
 use mathlib.Core.Logic.{⊎-elim}
 use lib.Dec.{ltb}
 use lib.ListN.{length}
@@ -28,33 +27,30 @@ Inv-loop grid axis u z0 z1 z2 ys xs flags crossings₀ count v₀ crossings v =
 abbrev μ-loop : tie.MeasureT-loop
 μ-loop grid axis u z0 z1 z2 ys xs flags crossings₀ count v₀ crossings v = count - v
 
--- the row is as long as the lines' second number goes
-counted : (c : tie.After-count-on Inv-loop μ-loop) →
-    let a = c .before .before .before .before .before .before .before .before .args in
-    c .count-on .result ≡ countOn (next (next (a .axis))) (a .grid)
-counted c =
-    let a = c .before .before .before .before .before .before .before .before .args in
-    c .count-on .ensures ∙ ap (λ x. countOn x (a .grid)) (c .before .next2 .ensures ∙ ap next (c .before .before .next .ensures))
+-- the function's entry, and the answer on each line of the row
+abbrev entry : tie.After-count-on Inv-loop μ-loop → tie.Start Inv-loop μ-loop
+entry c = c .before .before .before .before .before .before .before
 
--- a row has at most 1,024 lines
+abbrev hits : tie.After-count-on Inv-loop μ-loop → ℕ → RayHit
+hits c = let a = entry c .args in rowHit (a .z0 .now) (a .z1 .now) (a .z2 .now) (a .ys) (a .xs)
+
+-- the row is as long as the lines' second number goes, at most 1,024
+counted : (c : tie.After-count-on Inv-loop μ-loop) → c .count-on .result ≡ countOn (next (next (entry c .args .axis))) (entry c .args .grid)
+counted c = c .count-on .ensures ∙ ap (λ x. countOn x (entry c .args .grid)) (c .before .second .ensures)
+
 short : (c : tie.In-loop Inv-loop μ-loop) → c .before .loop .v < 1024
 short c =
-    let s = c .before .before .before .before .before .before .before .before .before .before in
+    let s = entry (c .before .before) in
     omega (arith, counted (c .before .before), on-axis (bounds-of (s .args .grid) (s .pre .0)) (next (next (s .args .axis))) .few)
 
-next-requires : tie.Need-next-requires Inv-loop μ-loop
-next-requires c κs = search needs
-
-next-requires-2 : tie.Need-next-requires-2 Inv-loop μ-loop
-next-requires-2 c κs = search needs
+second-requires : tie.Need-second-requires Inv-loop μ-loop
+second-requires c κs = search needs
 
 count-on-requires : tie.Need-count-on-requires Inv-loop μ-loop
 count-on-requires c κs = search needs
 
 loop-holds : tie.Need-loop-holds Inv-loop μ-loop
-loop-holds c =
-    let a = c .before .before .before .before .before .before .before .before .args in
-    (omega arith, refl, row-none (a .grid) (a .axis) (a .u) (rowHit (a .z0 .now) (a .z1 .now) (a .z2 .now) (a .ys) (a .xs)) (a .crossings .now))
+loop-holds c = let a = entry c .args in (omega arith, refl, row-none (a .grid) (a .axis) (a .u) (hits c) (a .crossings .now))
 
 cast-at : tie.Need-cast-at Inv-loop μ-loop
 cast-at c = search needs
@@ -70,15 +66,31 @@ ray-of-requires c κs = search needs
 
 cross-line-requires : tie.Need-cross-line-requires Inv-loop μ-loop
 cross-line-requires c κs =
-    let s = c .before .before .before .before .before .before .before .before .before .before .before .before .before .before .before in
-    let a = s .args in
-    let l = c .before .before .before .before .before .before .loop in
-    let t = c .before .before .three-at .result in
+    let p = c .before .before .before .before .before .before in
+    let s = entry (p .before) in
     (s .pre .0,
-    ((s .pre .1 .0 .0, omega (arith, counted (c .before .before .before .before .before .before .before))),
-    (ap ahead (c .before .ray-of .ensures) ∙ hit-ahead t (a .ys) (a .xs),
-    (l .inv .1 ∙ s .pre .1 .1 .1 .0,
-    room-after 1 2 refl (s .pre .1 .1 .1 .0) (s .pre .1 .1 .1 .1) (l .inv .2)))))
+    ((s .pre .1 .0 .0, omega (arith, counted (p .before))),
+    (ap ahead (c .before .ray-of .ensures) ∙ hit-ahead (c .before .before .three-at .result) (s .args .ys) (s .args .xs),
+    (p .loop .inv .1 ∙ s .pre .1 .1 .1 .0,
+    room-after 1 2 refl (s .pre .1 .1 .1 .0) (s .pre .1 .1 .1 .1) (p .loop .inv .2)))))
+
+-- line v is crossed, whether it was marked or not
+crossed : (c : tie.Joined1 Inv-loop μ-loop) →
+    let p = c .before .before .before in
+    let a = entry (p .before) .args in
+    Grown (a .grid) (lineCrossed (a .grid) (a .axis) (a .u) (p .loop .v) (hits (p .before) (p .loop .v))) (p .loop .crossings) (c .if1 .crossings)
+crossed c =
+    let p = c .before .before .before in
+    let s = entry (p .before) in
+    let a = s .args in
+    let v = p .loop .v in
+    let zs = threeAt (a .z0 .now) (a .z1 .now) (a .z2 .now) v in
+    ⊎-elim
+    (λ w. let e = w .2 .ensures ∙ ap (λ (t : Three). rayOf t (a .ys) (a .xs)) (w .1 .ensures) in rw (w .7) (rw e at (w .4 .ensures)))
+    (λ w.
+    let missed = must-miss zs (a .ys) (a .xs) (sym (s .pre .1 .1 .0 .each v (omega (arith, counted (p .before)))) ∙ w .0 .left) in
+    rw (w .1) (line-missed (a .grid) (a .axis) (a .u) v (hits (p .before) v) (p .loop .crossings) missed))
+    (c .if1 .came)
 
 add-v : tie.Need-add-v Inv-loop μ-loop
 add-v c = search needs
@@ -86,39 +98,23 @@ add-v c = search needs
 loop-less : tie.Need-loop-less Inv-loop μ-loop
 loop-less c = omega arith
 
--- line v is crossed, whether it was marked or not
-crossed : (c : tie.Joined1 Inv-loop μ-loop) →
-    let a = c .before .before .before .before .before .before .before .before .before .before .before .before .args in
-    let l = c .before .before .before .loop in
-    Grown (a .grid) (lineCrossed (a .grid) (a .axis) (a .u) (l .v) (rowHit (a .z0 .now) (a .z1 .now) (a .z2 .now) (a .ys) (a .xs) (l .v))) (l .crossings) (c .if1 .crossings)
-crossed c =
-    let s = c .before .before .before .before .before .before .before .before .before .before .before .before in
-    let a = s .args in
-    let l = c .before .before .before .loop in
-    let zs = threeAt (a .z0 .now) (a .z1 .now) (a .z2 .now) (l .v) in
-    ⊎-elim
-    (λ w. let e = w .2 .ensures ∙ ap (λ (t : Three). rayOf t (a .ys) (a .xs)) (w .1 .ensures) in rw (w .7) (rw e at (w .4 .ensures)))
-    (λ w.
-    let missed = must-miss zs (a .ys) (a .xs) (sym (s .pre .1 .1 .0 .each (l .v) (omega (arith, counted (c .before .before .before .before)))) ∙ w .0 .left) in
-    rw (w .1) (line-missed (a .grid) (a .axis) (a .u) (l .v) (rayOf zs (a .ys) (a .xs)) (l .crossings) missed))
-    (c .if1 .came)
-
 loop-again : tie.Need-loop-again Inv-loop μ-loop
 loop-again c =
-    let a = c .before .before .before .before .before .before .before .before .before .before .before .before .args in
-    let l = c .before .before .before .loop in
+    let p = c .before .before .before in
+    let a = entry (p .before) .args in
+    let l = p .loop in
     let test = c .before .before .loop-test .taken in
-    let done = crossed c in
-    (omega arith, done .long ∙ l .inv .1, row-more (a .grid) (a .axis) (a .u) (l .v) (rowHit (a .z0 .now) (a .z1 .now) (a .z2 .now) (a .ys) (a .xs)) (l .inv .2) done)
+    let line = crossed c in
+    (omega arith, line .long ∙ l .inv .1, row-more (a .grid) (a .axis) (a .u) (l .v) (hits (p .before)) (l .inv .2) line)
 
 same-length : tie.Need-same-length Inv-loop μ-loop
 same-length c = omega arith
 
 returns : tie.Need-returns Inv-loop μ-loop
 returns c =
-    let a = c .before .before .before .before .before .before .before .before .before .before .args in
-    let l = c .before .loop in
-    row-all (a .grid) (a .axis) (a .u) (l .v) (rowHit (a .z0 .now) (a .z1 .now) (a .z2 .now) (a .ys) (a .xs)) (omega (arith, counted (c .before .before))) (l .inv .2)
+    let p = c .before in
+    let a = entry (p .before) .args in
+    row-all (a .grid) (a .axis) (a .u) (p .loop .v) (hits (p .before)) (omega (arith, counted (p .before))) (p .loop .inv .2)
 
 pub cross-marked-spec : {M : Type 1} → statement M
 cross-marked-spec =
@@ -126,8 +122,7 @@ cross-marked-spec =
     (tie.spec
     Inv-loop
     μ-loop
-    next-requires
-    next-requires-2
+    second-requires
     count-on-requires
     loop-holds
     cast-at
