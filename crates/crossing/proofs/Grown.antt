@@ -190,6 +190,10 @@ axis-all g axis u hit h s =
     grown-as (λ a c w. ap (λ (b : Bool). b && axisCrossed g axis hit a c) (lt-ltb (uOf axis c) u (omega (arith, inside-on g w (next axis))))) s
 
 -- other answers that are the same on the grid's lines
+pub row-as : (g : Grid) (axis : Axis) (u : ℕ) (p q : ℕ → RayHit) {l m : List ℕ} → ((v : ℕ) → p v ≡ q v) → Grown g (rowCrossed g axis u p) l m → Grown g (rowCrossed g axis u q) l m
+row-as g axis u p q h s =
+    grown-as (λ a c w. ap (λ (r : RayHit). (same a axis && eqb (uOf axis c) u) && reaches (sizeOn axis g) (cellOn axis c) r) (h (vOf axis c))) s
+
 pub axis-as : (g : Grid) (axis : Axis) (p q : ℕ → ℕ → RayHit) {l m : List ℕ} → ((u v : ℕ) → v < countOn (next (next axis)) g → p u v ≡ q u v)
     → Grown g (axisCrossed g axis p) l m → Grown g (axisCrossed g axis q) l m
 axis-as g axis p q h s =
