@@ -27,6 +27,9 @@ use Rattle.crossing.proofs.Entries.{on-its-line, line-number, line-u, l
 
 -- ---- growths in general
 
+pub room-less : (n k : ℕ) (l : List ℕ) → n ≤ k → Room k l → Room n l
+room-less n k l h r i = omega (arith, r i)
+
 module _ {g : Grid} where
   pub grown-none : {test : Axis → Cell → Bool} (l : List ℕ) → ((a : Axis) (c : Cell) → Inside g c → test a c ≡ false) → Grown g test l l
   grown-none {test} l h = record { long = refl; each = λ a c w. sym (ap (λ (b : Bool). getD l (entryOf g a c) 0 + cond b 1 0) (h a c w) ∙ plus _) }

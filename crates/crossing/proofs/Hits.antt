@@ -1,11 +1,12 @@
 -- The ray of a line, from the parts that the pass works out once, and what its answer can be. Assumes nothing.
-use Prim.Native.Nat.{ℕ, _+_, _*_, _/_, _<_}
+use Prim.Native.Nat.{ℕ, _+_, _*_, _/_, _^_, _≤_, _<_}
+use native.Mathlib.Decide.{decLt}
 use native.Mathlib.Omega.{arith}
 use mathlib.Core.Path.{_≡_, refl, sym, ap, _∙_, subst}
 use mathlib.Core.Bool.{Bool, true, false, cond, _&&_, _||_}
 use mathlib.Core.List.{List}
 use lib.Dec.{leb, eqb}
-use lib.ListN.{length, getD}
+use lib.ListN.{length, getD, replicate, length-replicate, getD-replicate, List·getD-eq-default}
 use lib.Ieee.{Float}
 use Rattle.float.specs.Arith.{_⊖_, _⊘_, _≺_, f0}
 use Rattle.float.specs.Cell.{floorOf, cellOf}
@@ -24,14 +25,15 @@ use Rattle.geo.specs.declared.ray.RayHit.the-variants.{Miss, Hit}
 use Rattle.geo.specs.Ray.{allBelow, allAbove, reach, castOf, acrossZ, acrossY, alongX, rayOf}
 use Rattle.geo.proofs.Rays.{in-parts}
 use Rattle.lists.specs.Range.{countBelow}
-use Rattle.lists.proofs.Range.{count-none, count-more}
+use Rattle.lists.proofs.Range.{count-none, count-more, count-le}
 use Rattle.lists.proofs.Table.{is-table}
 use Rattle.mesh.specs.declared.Corners.{Corners}
 use Rattle.mesh.specs.Mesh.{Mesh, trianglesIn, cornersAt}
 use Rattle.run.specs.Signs.{axisAt, rayFrom, reaches, crosses, crossings, crossingsAt, allCrossings}
+use Rattle.crossing.specs.Words.{Room}
 use Rattle.crossing.specs.Lines.{next, uOf, vOf, centreAlong, cellFrom, entryOf}
 use Rattle.crossing.specs.Pass.{Grown, same, onLine, lineCrossed, hitOn, crossedBy, mayHit, ahead, threeAt, Across, rowHit, castHit}
-use Rattle.crossing.proofs.Entries.{inside-on, inside-at, entry-at}
+use Rattle.crossing.proofs.Entries.{inside-on, entry-below, inside-at, entry-at}
 use Rattle.crossing.proofs.Grown.{grown-as, axis-as}
 use Rattle.crossing.proofs.Reach.{reached}
 
@@ -95,6 +97,26 @@ crosses-by g m Z c k = refl
 pub record Counted (g : Grid) (m : Mesh) (k : ℕ) (l : List ℕ) : Type 0 where
   pub long : length l ≡ 3 * total g
   pub each : (a : Axis) (c : Cell) → Inside g c → getD l (entryOf g a c) 0 ≡ countBelow (crosses g m a c) k
+
+pub counted-none : (g : Grid) (m : Mesh) (l : List ℕ) → l ≡ replicate (3 * total g) 0 → Counted g m 0 l
+counted-none g m l e =
+    record {
+      long = ap length e ∙ length-replicate (3 * total g) 0;
+      each = λ a c w. ap (λ (s : List ℕ). getD s (entryOf g a c) 0) e ∙ getD-replicate (3 * total g) (entryOf g a c) 0 0 (entry-below g a c w) ∙ sym (count-none (crosses g m a c));
+    }
+
+-- no count is above the number of triangles, so no sum wraps
+pub counted-room : (g : Grid) (m : Mesh) (k : ℕ) (l : List ℕ) → k ≤ 131072 → Counted g m k l → Room 5 l
+counted-room g m k l h s i = go (decLt i (3 * total g))
+  where
+    go : Dec (i < 3 * total g) → getD l i 0 + 5 < 2 ^ 32
+    go (yes w) =
+        subst (λ (j : ℕ). getD l j 0 + 5 < 2 ^ 32) (entry-at g i)
+        (omega (arith, s .each (axisAt i) (cellAt g (i / 3)) (inside-at g i w), count-le (crosses g m (axisAt i) (cellAt g (i / 3))) k))
+    go (no w) =
+        let past : length l ≤ i = omega (arith, s .long) in
+        let none : getD l i 0 ≡ 0 = List·getD-eq-default l 0 past in
+        omega arith
 
 pub counted-more : (g : Grid) (m : Mesh) (k : ℕ) {l n : List ℕ} → Counted g m k l → Grown g (crossedBy g (cornersAt m k)) l n → Counted g m (k + 1) n
 counted-more g m k s t =

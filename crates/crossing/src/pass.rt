@@ -16,7 +16,7 @@ use topology::Topology;
 ghost use mathlib.Core.Path.{_≡_};
 ghost use mathlib.Core.Bool.{true, false};
 ghost use Prim.Native.Nat.{ℕ, _*_, _^_, _<_, _≤_};
-ghost use lib.ListN.{length};
+ghost use lib.ListN.{length, replicate};
 ghost use Rattle.grid.specs.Axes.{countOn};
 ghost use Rattle.grid.specs.Index.{total};
 ghost use Rattle.grid.specs.Bounds.{inBounds};
@@ -260,6 +260,35 @@ fn cross_triangle(
     cross_along(grid, Axis::Z, t, z0, z1, z2, flags, crossings);
 }
 
+// All triangles, one after the other.
+fn cross_all(
+    grid: Grid,
+    vertices: &[f32],
+    topology: Topology,
+    given: Indices,
+    indices: &[u32],
+    z0: &mut [f32],
+    z1: &mut [f32],
+    z2: &mut [f32],
+    flags: &mut [bool],
+    crossings: &mut [u32],
+)
+    requires { ⌜ inBounds grid ≡ true ⌝ }
+    requires { ⌜ Sound (meshOf (now vertices) topology given (now indices)) ⌝ }
+    requires { ⌜ length (trianglesIn (meshOf (now vertices) topology given (now indices))) ≤ 131072 ⌝ }
+    requires { ⌜ (1024 ≤ length (now z0)) × (1024 ≤ length (now z1)) × (1024 ≤ length (now z2)) × (1024 ≤ length (now flags)) ⌝ }
+    requires { ⌜ now crossings ≡ replicate (3 * total grid) 0 ⌝ }
+    ensures { λ _. ⌜ now (crossings .exit) ≡ allCrossings grid (meshOf (now (vertices .entry)) topology given (now (indices .entry))) ⌝ }
+{
+    let n = mesh::triangle_count(vertices, topology, given, indices);
+    let mut k = 0;
+    while k < n {
+        let t = mesh::corners_at(vertices, topology, given, indices, k);
+        cross_triangle(grid, t, z0, z1, z2, flags, crossings);
+        k += 1;
+    }
+}
+
 // The whole pass. The crossings may hold anything before. The room for a row of lines is made here, once,
 // and lent down.
 pub fn cross(
@@ -281,11 +310,16 @@ pub fn cross(
     let mut z1 = [0.0f32; 1024];
     let mut z2 = [0.0f32; 1024];
     let mut flags = [false; 1024];
-    let n = mesh::triangle_count(vertices, topology, given, indices);
-    let mut k = 0;
-    while k < n {
-        let t = mesh::corners_at(vertices, topology, given, indices, k);
-        cross_triangle(grid, t, &mut z0, &mut z1, &mut z2, &mut flags, crossings);
-        k += 1;
-    }
+    cross_all(
+        grid,
+        vertices,
+        topology,
+        given,
+        indices,
+        &mut z0,
+        &mut z1,
+        &mut z2,
+        &mut flags,
+        crossings,
+    );
 }
