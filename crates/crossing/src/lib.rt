@@ -2,6 +2,6 @@
 // users call `sdf`.
 pub mod lines;
 pub mod pass;
-pub mod signs;
 pub mod rows;
+pub mod signs;
 mod words;

@@ -50,14 +50,7 @@ fn may_hit(zs: Three, ys: Three) -> bool
 }
 
 // The parts of the weights that depend on v, for every line of a row. The axis is that along which v counts.
-fn fill_across(
-    grid: Grid,
-    axis: Axis,
-    cast: Cast,
-    z0: &mut [f32],
-    z1: &mut [f32],
-    z2: &mut [f32],
-)
+fn fill_across(grid: Grid, axis: Axis, cast: Cast, z0: &mut [f32], z1: &mut [f32], z2: &mut [f32])
     requires { ⌜ inBounds grid ≡ true ⌝ }
     requires { ⌜ (1024 ≤ length (now z0)) × (1024 ≤ length (now z1)) × (1024 ≤ length (now z2)) ⌝ }
     ensures { λ _. ⌜ Across grid axis cast (countOn axis grid) (now (z0 .exit)) (now (z1 .exit)) (now (z2 .exit)) ⌝ }
@@ -75,14 +68,7 @@ fn fill_across(
 }
 
 // Marks the lines of a row that may be hit, and tells whether there are any.
-fn mark_row(
-    z0: &[f32],
-    z1: &[f32],
-    z2: &[f32],
-    ys: Three,
-    count: usize,
-    flags: &mut [bool],
-) -> bool
+fn mark_row(z0: &[f32], z1: &[f32], z2: &[f32], ys: Three, count: usize, flags: &mut [bool]) -> bool
     requires { ⌜ (count ≤ length (now z0)) × (count ≤ length (now z1)) × (count ≤ length (now z2)) × (count ≤ length (now flags)) ⌝ }
     ensures { λ r. ⌜ Marked (now (z0 .entry)) (now (z1 .entry)) (now (z2 .entry)) ys count (now (flags .exit)) ⌝ }
     ensures { λ r. ⌜ (r ≡ false → (v : ℕ) → v < count → mayHit (threeAt (now (z0 .entry)) (now (z1 .entry)) (now (z2 .entry)) v) ys ≡ false) ⌝ }

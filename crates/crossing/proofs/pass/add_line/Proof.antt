@@ -37,10 +37,13 @@ add-each-requires : tie.Need-add-each-requires
 add-each-requires c κs =
     let s = c .before .before .before .before .before in
     let a = s .args in
-    let b = s .pre .1 .0 in
-    (rw (started (c .before .before), c .before .step .ensures, s .pre .1 .1 .0) (line-within (a .grid) (a .axis) (a .u) (a .v) (a .last) (b .0) (b .1) (b .2)),
-    (rw (c .before .step .ensures) (mul-pos (lit< tt) (stride-pos (a .grid) (s .pre .0) (a .axis))),
-    s .pre .1 .1 .1))
+    let b = s .pre .1 .0 in (
+      rw (started (c .before .before), c .before .step .ensures, s .pre .1 .1 .0) (line-within (a .grid) (a .axis) (a .u) (a .v) (a .last) (b .0) (b .1) (b .2)),
+      (
+        rw (c .before .step .ensures) (mul-pos (lit< tt) (stride-pos (a .grid) (s .pre .0) (a .axis))),
+        s .pre .1 .1 .1,
+      ),
+    )
 
 same-length : tie.Need-same-length
 same-length c = search needs

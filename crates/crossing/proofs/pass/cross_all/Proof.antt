@@ -50,10 +50,13 @@ cross-triangle-requires c κs =
     let i = c .before .before .before .before .before .before in
     let l = i .before .loop in
     let s = entry (i .before .before) in
-    let long = s .pre .1 .1 .1 .0 in
-    (s .pre .0,
-    ((omega (arith, l .inv .1), omega (arith, l .inv .2), omega (arith, l .inv .3), omega (arith, l .inv .4)),
-    (l .inv .5 .long, counted-room (s .args .grid) (mesh (i .before .before)) (l .k) (l .crossings) (omega (arith, known i .1)) (l .inv .5))))
+    let long = s .pre .1 .1 .1 .0 in (
+      s .pre .0,
+      (
+        (omega (arith, l .inv .1), omega (arith, l .inv .2), omega (arith, l .inv .3), omega (arith, l .inv .4)),
+        (l .inv .5 .long, counted-room (s .args .grid) (mesh (i .before .before)) (l .k) (l .crossings) (omega (arith, known i .1)) (l .inv .5)),
+      ),
+    )
 
 -- triangle k is counted
 crossed : (c : tie.After-cross-triangle Inv-loop μ-loop) →

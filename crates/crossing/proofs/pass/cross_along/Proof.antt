@@ -21,10 +21,13 @@ cross-rows-requires : tie.Need-cross-rows-requires
 cross-rows-requires c κs =
     let f = c .before .before .before .before .before .before .before .before .before .before .before in
     let s = entry (f .before .before .before .before) in
-    let long = s .pre .1 .0 in
-    (s .pre .0,
-    (omega (arith, f .fill-across .kept),
-    (s .pre .1 .1 .0, s .pre .1 .1 .1)))
+    let long = s .pre .1 .0 in (
+      s .pre .0,
+      (
+        omega (arith, f .fill-across .kept),
+        (s .pre .1 .1 .0, s .pre .1 .1 .1),
+      ),
+    )
 
 returns : tie.Need-returns
 returns c =

@@ -47,11 +47,16 @@ add-line-requires : tie.Need-add-line-requires
 add-line-requires c κs =
     let s = c .before .before .before .before .before .before .before .before .before in
     let a = s .args in
-    let z = floorOf (c .before .before .before .before .before .before .hit .given .0 .0 ⊘ sizeOn (a .axis) (a .grid)) in
-    (s .pre .0,
-    ((s .pre .1 .0 .0, s .pre .1 .0 .1, rw (last-is (c .before)) (cell-lt (countOn (a .axis) (a .grid)) z (on-axis (bounds-of (a .grid) (s .pre .0)) (a .axis) .some))),
-    (s .pre .1 .1 .1 .0,
-    s .pre .1 .1 .1 .1)))
+    let z = floorOf (c .before .before .before .before .before .before .hit .given .0 .0 ⊘ sizeOn (a .axis) (a .grid)) in (
+      s .pre .0,
+      (
+        (s .pre .1 .0 .0, s .pre .1 .0 .1, rw (last-is (c .before)) (cell-lt (countOn (a .axis) (a .grid)) z (on-axis (bounds-of (a .grid) (s .pre .0)) (a .axis) .some))),
+        (
+          s .pre .1 .1 .1 .0,
+          s .pre .1 .1 .1 .1,
+        ),
+      ),
+    )
 
 returns : tie.Need-returns
 returns c =

@@ -67,12 +67,19 @@ ray-of-requires c κs = search needs
 cross-line-requires : tie.Need-cross-line-requires Inv-loop μ-loop
 cross-line-requires c κs =
     let p = c .before .before .before .before .before .before in
-    let s = entry (p .before) in
-    (s .pre .0,
-    ((s .pre .1 .0 .0, omega (arith, counted (p .before))),
-    (ap ahead (c .before .ray-of .ensures) ∙ hit-ahead (c .before .before .three-at .result) (s .args .ys) (s .args .xs),
-    (p .loop .inv .1 ∙ s .pre .1 .1 .1 .0,
-    room-after 1 2 refl (s .pre .1 .1 .1 .0) (s .pre .1 .1 .1 .1) (p .loop .inv .2)))))
+    let s = entry (p .before) in (
+      s .pre .0,
+      (
+        (s .pre .1 .0 .0, omega (arith, counted (p .before))),
+        (
+          ap ahead (c .before .ray-of .ensures) ∙ hit-ahead (c .before .before .three-at .result) (s .args .ys) (s .args .xs),
+          (
+            p .loop .inv .1 ∙ s .pre .1 .1 .1 .0,
+            room-after 1 2 refl (s .pre .1 .1 .1 .0) (s .pre .1 .1 .1 .1) (p .loop .inv .2),
+          ),
+        ),
+      ),
+    )
 
 -- line v is crossed, whether it was marked or not
 crossed : (c : tie.Joined1 Inv-loop μ-loop) →

@@ -29,11 +29,16 @@ cross-marked-requires c κs =
     let m = c .before .before .before .before .before in
     let s = entry (m .before .before) in
     let a = s .args in
-    let long = s .pre .1 .0 in
-    (s .pre .0,
-    ((long .0, long .1, long .2, long .3, omega (arith, m .mark-row .kept)),
-    (rw (← counted (m .before .before)) (m .mark-row .ensures .0),
-    (s .pre .1 .1 .0, s .pre .1 .1 .1))))
+    let long = s .pre .1 .0 in (
+      s .pre .0,
+      (
+        (long .0, long .1, long .2, long .3, omega (arith, m .mark-row .kept)),
+        (
+          rw (← counted (m .before .before)) (m .mark-row .ensures .0),
+          (s .pre .1 .1 .0, s .pre .1 .1 .1),
+        ),
+      ),
+    )
 
 returns-2 : tie.Need-returns-2
 returns-2 c =

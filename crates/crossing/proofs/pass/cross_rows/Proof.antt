@@ -66,10 +66,13 @@ cross-row-requires c κs =
     let p = c .before .before .before .before .before in
     let s = entry (p .before) in
     let long = s .pre .1 .0 in
-    let test = c .before .before .before .before .loop-test .taken in
-    (s .pre .0,
-    ((omega (arith, counted (p .before)), long .0, long .1, long .2, omega (arith, p .loop .inv .1)),
-    (p .loop .inv .2 ∙ s .pre .1 .1 .0, room-after 2 3 refl (s .pre .1 .1 .0) (s .pre .1 .1 .1) (p .loop .inv .3))))
+    let test = c .before .before .before .before .loop-test .taken in (
+      s .pre .0,
+      (
+        (omega (arith, counted (p .before)), long .0, long .1, long .2, omega (arith, p .loop .inv .1)),
+        (p .loop .inv .2 ∙ s .pre .1 .1 .0, room-after 2 3 refl (s .pre .1 .1 .0) (s .pre .1 .1 .1) (p .loop .inv .3)),
+      ),
+    )
 
 -- row u is crossed
 crossed : (c : tie.After-cross-row Inv-loop μ-loop) →

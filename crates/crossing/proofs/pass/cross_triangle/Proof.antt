@@ -25,10 +25,13 @@ cross-along-requires-2 : tie.Need-cross-along-requires-2
 cross-along-requires-2 c κs =
     let x = along-x c in
     let s = entry x in
-    let grown = x .cross-along .ensures in
-    (s .pre .0,
-    (omega (arith, x .cross-along .kept, s .pre .1 .0),
-    (grown .long ∙ s .pre .1 .1 .0, room-less 3 4 (x .cross-along .last .1 .1 .1 .1 .1 .1 .1 .0) (omega arith) (room-after 4 5 refl (s .pre .1 .1 .0) (s .pre .1 .1 .1) grown))))
+    let grown = x .cross-along .ensures in (
+      s .pre .0,
+      (
+        omega (arith, x .cross-along .kept, s .pre .1 .0),
+        (grown .long ∙ s .pre .1 .1 .0, room-less 3 4 (x .cross-along .last .1 .1 .1 .1 .1 .1 .1 .0) (omega arith) (room-after 4 5 refl (s .pre .1 .1 .0) (s .pre .1 .1 .1) grown)),
+      ),
+    )
 
 cross-along-requires-3 : tie.Need-cross-along-requires-3
 cross-along-requires-3 c κs =
@@ -36,10 +39,13 @@ cross-along-requires-3 c κs =
     let x = along-x (y .before) in
     let s = entry x in
     let grown = x .cross-along .ensures in
-    let long = grown .long ∙ s .pre .1 .1 .0 in
-    (s .pre .0,
-    (omega (arith, y .cross-along2 .kept, x .cross-along .kept, s .pre .1 .0),
-    (y .cross-along2 .ensures .long ∙ long, room-after 3 4 refl long (room-after 4 5 refl (s .pre .1 .1 .0) (s .pre .1 .1 .1) grown) (y .cross-along2 .ensures))))
+    let long = grown .long ∙ s .pre .1 .1 .0 in (
+      s .pre .0,
+      (
+        omega (arith, y .cross-along2 .kept, x .cross-along .kept, s .pre .1 .0),
+        (y .cross-along2 .ensures .long ∙ long, room-after 3 4 refl long (room-after 4 5 refl (s .pre .1 .1 .0) (s .pre .1 .1 .1) grown) (y .cross-along2 .ensures)),
+      ),
+    )
 
 same-length : tie.Need-same-length
 same-length c =

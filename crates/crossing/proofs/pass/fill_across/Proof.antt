@@ -76,12 +76,13 @@ loop-again c =
     let part = c .across-z .result in
     let few = short (c .before .before) in
     let test = c .before .before .loop-test .taken in
-    let long = s .pre .1 in
-    (omega arith,
-    length-set (l .z0) (l .i) (part .v0) ∙ l .inv .1,
-    length-set (l .z1) (l .i) (part .v1) ∙ l .inv .2,
-    length-set (l .z2) (l .i) (part .v2) ∙ l .inv .3,
-    across-more (a .grid) (a .axis) (a .cast) (l .i) (l .z0) (l .z1) (l .z2) part (omega arith) (omega arith) (omega arith) (c .across-z .ensures ∙ ap (acrossZ (a .cast)) (c .before .centre .ensures)) (l .inv .4))
+    let long = s .pre .1 in (
+      omega arith,
+      length-set (l .z0) (l .i) (part .v0) ∙ l .inv .1,
+      length-set (l .z1) (l .i) (part .v1) ∙ l .inv .2,
+      length-set (l .z2) (l .i) (part .v2) ∙ l .inv .3,
+      across-more (a .grid) (a .axis) (a .cast) (l .i) (l .z0) (l .z1) (l .z2) part (omega arith) (omega arith) (omega arith) (c .across-z .ensures ∙ ap (acrossZ (a .cast)) (c .before .centre .ensures)) (l .inv .4),
+    )
 
 same-length : tie.Need-same-length Inv-loop μ-loop
 same-length c = omega arith

@@ -50,11 +50,12 @@ loop-less c = omega arith
 loop-again : tie.Need-loop-again Inv-loop μ-loop
 loop-again c =
     let a = c .before .before .before .before .before .before .before .before .args in
-    let l = c .before .before .before .loop in
-    (omega arith,
-    length-set (l .flags) (l .v) (c .may-hit .result) ∙ l .inv .1,
-    marked-more (a .z0 .now) (a .z1 .now) (a .z2 .now) (a .ys) (l .v) (l .flags) (c .may-hit .result) (omega arith) (found c) (l .inv .2),
-    none-marked (λ i. mayHit (threeAt (a .z0 .now) (a .z1 .now) (a .z2 .now) i) (a .ys)) (l .any) (c .may-hit .result) (l .v) (found c) (l .inv .3))
+    let l = c .before .before .before .loop in (
+      omega arith,
+      length-set (l .flags) (l .v) (c .may-hit .result) ∙ l .inv .1,
+      marked-more (a .z0 .now) (a .z1 .now) (a .z2 .now) (a .ys) (l .v) (l .flags) (c .may-hit .result) (omega arith) (found c) (l .inv .2),
+      none-marked (λ i. mayHit (threeAt (a .z0 .now) (a .z1 .now) (a .z2 .now) i) (a .ys)) (l .any) (c .may-hit .result) (l .v) (found c) (l .inv .3),
+    )
 
 same-length : tie.Need-same-length Inv-loop μ-loop
 same-length c = omega arith
@@ -63,9 +64,10 @@ returns : tie.Need-returns Inv-loop μ-loop
 returns c =
     let a = c .before .before .before .before .before .before .args in
     let l = c .before .loop in
-    let e : l .v ≡ a .count = omega arith in
-    (subst (λ (n : ℕ). Marked (a .z0 .now) (a .z1 .now) (a .z2 .now) (a .ys) n (l .flags)) e (l .inv .2),
-    λ none i h. l .inv .3 none i (omega arith))
+    let e : l .v ≡ a .count = omega arith in (
+      subst (λ (n : ℕ). Marked (a .z0 .now) (a .z1 .now) (a .z2 .now) (a .ys) n (l .flags)) e (l .inv .2),
+      λ none i h. l .inv .3 none i (omega arith),
+    )
 
 pub mark-row-spec : {M : Type 1} → statement M
 mark-row-spec =

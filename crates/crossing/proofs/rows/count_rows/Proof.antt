@@ -65,9 +65,10 @@ add-column-requires c κs =
     let s = c .before .before .before .before .before .before .before .before .before .before .before in
     let l = c .before .before .loop in
     let n = s .args .grid .«count_z» in
-    let e = column (l .k) n in
-    (omega (arith, within (c .before), e, l .inv .1 .long, s .pre .1 .0),
-    rowed-room n (s .args .field .now) (l .k) (l .rows) (omega (arith, within (c .before), e, small s .1)) (l .inv .1))
+    let e = column (l .k) n in (
+      omega (arith, within (c .before), e, l .inv .1 .long, s .pre .1 .0),
+      rowed-room n (s .args .field .now) (l .k) (l .rows) (omega (arith, within (c .before), e, small s .1)) (l .inv .1),
+    )
 
 add-k : tie.Need-add-k Inv-loop μ-loop
 add-k c =
