@@ -35,7 +35,7 @@ lengths-found c = sym (c .wrong-lengths .ensures)
 in-range-requires : tie.Need-in-range-requires
 in-range-requires c κs =
     let v = c .before .before in
-    omega (arith, few-vertices _ (vertices-found (v .before) ∙ v .if2 .left))
+    omega (arith, few-vertices (v .before .before .before .before .before .before .args .vertices .now) (vertices-found (v .before) ∙ v .if2 .left))
 
 wrong-lengths-requires : tie.Need-wrong-lengths-requires
 wrong-lengths-requires c κs =
