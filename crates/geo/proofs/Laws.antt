@@ -1,6 +1,6 @@
 -- What callers cite of the closest point and the distance. The idea of the distance's laws: the dot of a vector with itself is a NaN or has no
 -- sign bit (point's `dot-self`), and a root of such a value is such a value (float's `root-distance`). Assumes nothing.
-use mathlib.Core.Path.{_≡_, refl, sym, ap, subst}
+use mathlib.Core.Path.{_≡_, refl, sym, subst}
 use mathlib.Core.Bool.{Bool, true, false, not, _&&_, _||_}
 use lib.Dec.{T}
 use lib.Ieee.{Float, nan, inf, fin, isNan}
@@ -10,7 +10,7 @@ use Rattle.float.specs.Distance.{Distance}
 use Rattle.float.specs.RootOf.{rootOf}
 use Rattle.float.proofs.Order.{distance-no-nan}
 use Rattle.float.proofs.Roots.{root-distance}
-use Rattle.point.specs.Point.{_-ᵥ_, _·_, _≐ᵥ_}
+use Rattle.point.specs.Point.{_-ᵥ_, _≐ᵥ_}
 use Rattle.point.specs.declared.Point.{Point}
 use Rattle.point.proofs.Squares.{dot-self}
 use Rattle.geo.specs.Closest.{closestPointSegment, closestPointEqual, facetOf, dotsOf, nearest, closestOn, closestPointTriangle}
