@@ -1,21 +1,21 @@
 -- Questions asked by themselves. A ray's reply never holds a NaN, since t > 0 fails for one; nor does a box, since its coordinates are sums and
 -- differences of finite values. Assumes nothing.
 use Prim.Native.Nat.{ℕ, zero, suc, _+_, _-_, _*_, _/_, _%_, _^_, compare}
-use mathlib.Core.Path.{_≡_, refl, sym, ap, _∙_, subst}
+use mathlib.Core.Path.{_≡_, refl, sym}
 use mathlib.Core.Bool.{Bool, true, false, cond, Bool·beq, _&&_, _||_, true≢false}
 use lib.Dec.{T, ltb}
 use lib.Ieee.{Float, nan, inf, fin, Format, binary32, low, emax, prec, up, down, size, nearest, odd, units, round, sum, add, sub, neg, lt, le, isNan, ofBits}
 use lib.Ieee.Fits.{round-is}
 use lib.Ieee.Scale.{finite}
-use Rattle.float.specs.Arith.{_⊕_, _⊖_, _≺_, f0, fMax, if_then_else_}
+use Rattle.float.specs.Arith.{_⊕_, _⊖_, _≺_, f0, if_then_else_}
 use Rattle.float.specs.Steps.{absOf, leastOf, greatestOf, finiteAtMost}
+use Rattle.float.proofs.Bools.{and-first, and-second}
 use Rattle.point.specs.Point.{turned}
 use Rattle.point.specs.declared.Point.{Point}
 use Rattle.point.specs.declared.Axis.{Axis}
 use Rattle.geo.specs.Box.{margin, leastOf3, greatestOf3, boxOf}
 use Rattle.geo.specs.Ray.{weightsX, reachX, allBelow, allAbove, reply, rayX, rayAligned}
-use Rattle.geo.specs.Asked.{bound, within, pointNan, boxNan, rayNan, Answer, answered, refused, value}
-use Rattle.geo.specs.declared.ray.RayHit.{RayHit}
+use Rattle.geo.specs.Asked.{bound, within, pointNan, boxNan, rayNan, answered, refused, value}
 use Rattle.geo.specs.declared.ray.RayHit.the-variants.{Miss, Hit}
 
 -- ---- the three answers, by the checks that led there
@@ -136,14 +136,6 @@ high-no-nan : (a b c : Float) → T (finite a) → T (finite b) → T (finite c)
 unfolding greatestOf3
 high-no-nan a b c p q r = add-no-nan (greatestOf a (greatestOf b c)) margin (greatest-finite a (greatestOf b c) p (greatest-finite b c q r)) margin-finite
 
-left : (a b : Bool) → (a && b) ≡ true → a ≡ true
-left true b h = refl
-left false b h = h
-
-right : (a b : Bool) → (a && b) ≡ true → b ≡ true
-right true b h = h
-right false b h = absurd (true≢false (sym h))
-
 pub record Finite (p : Point) : Type 0 where
   pub x : T (finite (p .x))
   pub y : T (finite (p .y))
@@ -156,9 +148,9 @@ within-finite p h =
     let j = finiteAtMost (p .y) bound in
     let k = finiteAtMost (p .z) bound in
     record {
-      x = bound-finite (p .x) (left i j (left (i && j) k h));
-      y = bound-finite (p .y) (right i j (left (i && j) k h));
-      z = bound-finite (p .z) (right (i && j) k h);
+      x = bound-finite (p .x) (and-first i j (and-first (i && j) k h));
+      y = bound-finite (p .y) (and-second i j (and-first (i && j) k h));
+      z = bound-finite (p .z) (and-second (i && j) k h);
     }
 
 -- six coordinates that are no NaN
@@ -177,5 +169,5 @@ finite-box a b c p q r =
 
 pub box-no-nan : (a b c : Point) → (within a && within b && within c) ≡ true → boxNan (boxOf a b c) ≡ false
 box-no-nan a b c h =
-    let ab = left (within a && within b) (within c) h in
-    finite-box a b c (within-finite a (left (within a) (within b) ab)) (within-finite b (right (within a) (within b) ab)) (within-finite c (right (within a && within b) (within c) h))
+    let ab = and-first (within a && within b) (within c) h in
+    finite-box a b c (within-finite a (and-first (within a) (within b) ab)) (within-finite b (and-second (within a) (within b) ab)) (within-finite c (and-second (within a && within b) (within c) h))

@@ -1,20 +1,40 @@
--- What callers cite of the distance. The idea: the dot of a vector with itself is a NaN or has no sign bit (point's `dot-self`), and a root of
--- such a value is such a value (float's `root-distance`). Assumes nothing.
-use mathlib.Core.Path.{_≡_, refl, sym, ap, subst}
-use mathlib.Core.Bool.{Bool, true, false, not}
+-- What callers cite of the closest point and the distance. The idea of the distance's laws: the dot of a vector with itself is a NaN or has no
+-- sign bit (point's `dot-self`), and a root of such a value is such a value (float's `root-distance`). Assumes nothing.
+use mathlib.Core.Path.{_≡_, refl, sym, subst}
+use mathlib.Core.Bool.{Bool, true, false, not, _&&_, _||_}
 use lib.Dec.{T}
 use lib.Ieee.{Float, nan, inf, fin, isNan}
 use lib.Ieee.Bits.{is-false}
+use Rattle.float.specs.Arith.{if_then_else_}
 use Rattle.float.specs.Distance.{Distance}
 use Rattle.float.specs.RootOf.{rootOf}
 use Rattle.float.proofs.Order.{distance-no-nan}
 use Rattle.float.proofs.Roots.{root-distance}
-use Rattle.point.specs.Point.{_-ᵥ_, _·_}
+use Rattle.point.specs.Point.{_-ᵥ_, _≐ᵥ_}
 use Rattle.point.specs.declared.Point.{Point}
 use Rattle.point.proofs.Squares.{dot-self}
-use Rattle.geo.specs.Closest.{closestOn}
+use Rattle.geo.specs.Closest.{closestPointSegment, closestPointEqual, facetOf, dotsOf, nearest, closestOn, closestPointTriangle}
 use Rattle.geo.specs.Distance.{squaredOn, distanceOn}
 use Rattle.geo.specs.declared.closest.Facet.{Facet}
+
+-- ---- the closest point, as document 01's sentence runs
+
+-- the one test that two corners are equal, before the cases, is the chain of cases
+chain : {A : Type 0} (u v w : Bool) (one ac ab proper : A) → (if u || v || w then (if u && v && w then one else if u then ac else ab) else proper) ≡ (if u && v && w then one else if u then ac else if v || w then ab else proper)
+chain true true true one ac ab proper = refl
+chain true true false one ac ab proper = refl
+chain true false w one ac ab proper = refl
+chain false true w one ac ab proper = refl
+chain false false true one ac ab proper = refl
+chain false false false one ac ab proper = refl
+
+-- "equal corners first (a=b=c: a; a=b: segment a,c; b=c or a=c: segment a,b) [..]; then the regions"
+pub equal-corners-first : (p a b c : Point) → closestPointTriangle p a b c ≡ (if (a ≐ᵥ b) && (b ≐ᵥ c) && (a ≐ᵥ c) then a else if a ≐ᵥ b then closestPointSegment p a c else if (b ≐ᵥ c) || (a ≐ᵥ c) then closestPointSegment p a b else nearest (dotsOf (facetOf a b c) p) (facetOf a b c))
+unfolding closestOn closestPointEqual facetOf
+equal-corners-first p a b c =
+    chain (a ≐ᵥ b) (b ≐ᵥ c) (a ≐ᵥ c) a (closestPointSegment p a c) (closestPointSegment p a b) (nearest (dotsOf (facetOf a b c) p) (facetOf a b c))
+
+-- ---- the distance
 
 -- a squared distance that is no NaN has no sign bit
 pub squared-distance : (f : Facet) (p : Point) → T (not (isNan (squaredOn f p))) → Distance (squaredOn f p)

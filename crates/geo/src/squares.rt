@@ -2,7 +2,7 @@
 // corners goes with no branch, and each step is small, so that the compiler puts all of it into the loop
 // and takes several points at a time.
 ghost use mathlib.Core.Path.{_≡_};
-ghost use mathlib.Core.Bool.{cond, true, false};
+ghost use mathlib.Core.Bool.{cond, false};
 ghost use lib.ListN.{length};
 ghost use Rattle.geo.specs.Closest.{nearest, dotsOf};
 ghost use Rattle.geo.specs.Distance.{squaredOn, Squares};

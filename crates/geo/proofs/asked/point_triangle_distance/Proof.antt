@@ -1,5 +1,4 @@
 -- `asked::point_triangle_distance`: each return by the checks that led there. Assumes nothing.
-use mathlib.Core.Path.{sym, _∙_}
 use lib.Ieee.{isNan}
 use Rattle.float.proofs.Magnitude.{ne-itself}
 use Rattle.geo.specs.Distance.{distance}

@@ -1,14 +1,13 @@
 -- `squares::squared_proper`: where no two corners are equal, the closest point is that of the regions. Assumes nothing.
-use mathlib.Core.Path.{_≡_, sym}
+use mathlib.Core.Path.{_≡_, refl}
+use mathlib.Core.Bool.{false}
 use Rattle.geo.specs.Closest.{closestOn, closestPointEqual, nearest, dotsOf}
 use Rattle.geo.specs.Distance.{squaredOn}
 use Rattle.geo.specs.declared.closest.Facet.{Facet}
 use Rattle.point.specs.declared.Point.{Point}
-use mathlib.Core.Bool.{false}
+use Rattle.geo.proofs.Picks.{passed}
 use Rattle.geo.proofs.squares.squared_proper.Statement.{statement}
 use Rattle.geo.proofs.squares.squared_proper.Tie as tie
-use Rattle.geo.proofs.Picks.{passed}
-use mathlib.Core.Path.{refl}
 
 proper : (f : Facet) (p : Point) → f .equal ≡ false → nearest (dotsOf f p) f ≡ closestOn f p
 unfolding closestOn

@@ -1,10 +1,10 @@
 -- `squares::squares_proper`: the invariant is that the elements below i hold their squared distances. Assumes nothing.
-use Prim.Native.Nat.{ℕ, _≤_, _<_, _-_}
+use Prim.Native.Nat.{_≤_, _-_}
 use native.Mathlib.Nat.{not-suc-le-zero}
 use denote.Ref.{now}
 use native.Mathlib.Omega.{arith}
 use mathlib.Core.Path.{_≡_, sym, _∙_}
-use lib.ListN.{length, getD, length-set}
+use lib.ListN.{length, length-set}
 use borrow.Author.Needs.{needs}
 use Rattle.geo.specs.Distance.{squaredAt}
 use Rattle.geo.proofs.Runs.{Filled, filled-next}
