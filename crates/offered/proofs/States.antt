@@ -3,20 +3,20 @@
 -- an entry or has been offered around, and at the end nothing waits. Assumes nothing but what `Fair` asks of the ground.
 use Prim.Native.Nat.{ℕ, zero, suc, _≤_, _<_}
 use native.Mathlib.Omega.{arith}
-use mathlib.Core.Path.{_≡_, refl, sym, ap, _∙_, subst}
+use mathlib.Core.Path.{_≡_, sym, ap, _∙_, subst}
 use mathlib.Core.Logic.{_⊎_, inl, inr}
-use mathlib.Core.List.{List, [], _∷_}
+use mathlib.Core.List.{List, _∷_}
 use lib.ListN.{length, getD}
-use Rattle.lists.specs.Turns.{Turn, goes, turns}
+use Rattle.lists.specs.Turns.{goes, turns}
 use Rattle.lists.proofs.Made.{goes-same}
 use Rattle.queue.specs.declared.Entry.{Entry}
 use Rattle.run.specs.Run.{Ground, State, named, seeding, queueCell, queueing, taken, spreadAround, spreading, run}
-use Rattle.run.proofs.Values.{Fair, Met}
-use Rattle.run.proofs.Offers.{Spread, over, pops, spreading-went, Popped, spreading-pops, Ran, run-went}
+use Rattle.run.proofs.Values.{Fair}
+use Rattle.run.proofs.Offers.{Spread, over, pops, spreading-went, Popped, spreading-pops, run-went}
 use Rattle.run.proofs.Waiting.{apart-at, Good, good-taken, WaitsFor, waits-for-on, Waits}
 use Rattle.run.proofs.Seeding.{seeding-good, seeding-empty}
 use Rattle.run.proofs.Queueing.{QueuedTo, queued-to, queueing-to}
-use Rattle.run.proofs.Spreading.{Led, Served, first-lead, rest-lead, around-leads, Ends, ends}
+use Rattle.run.proofs.Spreading.{Led, Served, first-lead, rest-lead, around-leads, ends}
 use Rattle.offered.specs.States.{firstOffers, BeforePop, afterQueueing, afterPop, Since, endOfSeeding, inQueueing, beforePop, inPop}
 
 module _ (g : Ground) (F : Fair g) where
@@ -25,7 +25,7 @@ module _ (g : Ground) (F : Fair g) where
   pub queueing-good : (s t : State) (i : ℕ) → seeding g ≡ goes s → i ≤ g .cells → turns (queueCell g) i s ≡ goes t → QueuedTo g s i t
   queueing-good s t i p l h = queued-to g F s i t (seeding-good g F s p) (seeding-empty g F s p) l h
 
-  queueing-all : (s t : State) → seeding g ≡ goes s → queueing g s ≡ goes t → QueuedTo g s (g .cells) t
+  pub queueing-all : (s t : State) → seeding g ≡ goes s → queueing g s ≡ goes t → QueuedTo g s (g .cells) t
   queueing-all s t p h = queueing-to g F s t (seeding-good g F s p) (seeding-empty g F s p) h
 
   -- an entry that is taken leads on

@@ -6,3 +6,4 @@ pub mod Queueing
 pub mod Spreading
 pub mod Steps
 pub mod Grounds
+pub mod Done

@@ -5,7 +5,7 @@ use Prim.Native.Nat.{ℕ, _≤_, _<_}
 use native.Mathlib.Decide.{ℕ-discrete}
 use native.Mathlib.Omega.{arith}
 use mathlib.Core.Path.{_≡_, refl, sym, ap, _∙_, subst}
-use mathlib.Core.Bool.{Bool, true, false, true≢false}
+use mathlib.Core.Bool.{true, false, true≢false}
 use mathlib.Core.List.{List}
 use lib.Dec.{lit≤}
 use lib.ListN.{length, getD, set, replicate, length-set, length-replicate, getD-replicate}
@@ -16,7 +16,7 @@ use Rattle.float.specs.Arith.{_≺_, fMax}
 use Rattle.float.specs.Distance.{Distance}
 use Rattle.float.proofs.Order.{bits-distance, bits-lt, distance-lt}
 use Rattle.lists.proofs.Table.{stored-at}
-use Rattle.run.specs.Run.{Ground, Place, off, at, State, Box, none, bare, held, named, takes}
+use Rattle.run.specs.Run.{Ground, at, none}
 
 -- what the laws of a run ask of what it is told
 pub record Fair (g : Ground) : Type 0 where

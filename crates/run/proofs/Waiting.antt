@@ -1,22 +1,21 @@
 -- What waits in a run. Every waiting entry is of a cell and a triangle of the job, has that triangle's distance, and its cell holds no
 -- more since. A cell queues an entry only when its value falls, so two waiting entries never agree in both distance and cell. The
 -- entries that wait never outgrow the peak, nor the peak the room. Assumes nothing but what `Fair` asks of the ground.
-use Prim.Native.Nat.{ℕ, zero, suc, _+_, _≤_, _<_, max}
+use Prim.Native.Nat.{ℕ, zero, suc, _≤_, _<_}
 use native.Mathlib.Nat.{le-of-suc-le-suc, not-suc-le-zero}
 use native.Mathlib.Decide.{ℕ-discrete}
 use native.Mathlib.Omega.{arith}
 use mathlib.Core.Path.{_≡_, refl, sym, ap, _∙_, subst}
 use mathlib.Core.Logic.{_⊎_, inl, inr}
 use mathlib.Core.Bool.{Bool, true, false, cond}
-use mathlib.Core.List.{List, [], _∷_, List·Memᴰ, List·Memᴰ·head, List·Memᴰ·tail, List·Memᴰ·cases-cons, List·Memᴰ·not-nil}
+use mathlib.Core.List.{List, [], _∷_, List·Memᴰ, List·Memᴰ·head, List·Memᴰ·tail, List·Memᴰ·not-nil}
 use lib.ListN.{length, getD, set}
 use lib.Ieee.{Float, nan, isNan}
-use Rattle.float.specs.Arith.{_≺_}
-use Rattle.lists.specs.Turns.{Turn, goes}
+use Rattle.lists.specs.Turns.{goes}
 use Rattle.queue.specs.declared.Entry.{Entry}
 use Rattle.queue.specs.InOrder.{insert}
 use Rattle.queue.proofs.Meaning.{length-insert, in-insert, still-in, from-insert}
-use Rattle.run.specs.Run.{Ground, State, held, named, entry, takes, offer, queued, queue, taken}
+use Rattle.run.specs.Run.{Ground, State, named, entry, takes, offer, queued, queue, taken}
 use Rattle.run.proofs.Values.{Fair, bits, Sound, Falls, Met, Nearer, takes-less, takes-sound, takes-falls, takes-met, takes-named, takes-name, passes-met}
 use Rattle.run.proofs.Offers.{Offer, passes, takesIt, offer-went, Queued, queue-went}
 
@@ -154,10 +153,12 @@ onward-on g s t u p q =
     go c (inl e) (inr w) = inr (waits-for-on {s = t} {t = u} (q .keeps) (subst (WaitsFor t c) (sym e) w))
 
 -- what an offer of triangle k to cell c does
-pub record Offered (g : Ground) (k c : ℕ) (s t : State) : Type 0 where
+pub record AfterOffer (g : Ground) (k c : ℕ) (s t : State) : Type 0 where
   pub good : Good g t
   pub onward : Onward g s t
   pub met : Met g (t .field) k c
+  -- an entry that waits was there, or its cell names its triangle
+  pub new : (x : Entry) → List·Memᴰ x (t .waiting) → List·Memᴰ x (s .waiting) ⊎ (named t (x .cell) ≡ x .triangle)
 
 module _ (g : Ground) (F : Fair g) (k c : ℕ) (kl : k < g .triangles) (cl : c < g .cells) (s : State) (G : Good g s) where
   module _ (N : Nearer g (s .field) k c) where
@@ -202,8 +203,8 @@ module _ (g : Ground) (F : Fair g) (k c : ℕ) (kl : k < g .triangles) (cl : c <
         }))
     takes-names t q i (no n) = inl (ap (λ (u : State). named u i) q ∙ takes-named g F (s .field) (s .names) k c (G .sound) kl cl N i n)
 
-    takes-offered : (t : State) → Queued g (entry (g .distance k c) c k) (takes c k (g .distance k c) s) t → Offered g k c s t
-    takes-offered t Q =
+    takes-after : (t : State) → Queued g (entry (g .distance k c) c k) (takes c k (g .distance k c) s) t → AfterOffer g k c s t
+    takes-after t Q =
         rw (Q .is)
         (record {
           good = good-queued g (entry (g .distance k c) c k) (takes c k (g .distance k c) s) takes-good new-waits new-differs (Q .room);
@@ -214,11 +215,17 @@ module _ (g : Ground) (F : Fair g) (k c : ℕ) (kl : k < g .triangles) (cl : c <
             pops-same = refl;
           };
           met = takes-met g F (s .field) (s .names) k c (G .sound) kl cl N;
+          new = λ x m. new x (from-insert (g .goesFirst) x (entry (g .distance k c) c k) (s .waiting) m);
         })
+      where
+        new : (x : Entry) → (x ≡ entry (g .distance k c) c k) ⊎ List·Memᴰ x (s .waiting) → List·Memᴰ x (s .waiting) ⊎ (getD (set (s .names) c k) (x .cell) 0 ≡ x .triangle)
+        new x (inl e) =
+            inr (takes-name g F (s .field) (s .names) k c (G .sound) kl cl N (x .cell) (ap (λ (y : Entry). y .cell) e) ∙ sym (ap (λ (y : Entry). y .triangle) e))
+        new x (inr m) = inl m
 
-  pub offered : (t : State) → offer g (queue g) k c s ≡ goes t → Offered g k c s t
-  offered t h = go (offer-went g (queue g) k c s t h)
+  pub after-offer : (t : State) → offer g (queue g) k c s ≡ goes t → AfterOffer g k c s t
+  after-offer t h = go (offer-went g (queue g) k c s t h)
     where
-      go : Offer (queue g) k c (g .distance k c) s t → Offered g k c s t
-      go (passes n l e) = rw e (record { good = G; onward = onward-stays g s; met = passes-met g F (s .field) (s .names) k c (G .sound) cl n l })
-      go (takesIt n l w) = takes-offered (record { number = n; less = l }) t (queue-went g (entry (g .distance k c) c k) (takes c k (g .distance k c) s) t w)
+      go : Offer (queue g) k c (g .distance k c) s t → AfterOffer g k c s t
+      go (passes n l e) = rw e (record { good = G; onward = onward-stays g s; met = passes-met g F (s .field) (s .names) k c (G .sound) cl n l; new = λ x m. inl m })
+      go (takesIt n l w) = takes-after (record { number = n; less = l }) t (queue-went g (entry (g .distance k c) c k) (takes c k (g .distance k c) s) t w)
