@@ -80,9 +80,9 @@ module _ (g : Ground) (F : Fair g) where
 -- ---- what is offered
 
 in-box-covers : {b : Box} {x y z : ℕ} → InBox b x y z → Covers b (record { x = x; y = y; z = z })
-in-box-covers p X = (p .on-x .low, p .on-x .high)
-in-box-covers p Y = (p .on-y .low, p .on-y .high)
-in-box-covers p Z = (p .on-z .low, p .on-z .high)
+in-box-covers p X = (omega (arith, p .on-x .low), omega (arith, p .on-x .high))
+in-box-covers p Y = (omega (arith, p .on-y .low), omega (arith, p .on-y .high))
+in-box-covers p Z = (omega (arith, p .on-z .low), omega (arith, p .on-z .high))
 
 module _ (grid : Grid) (g : Ground) (O : FairOn grid g) where
   -- a step leads to a neighbour
@@ -91,7 +91,7 @@ module _ (grid : Grid) (g : Ground) (O : FairOn grid g) where
       let p = around-lands grid i j (indexOf grid c) l h in
       let same : c ≡ Moved (cellAt grid i) (stepAt j) = index-injective v (p .inside) (p .is) in
       let close = near-moved (cellAt grid i) a in
-      rw same (close .above, close .below)
+      rw same (omega (arith, close .above), omega (arith, close .below))
     where
       near-moved : (d : Cell) (a : Axis) → Close (cellOn a d) (cellOn a (Moved d (stepAt j)))
       near-moved d X = shifted-close (stepAt j .x) (d .x)

@@ -20,6 +20,27 @@ use Rattle.run.proofs.Spreading.{Led, Served, first-lead, rest-lead, around-lea
 use Rattle.offered.specs.States.{firstOffers, BeforePop, afterQueueing, afterPop, Since, endOfSeeding, inQueueing, beforePop, inPop}
 
 module _ (g : Ground) (F : Fair g) where
+  -- ---- the run's end is one of them
+
+  end-is-one : (left : ℕ) (s t : State) → BeforePop g s → spreading g left s ≡ goes t → BeforePop g t
+  end-is-one zero s t B h = go (spreading-went g 0 s t h)
+    where
+      go : Spread g 0 s t → BeforePop g t
+      go (over q e) = subst (BeforePop g) (sym e) B
+      go (pops e w n u q l a b) = absurd (omega arith)
+  end-is-one (suc left) s t B h = go (λ u. end-is-one left u t) (spreading-went g (suc left) s t h)
+    where
+      go : ((u : State) → BeforePop g u → spreading g left u ≡ goes t → BeforePop g t) → Spread g (suc left) s t → BeforePop g t
+      go later (over q e) = subst (BeforePop g) (sym e) B
+      go later (pops e w n u q l a b) =
+          let same : n ≡ left = omega arith in
+          later u (afterPop B q a) (subst (λ (i : ℕ). spreading g i u ≡ goes t) same b)
+
+  pub end-since : (t : State) → run g ≡ goes t → Since g t
+  end-since t h =
+      let r = run-went g t h in
+      beforePop (end-is-one (g .limit) (r .queued-all) t (afterQueueing (r .by-seeding) (r .by-queueing)) (r .by-spreading))
+
   -- ---- every state is good
 
   pub queueing-good : (s t : State) (i : ℕ) → seeding g ≡ goes s → i ≤ g .cells → turns (queueCell g) i s ≡ goes t → QueuedTo g s i t
@@ -53,27 +74,6 @@ module _ (g : Ground) (F : Fair g) where
   pub never-agree : (s : State) → Since g s → (none : Entry) (i j : ℕ) → i < j → j < length (s .waiting)
       → getD (s .waiting) i none .distance ≡ getD (s .waiting) j none .distance → getD (s .waiting) i none .cell ≡ getD (s .waiting) j none .cell → ⊥
   never-agree s S none i j l m = apart-at (s .waiting) none i j (since-good s S .apart) l m
-
-  -- ---- the run's end is one of them
-
-  end-is-one : (left : ℕ) (s t : State) → BeforePop g s → spreading g left s ≡ goes t → BeforePop g t
-  end-is-one zero s t B h = go (spreading-went g 0 s t h)
-    where
-      go : Spread g 0 s t → BeforePop g t
-      go (over q e) = subst (BeforePop g) (sym e) B
-      go (pops e w n u q l a b) = absurd (omega arith)
-  end-is-one (suc left) s t B h = go (λ u. end-is-one left u t) (spreading-went g (suc left) s t h)
-    where
-      go : ((u : State) → BeforePop g u → spreading g left u ≡ goes t → BeforePop g t) → Spread g (suc left) s t → BeforePop g t
-      go later (over q e) = subst (BeforePop g) (sym e) B
-      go later (pops e w n u q l a b) =
-          let same : n ≡ left = omega arith in
-          later u (afterPop B q a) (subst (λ (i : ℕ). spreading g i u ≡ goes t) same b)
-
-  pub end-since : (t : State) → run g ≡ goes t → Since g t
-  end-since t h =
-      let r = run-went g t h in
-      beforePop (end-is-one (g .limit) (r .queued-all) t (afterQueueing (r .by-seeding) (r .by-queueing)) (r .by-spreading))
 
   -- ---- what a cell names is offered around before the run is Done
 

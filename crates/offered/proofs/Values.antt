@@ -64,7 +64,12 @@ module _ (grid : Grid) (g : Ground) (O : FairOn grid g) (f : State) (D : run g �
         (subst (Met g (r .seeded .field) k) (O .index-is (c .x) (c .y) (c .z)) m)
       where
         in-box : InBox (g .box k) (c .x) (c .y) (c .z)
-        in-box = record { on-x = record { low = b X .0; high = b X .1 }; on-y = record { low = b Y .0; high = b Y .1 }; on-z = record { low = b Z .0; high = b Z .1 } }
+        in-box =
+            record {
+              on-x = record { low = omega (arith, b X .0); high = omega (arith, b X .1) };
+              on-y = record { low = omega (arith, b Y .0); high = omega (arith, b Y .1) };
+              on-z = record { low = omega (arith, b Z .0); high = omega (arith, b Z .1) };
+            }
 
     -- a triangle that the cell or a neighbour held
     held-met : (k : ℕ) → k < g .triangles → HeldNear grid g c k → Met g (f .field) k (indexOf grid c)

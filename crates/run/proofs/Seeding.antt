@@ -125,22 +125,22 @@ module _ (g : Ground) (F : Fair g) where
     line-leads : (x y : ℕ) (s t : State) → OnX x → OnY y → seedLine g k x y s ≡ goes t → Leads g s t
     unfolding seedLine
     line-leads x y s t a b h =
-        between-lead (Leads g) (stays g) (on g) (Cell-offer x y) (g .box k .low .z) (g .box k .high .z + 1) s t
-        (λ z u v l m. offer-leads x y z u v a b (record { low = l; high = omega arith }))
+        between-lead (Leads g) (stays g) (on g) (Cell-offer x y) _ _ s t
+        (λ z u v l m. offer-leads x y z u v a b (record { low = omega arith; high = omega arith }))
         h
 
     plane-leads : (x : ℕ) (s t : State) → OnX x → seedPlane g k x s ≡ goes t → Leads g s t
     unfolding seedPlane
     plane-leads x s t a h =
-        between-lead (Leads g) (stays g) (on g) (seedLine g k x) (g .box k .low .y) (g .box k .high .y + 1) s t
-        (λ y u v l m. line-leads x y u v a (record { low = l; high = omega arith }))
+        between-lead (Leads g) (stays g) (on g) (seedLine g k x) _ _ s t
+        (λ y u v l m. line-leads x y u v a (record { low = omega arith; high = omega arith }))
         h
 
     triangle-leads : (s t : State) → seedTriangle g k s ≡ goes t → Leads g s t
     unfolding seedTriangle
     triangle-leads s t h =
-        between-lead (Leads g) (stays g) (on g) (seedPlane g k) (g .box k .low .x) (g .box k .high .x + 1) s t
-        (λ x u v l m. plane-leads x u v (record { low = l; high = omega arith }))
+        between-lead (Leads g) (stays g) (on g) (seedPlane g k) _ _ s t
+        (λ x u v l m. plane-leads x u v (record { low = omega arith; high = omega arith }))
         h
 
     -- ---- and each offer was made
@@ -164,8 +164,8 @@ module _ (g : Ground) (F : Fair g) where
       unfolding seedLine
       line-meets s t h =
           through-made (Cell-offer x y) z s t
-          (between-made (Leads g) (stays g) (on g) (Cell-offer x y) (g .box k .low .z) z (g .box k .high .z + 1) s t (b .on-z .low) (omega arith)
-          (λ i u v l m. offer-leads x y i u v (b .on-x) (b .on-y) (record { low = l; high = omega arith }))
+          (between-made (Leads g) (stays g) (on g) (Cell-offer x y) _ z _ s t (omega (arith, b .on-z .low)) (omega (arith, b .on-z .high))
+          (λ i u v l m. offer-leads x y i u v (b .on-x) (b .on-y) (record { low = omega arith; high = omega arith }))
           h)
           (λ u v w. offer-leads x y z u v (b .on-x) (b .on-y) (b .on-z) w)
           (λ u v w S. offer-seeds x y z u v (b .on-x) (b .on-y) (b .on-z) w S .met)
@@ -174,8 +174,8 @@ module _ (g : Ground) (F : Fair g) where
       unfolding seedPlane
       plane-meets s t h =
           through-made (seedLine g k x) y s t
-          (between-made (Leads g) (stays g) (on g) (seedLine g k x) (g .box k .low .y) y (g .box k .high .y + 1) s t (b .on-y .low) (omega arith)
-          (λ i u v l m. line-leads x i u v (b .on-x) (record { low = l; high = omega arith }))
+          (between-made (Leads g) (stays g) (on g) (seedLine g k x) _ y _ s t (omega (arith, b .on-y .low)) (omega (arith, b .on-y .high))
+          (λ i u v l m. line-leads x i u v (b .on-x) (record { low = omega arith; high = omega arith }))
           h)
           (λ u v w. line-leads x y u v (b .on-x) (b .on-y) w)
           line-meets
@@ -184,8 +184,8 @@ module _ (g : Ground) (F : Fair g) where
       unfolding seedTriangle
       triangle-meets s t h =
           through-made (seedPlane g k) x s t
-          (between-made (Leads g) (stays g) (on g) (seedPlane g k) (g .box k .low .x) x (g .box k .high .x + 1) s t (b .on-x .low) (omega arith)
-          (λ i u v l m. plane-leads i u v (record { low = l; high = omega arith }))
+          (between-made (Leads g) (stays g) (on g) (seedPlane g k) _ x _ s t (omega (arith, b .on-x .low)) (omega (arith, b .on-x .high))
+          (λ i u v l m. plane-leads i u v (record { low = omega arith; high = omega arith }))
           h)
           (λ u v w. plane-leads x u v (b .on-x) w)
           plane-meets

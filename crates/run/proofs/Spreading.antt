@@ -76,16 +76,16 @@ module _ (g : Ground) (F : Fair g) where
     -- from the state after j of the offers to that after all
     pub rest-lead : (j : ℕ) (s u t : State) → j ≤ 27 → Good g u → turns (turnOf g e) j s ≡ goes u → spreadAround g e s ≡ goes t → Led g u t
     unfolding spreadAround
-    rest-lead j s u t l G p h = turns-rest (Leads g) (stays g) (on g) (turnOf g e) j 27 s u t l (λ i a b m. turn-leads i a b) p h G
+    rest-lead j s u t l G p h = turns-rest (Leads g) (stays g) (on g) (turnOf g e) j _ s u t (omega arith) (λ i a b m. turn-leads i a b) p h G
 
     pub around-leads : (s t : State) → Good g s → spreadAround g e s ≡ goes t → Led g s t
     unfolding spreadAround
-    around-leads s t G h = first-lead 27 s t G h
+    around-leads s t G h = first-lead _ s t G h
 
     pub around-serves : (s t : State) → Good g s → spreadAround g e s ≡ goes t → Served g t (e .cell) (e .triangle)
     unfolding spreadAround
     around-serves s t G h j d l q =
-        let p = turns-made (Leads g) (stays g) (on g) (turnOf g e) j 27 s t l (λ i u v m. turn-leads i u v) h in
+        let p = turns-made (Leads g) (stays g) (on g) (turnOf g e) j _ s t (omega arith) (λ i u v m. turn-leads i u v) h in
         let a = p .led G in
         let b = turn-leads j (p .before) (p .after) (p .turn) (a .good) in
         met-on g (p .after .field) (t .field) (e .triangle) d (F .steps-on (e .cell) j d cl q) (p .leads (b .good) .onward .falls)

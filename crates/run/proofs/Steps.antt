@@ -22,7 +22,7 @@ use Rattle.run.specs.Steps.{Shift, back, stay, ahead, Step, shiftOn, ste
 shifted-on : (count : ℕ) (s : Shift) (i : ℕ) → i < count → staysOn count s i ≡ true → shifted s i < count
 shifted-on count back i l h = omega arith
 shifted-on count stay i l h = l
-shifted-on count ahead i l h = ltb-true (i + 1) count h
+shifted-on count ahead i l h = omega (arith, ltb-true)
 
 -- the cell that a step leads to
 abbrev pub Moved : Cell → Step → Cell
