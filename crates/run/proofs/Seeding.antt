@@ -10,7 +10,7 @@ use lib.ListN.{getD, set, replicate, getD-replicate}
 use Rattle.lists.specs.Turns.{Turn, goes}
 use Rattle.lists.proofs.Made.{goes-same, Made, turns-lead, turns-made, between-lead, between-made}
 use Rattle.run.specs.Run.{Ground, State, Box, none, bare, named, offer, nothingElse, seedLine, seedPlane, seedTriangle, seeding}
-use Rattle.run.proofs.Values.{Fair, Sound, Falls, Met, met-on, Nearer, sound-bare, takes-sound, takes-falls, takes-met, takes-name, takes-named, passes-met}
+use Rattle.run.proofs.Values.{Fair, Sound, Falls, Met, met-on, Took, sound-bare, took, passes-met}
 use Rattle.run.proofs.Waiting.{Apart, Good}
 use Rattle.run.proofs.Offers.{Offer, passes, takesIt, offer-went}
 
@@ -80,22 +80,23 @@ module _ (g : Ground) (F : Fair g) where
       go : Offer nothingElse k c (g .distance k c) s t → Seeded g k c s t
       go (passes n l e) = rw e (record { seeds = stays g s S; met = passes-met g F (s .field) (s .names) k c S cl n l })
       go (takesIt n l w) =
+          let T = took g F (s .field) (s .names) k c S kl cl (record { number = n; less = l }) in
           rw (← goes-same w)
           (record {
             seeds = record {
-              sound = takes-sound g F (s .field) (s .names) k c S kl cl (record { number = n; less = l });
-              falls = takes-falls g F (s .field) (s .names) k c S kl cl (record { number = n; less = l });
+              sound = T .sound;
+              falls = T .falls;
               waiting-same = refl;
               pops-same = refl;
               peak-same = refl;
-              boxed = λ i. boxed (record { number = n; less = l }) i (ℕ-discrete i c);
+              boxed = λ i. boxed T i (ℕ-discrete i c);
             };
-            met = takes-met g F (s .field) (s .names) k c S kl cl (record { number = n; less = l });
+            met = T .met;
           })
         where
-          boxed : Nearer g (s .field) k c → (i : ℕ) → Dec (i ≡ c) → (getD (set (s .names) c k) i 0 ≡ named s i) ⊎ InBoxOf g i (getD (set (s .names) c k) i 0)
-          boxed N i (yes e) = inr (rw (takes-name g F (s .field) (s .names) k c S kl cl N i e, e) B)
-          boxed N i (no n) = inl (takes-named g F (s .field) (s .names) k c S kl cl N i n)
+          boxed : Took g (s .field) (s .names) k c → (i : ℕ) → Dec (i ≡ c) → (getD (set (s .names) c k) i 0 ≡ named s i) ⊎ InBoxOf g i (getD (set (s .names) c k) i 0)
+          boxed T i (yes e) = inr (rw (T .name i e, e) B)
+          boxed T i (no n) = inl (T .other-names i n)
 
   -- ---- the loops lead on
 
