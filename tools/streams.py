@@ -19,10 +19,10 @@ def generated(number, seed, *kind):
     return list(parts(subprocess.run(command, check=True, stdout=subprocess.PIPE).stdout))
 
 
-def batch(command, jobs):
+def batch(command, jobs, **more):
     """The answers of a program to all jobs."""
     stream = b"".join(f"job={i} {kind} {len(text)}\n".encode() + text for i, (kind, text) in enumerate(jobs))
-    answers = subprocess.run(command, input=stream, check=True, stdout=subprocess.PIPE).stdout
+    answers = subprocess.run(command, input=stream, check=True, stdout=subprocess.PIPE, **more).stdout
     answers = [answer for _, answer in parts(answers)]
     assert len(answers) == len(jobs), f"{command}: {len(answers)} answers to {len(jobs)} jobs"
     return answers

@@ -4,11 +4,46 @@
 use crate::random::Random;
 
 pub const WAYS: [&str; 40] = [
-    "crlf", "no-last-lf", "two-last-lf", "leading-zero", "upper-hex", "double-space", "trailing-space", "leading-space",
-    "tab", "trailing-byte", "empty", "only-lf", "missing-line", "swapped-lines", "doubled-line", "above-u32",
-    "far-above-u32", "plus", "minus", "short-hex", "long-hex", "0x", "two-values", "four-values", "no-value",
-    "other-topology", "upper-key", "no-equals", "count-too-high", "count-too-low", "none-with-i", "upper-none",
-    "nul", "high-byte", "byte-order-mark", "cut-short", "one-byte-other", "one-byte-less", "one-byte-more", "long-noise",
+    "crlf",
+    "no-last-lf",
+    "two-last-lf",
+    "leading-zero",
+    "upper-hex",
+    "double-space",
+    "trailing-space",
+    "leading-space",
+    "tab",
+    "trailing-byte",
+    "empty",
+    "only-lf",
+    "missing-line",
+    "swapped-lines",
+    "doubled-line",
+    "above-u32",
+    "far-above-u32",
+    "plus",
+    "minus",
+    "short-hex",
+    "long-hex",
+    "0x",
+    "two-values",
+    "four-values",
+    "no-value",
+    "other-topology",
+    "upper-key",
+    "no-equals",
+    "count-too-high",
+    "count-too-low",
+    "none-with-i",
+    "upper-none",
+    "nul",
+    "high-byte",
+    "byte-order-mark",
+    "cut-short",
+    "one-byte-other",
+    "one-byte-less",
+    "one-byte-more",
+    "long-noise",
 ];
 
 pub fn damage(way: &str, text: &str, r: &mut Random) -> Vec<u8> {
@@ -17,7 +52,9 @@ pub fn damage(way: &str, text: &str, r: &mut Random) -> Vec<u8> {
     let other = (at + 1) % lines.len();
     let tail = |lines: &[String]| (lines.join("\n") + "\n").into_bytes();
     // A line whose value begins with a digit, or one of floats.
-    let decimal = pick_line(&lines, r, |l| !is_floats(l) && l.split_once('=').unwrap().1.starts_with(|c: char| c.is_ascii_digit()));
+    let decimal = pick_line(&lines, r, |l| {
+        !is_floats(l) && l.split_once('=').unwrap().1.starts_with(|c: char| c.is_ascii_digit())
+    });
     let floats = pick_line(&lines, r, is_floats);
     let triple = pick_line(&lines, r, |l| l.contains(' '));
     let value = |line: &str| line.split_once('=').map(|(key, value)| (key.to_string(), value.to_string())).unwrap();
@@ -50,7 +87,11 @@ pub fn damage(way: &str, text: &str, r: &mut Random) -> Vec<u8> {
         "doubled-line" => lines.insert(at, lines[at].clone()),
         "above-u32" => lines[decimal] = format!("{}=4294967296", value(&lines[decimal]).0),
         "far-above-u32" => {
-            lines[decimal] = format!("{}={}", value(&lines[decimal]).0, r.pick(&["18446744073709551616", "42949672960", "99999999999999999999999999999999999999999"]));
+            lines[decimal] = format!(
+                "{}={}",
+                value(&lines[decimal]).0,
+                r.pick(&["18446744073709551616", "42949672960", "99999999999999999999999999999999999999999"])
+            );
         }
         "plus" => lines[decimal] = lines[decimal].replacen('=', "=+", 1),
         "minus" => lines[decimal] = lines[decimal].replacen('=', "=-", 1),
@@ -63,7 +104,9 @@ pub fn damage(way: &str, text: &str, r: &mut Random) -> Vec<u8> {
             lines[triple] = format!("{} {last}", lines[triple]);
         }
         "no-value" => lines[at] = format!("{}=", value(&lines[at]).0),
-        "other-topology" => lines[3] = format!("topology={}", r.pick(&["fan", "List", "lists", "stri", "", "list strip"])),
+        "other-topology" => {
+            lines[3] = format!("topology={}", r.pick(&["fan", "List", "lists", "stri", "", "list strip"]))
+        }
         "upper-key" => lines[at] = lines[at].replacen(|c: char| c.is_ascii_lowercase(), "V", 1),
         "no-equals" => lines[at] = lines[at].replacen('=', r.pick(&[" ", ":", "", "=="]), 1),
         "count-too-high" | "count-too-low" => {

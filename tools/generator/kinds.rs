@@ -26,7 +26,7 @@ pub const LARGE: [(&str, Make); 5] = [
     ("large-too-many-vertices", too_many_vertices),
 ];
 
-pub const KINDS: [(&str, Make); 64] = [
+pub const KINDS: [(&str, Make); 69] = [
     // Closed hulls, and a tank with its blanking plate on or off.
     ("box", closed_box),
     ("box-on-centres", box_on_centres),
@@ -36,12 +36,15 @@ pub const KINDS: [(&str, Make); 64] = [
     ("flat-floor", flat_floor),
     ("two-boxes", two_boxes),
     ("sphere", sphere),
+    ("sphere-fine", sphere_fine),
     ("tank-plate-on", |r| tank(r, true)),
     ("tank-plate-off", |r| tank(r, false)),
+    ("plates-on-centres", plates_on_centres),
     // Meshes without order.
     ("soup", soup),
     ("soup-lattice", soup_lattice),
     ("soup-beyond-grid", soup_beyond),
+    ("soup-many-cells", soup_many_cells),
     ("one-triangle", one_triangle),
     ("degenerate", degenerate),
     ("collinear", collinear),
@@ -55,9 +58,11 @@ pub const KINDS: [(&str, Make); 64] = [
     ("large-cells", large_cells),
     ("uneven-cells", uneven_cells),
     ("zeros-and-subnormals", zeros_and_subnormals),
+    ("signed-zero-corners", signed_zero_corners),
     ("underflow-segment", underflow_segment),
     ("underflow-triangle", underflow_triangle),
     ("underflow-in-spreading", underflow_in_spreading),
+    ("nan-or-full", nan_or_full),
     ("hair-corner", hair_corner),
     ("infinite-distance", infinite_distance),
     // Topology.
@@ -104,18 +109,19 @@ pub const KINDS: [(&str, Make); 64] = [
     ("damaged-small", one_triangle),
 ];
 
-/// The text of job `number` of the kind.
-pub fn make(kind: &str, number: u64, r: &mut Random) -> Option<Vec<u8>> {
+/// The text of one job of the kind.
+pub fn make(kind: &str, r: &mut Random) -> Option<Vec<u8>> {
     let (_, make) = KINDS.iter().chain(&LARGE).find(|(name, _)| *name == kind)?;
-    let number = number as usize;
-    let way = |number: usize| damage::WAYS[number % damage::WAYS.len()];
-    let job = make(r);
+    let text = text::write(&make(r));
     Some(match kind {
-        "document-01" => text::write(&point_of_document_01(job, number)).into(),
-        // The two kinds begin at different ways, so that together they show all of them sooner.
-        "damaged" => damage::damage(way(number + damage::WAYS.len() / 2), &text::write(&job), r),
-        "damaged-small" => damage::damage(way(number), &text::write(&job), r),
-        _ => text::write(&job).into(),
+        // The two begin at different ways, so that together they show all of them sooner.
+        "damaged" => damage::damage(r.turn(&damage::WAYS), &text, r),
+        "damaged-small" => {
+            let mut ways = damage::WAYS;
+            ways.rotate_left(damage::WAYS.len() / 2);
+            damage::damage(r.turn(&ways), &text, r)
+        }
+        _ => text.into(),
     })
 }
 
@@ -158,7 +164,6 @@ fn span(grid: &Grid) -> [f64; 3] {
 fn job(grid: Grid, mesh: &Mesh, r: &mut Random) -> Job {
     let vertices = mesh.vertices.iter().map(|v| place(&grid, *v)).collect();
     let indices = Some(mesh.triangles.iter().flatten().copied().collect());
-    // A small sphere or tank may have more triangles than the program reads: it then answers 9.
     let queue = if r.once_in(12) { r.between(0, MOST_ENTRIES) } else { MOST_ENTRIES };
     let pops = r.pick(&[100_000, 1_000_000, u32::MAX]);
     Job { grid, topology: Topology::List, vertices, indices, queue, pops }
@@ -272,10 +277,43 @@ fn sphere(r: &mut Random) -> Job {
     job(grid, &mesh, r)
 }
 
+/// As many facets as a job may have, over hundreds of cells: older entries still spread.
+fn sphere_fine(r: &mut Random) -> Job {
+    let mut grid = grid(r);
+    grid.count = r.pick(&[[8, 8, 8], [7, 9, 8], [6, 7, 8], [5, 10, 10]]);
+    let (middle, half) = body(&grid, r);
+    let mesh = shapes::sphere(middle, half, r.between(7, 9), r.between(12, 16));
+    job(grid, &mesh, r)
+}
+
 fn tank(r: &mut Random, plate: bool) -> Job {
     let grid = grid(r);
     let (middle, half) = body(&grid, r);
     let mesh = shapes::tank(middle, half[0].min(half[1]), half[2], r.between(3, 16), plate);
+    job(grid, &mesh, r)
+}
+
+/// Two or three plates that cross, each on a layer of centres: t / size is a whole number for many hits. The ends of a
+/// plate are odd, so that no ray meets its diagonal.
+fn plates_on_centres(r: &mut Random) -> Job {
+    let mut grid = grid(r);
+    if !r.once_in(3) {
+        grid.first = [0; 3].map(|_| r.between(0, 8) as f32 * 0.5);
+        grid.size = [0; 3].map(|_| r.pick(&[0.5, 1.0, 3.0, 0.1]));
+    }
+    let mut mesh = Mesh::default();
+    for axis in 0..3 {
+        if axis < 2 || r.once_in(2) {
+            let mut low = [0; 3].map(|_| -0.6 - f64::from(r.unit().abs()));
+            let mut high = grid.count.map(|n| f64::from(n) - 0.4 + f64::from(r.unit().abs()));
+            low[axis] = f64::from(r.between(0, grid.count[axis] - 1));
+            high[axis] = low[axis];
+            // A cuboid without height is the plate twice, and flat sides; the first plate alone is kept.
+            let mut plate = shapes::cuboid(low, high);
+            plate.triangles = plate.triangles[shapes::cuboid_face(axis)].to_vec();
+            join(&mut mesh, plate);
+        }
+    }
     job(grid, &mesh, r)
 }
 
@@ -303,6 +341,15 @@ fn soup_beyond(r: &mut Random) -> Job {
     let n = r.between(1, 6);
     let far = r.pick(&[5.0, 50.0, 5000.0]);
     let mesh = shapes::soup(r, -far, [far; 3], n);
+    job(grid, &mesh, r)
+}
+
+/// Large triangles over hundreds of cells.
+fn soup_many_cells(r: &mut Random) -> Job {
+    let mut grid = grid(r);
+    grid.count = r.pick(&[[8, 8, 8], [20, 5, 5], [1, 20, 20], [6, 7, 8], [4, 25, 5]]);
+    let n = r.between(2, 6);
+    let mesh = shapes::soup(r, -1.0, span(&grid), n);
     job(grid, &mesh, r)
 }
 
@@ -461,8 +508,28 @@ fn zeros_and_subnormals(r: &mut Random) -> Job {
     job.grid.first = [0; 3].map(|_| r.pick(&[0.0, -0.0, f32::from_bits(1), -f32::from_bits(0x7f_ffff)]));
     for x in job.vertices.iter_mut().flatten() {
         if r.once_in(2) {
-            *x = r.pick(&[0.0, -0.0, f32::from_bits(1), -f32::from_bits(1), f32::from_bits(0x7f_ffff), f32::MIN_POSITIVE]);
+            *x = r.pick(&[
+                0.0,
+                -0.0,
+                f32::from_bits(1),
+                -f32::from_bits(1),
+                f32::from_bits(0x7f_ffff),
+                f32::MIN_POSITIVE,
+            ]);
         }
+    }
+    job
+}
+
+/// Corners that are alike as numbers and not as bits: +0 and −0.
+fn signed_zero_corners(r: &mut Random) -> Job {
+    let mut job = if r.once_in(5) { soup_lattice(r) } else { soup(r) };
+    for t in 0..job.vertices.len() / 3 {
+        let [one, other] = r.turn(&[[0, 1], [1, 2], [0, 2]]).map(|corner| 3 * t + corner);
+        let axis = r.below(3) as usize;
+        job.vertices[one][axis] = r.pick(&[0.0, -0.0]);
+        job.vertices[other] = job.vertices[one];
+        job.vertices[other][axis] = -job.vertices[one][axis];
     }
     job
 }
@@ -516,7 +583,7 @@ fn underflow_in_spreading(r: &mut Random) -> Job {
     job.grid.count[y] = r.between(2, 5);
     job.grid.count[z] = r.between(1, 3);
     let tiny = f32::from_bits(r.between(10, 20) << 23);
-    let slope = r.pick(&[3.0, 5.0, 1.0]);
+    let slope = r.pick(&[3.0, 5.0, 1.0, -3.0, -3.0, -5.0]);
     // The grid is moved instead of the triangle: a hair counts near zero alone.
     job.grid.first[x] = -0.5;
     job.grid.first[y] = -0.5;
@@ -525,6 +592,23 @@ fn underflow_in_spreading(r: &mut Random) -> Job {
     far[y] = tiny * slope;
     job.vertices = vec![[0.0; 3], [0.0; 3], far];
     job
+}
+
+/// A 0/0 while spreading, and queue room that is just enough to come to it, or one too little: 6 or 7 by the order of the
+/// run.
+fn nan_or_full(r: &mut Random) -> Job {
+    loop {
+        let mut job = underflow_in_spreading(r);
+        job.grid.count = job.grid.count.map(|n| n.max(2));
+        job.queue = 0;
+        while model::answer(&job).err() == Some(7) {
+            job.queue += 1;
+        }
+        if model::answer(&job).err() == Some(6) {
+            job.queue -= u32::from(r.once_in(3));
+            return job;
+        }
+    }
 }
 
 /// A proper triangle two corners of which lie a hair apart: the weights of the inside may sum to 0, and 0/0 comes of it.
@@ -675,10 +759,20 @@ fn tight(r: &mut Random, set: fn(&mut Job, u32, u32, &mut Random)) -> Job {
 
 // Refusals.
 
+/// Just outside the bound on both sides, NaNs, infinities, and others far outside.
 const BEYOND: [u32; 12] = [
-    0x4980_0001, 0xc980_0001, // just outside the bound, on both sides
-    0x4a00_0000, 0xca00_0000, 0x7f7f_ffff, 0xff7f_ffff, 0x7f80_0000, 0xff80_0000, 0x7fc0_0000, 0xffc0_0000,
-    0x7f80_0001, 0xffff_ffff,
+    0x4980_0001,
+    0xc980_0001,
+    0x7fc0_0000,
+    0x7f80_0000,
+    0xff80_0000,
+    0xff7f_ffff,
+    0x7f80_0001,
+    0xffc0_0000,
+    0x4a00_0000,
+    0xca00_0000,
+    0x7f7f_ffff,
+    0xffff_ffff,
 ];
 
 fn count_zero(r: &mut Random) -> Job {
@@ -693,22 +787,22 @@ fn count_zero(r: &mut Random) -> Job {
 
 fn first_beyond(r: &mut Random) -> Job {
     let mut job = soup(r);
-    job.grid.first[r.below(3) as usize] = f32::from_bits(r.pick(&BEYOND));
+    job.grid.first[r.below(3) as usize] = f32::from_bits(r.turn(&BEYOND));
     job
 }
 
 fn size_beyond(r: &mut Random) -> Job {
     let mut job = soup(r);
-    let special = [below(LEAST_SIZE), above(MOST_SIZE), 0.0, -0.0, -1.0, -LEAST_SIZE, f32::from_bits(1)];
-    let size = if r.once_in(2) { r.pick(&special) } else { f32::from_bits(r.pick(&BEYOND)) };
-    job.grid.size[r.below(3) as usize] = size;
+    let special =
+        [below(LEAST_SIZE), above(MOST_SIZE), 0.0, f32::NAN, -1.0, f32::INFINITY, -LEAST_SIZE, -0.0, f32::from_bits(1)];
+    job.grid.size[r.below(3) as usize] = r.turn(&special);
     job
 }
 
 fn vertex_beyond(r: &mut Random) -> Job {
     let mut job = soup(r);
     let v = r.below(job.vertices.len() as u64) as usize;
-    job.vertices[v][r.below(3) as usize] = f32::from_bits(r.pick(&BEYOND));
+    job.vertices[v][r.below(3) as usize] = f32::from_bits(r.turn(&BEYOND));
     job
 }
 
@@ -753,11 +847,13 @@ fn several_refusals(r: &mut Random) -> Job {
 /// Exactly the limit, or one more.
 fn at_limit(r: &mut Random, which: u32) -> Job {
     let mut job = one_triangle(r);
-    let over = u32::from(r.once_in(3));
+    let over = r.turn(&[0, 1, 0]);
     match which {
         0 => {
-            let count = r.pick(&[[8, 8, 8], [512, 1, 1], [1, 512, 1], [1, 1, 512], [2, 16, 16], [4, 128, 1], [32, 1, 16]]);
-            job.grid.count = if over == 1 { r.pick(&[[513, 1, 1], [1, 27, 19], [9, 57, 1], [3, 9, 19]]) } else { count };
+            let count =
+                r.pick(&[[8, 8, 8], [512, 1, 1], [1, 512, 1], [1, 1, 512], [2, 16, 16], [4, 128, 1], [32, 1, 16]]);
+            job.grid.count =
+                if over == 1 { r.pick(&[[513, 1, 1], [1, 27, 19], [9, 57, 1], [3, 9, 19]]) } else { count };
             let mesh = shapes::soup(r, -1.0, span(&job.grid), 1);
             job.vertices = mesh.vertices.iter().map(|v| place(&job.grid, *v)).collect();
         }
@@ -781,7 +877,10 @@ fn at_limit(r: &mut Random, which: u32) -> Job {
 fn beyond_limits(r: &mut Random) -> Job {
     let mut job = soup(r);
     match r.below(4) {
-        0 => job.grid.count = r.pick(&[[1_024, 1, 1], [1_025, 1, 1], [1_024, 1_024, 1], [102, 102, 100], [1, 1, u32::MAX]]),
+        0 => {
+            job.grid.count =
+                r.pick(&[[1_024, 1, 1], [1_025, 1, 1], [1_024, 1_024, 1], [102, 102, 100], [1, 1, u32::MAX]])
+        }
         1 => job.vertices = vec![[0.0; 3]; r.pick(&[257, 300, 1_000])],
         2 => job.indices = Some(vec![0; r.pick(&[769, 1_000, 3_000])]),
         _ => job.queue = r.pick(&[2_049, 4_096, 1 << 31, u32::MAX]),
@@ -791,16 +890,16 @@ fn beyond_limits(r: &mut Random) -> Job {
 
 fn counts_that_wrap(r: &mut Random) -> Job {
     let mut job = one_triangle(r);
-    job.grid.count = r.pick(&[
+    job.grid.count = r.turn(&[
         [65_536, 65_536, 1],
-        [65_536, 65_537, 1],
-        [1, 1 << 31, 2],
-        [1 << 31, 1 << 31, 4],
         [1 << 22, 1 << 21, 1 << 21],
-        [u32::MAX, u32::MAX, u32::MAX],
-        [u32::MAX, 0, u32::MAX],
-        [0, 0, 0],
         [641, 6_700_417, 1],
+        [1 << 31, 1 << 31, 4],
+        [u32::MAX, 0, u32::MAX],
+        [u32::MAX, u32::MAX, u32::MAX],
+        [1, 1 << 31, 2],
+        [65_536, 65_537, 1],
+        [0, 0, 0],
     ]);
     job
 }
@@ -814,28 +913,25 @@ fn large_numbers(r: &mut Random) -> Job {
 
 // Document 01's own points.
 
-/// The job of its listing.
-fn document_01(_: &mut Random) -> Job {
-    Job {
+/// The listing, and the jobs of "Points on each side".
+fn document_01(r: &mut Random) -> Job {
+    let mut job = Job {
         grid: Grid { first: [1.0; 3], size: [1.0, 1.0, 2.0], count: [1; 3] },
         topology: Topology::List,
         vertices: vec![[0.0; 3], [4.0, 0.0, 0.0], [0.0, 4.0, 0.0]],
         indices: Some(vec![0, 1, 2]),
         queue: 8,
         pops: 100,
-    }
-}
-
-/// The listing, and the jobs of "Points on each side".
-fn point_of_document_01(mut job: Job, number: usize) -> Job {
-    match number % 7 {
+    };
+    match r.turn(&[0, 1, 2, 3, 4, 5, 6]) {
         0 => {}
         1 => job.grid.count = [2, 1, 1],
         2 => (job.grid.count, job.queue) = ([2, 1, 1], 1),
         3 => (job.grid.count, job.pops) = ([2, 1, 1], 1),
         4 => {
             job.grid.first = [0.0; 3];
-            job.vertices = vec![[0.0; 3], [0.0; 3], [f32::from_bits(27 << 23), 0.0, 0.0]]; // 2^-100
+            job.vertices = vec![[0.0; 3], [0.0; 3], [f32::from_bits(27 << 23), 0.0, 0.0]];
+            // 2^-100
         }
         5 => (job.indices, job.queue) = (Some(vec![]), 0),
         _ => (job.grid.count, job.queue, job.pops) = ([2, 1, 1], 2, 2),

@@ -27,9 +27,10 @@ fn main() {
         let turns = kinds::KINDS.len() as u64;
         let kind = args.get(2).map_or(kinds::KINDS[(index % turns) as usize].0, |kind| kind);
         let round = if args.len() > 2 { index } else { index / turns };
-        let mut r = Random(seed.wrapping_mul(0x1_0000_0001).wrapping_add(index.wrapping_mul(0x51_7cc1)));
-        r.next();
-        let Some(text) = kinds::make(kind, round, &mut r) else {
+        // Two numbers of one generator seed another: seeds and jobs do not run into each other.
+        let start = Random::new(seed, 0).next().wrapping_add(index);
+        let mut r = Random::new(Random::new(start, 0).next(), round);
+        let Some(text) = kinds::make(kind, &mut r) else {
             eprintln!("no such kind: {kind}");
             std::process::exit(2);
         };

@@ -1,11 +1,19 @@
 //! Seeded random numbers (splitmix64): the same seed gives the same numbers on every machine.
 
-pub struct Random(pub u64);
+pub struct Random {
+    state: u64,
+    /// How many of the kind came before: where a few choices are to be met soon, they take turns.
+    number: u64,
+}
 
 impl Random {
+    pub fn new(seed: u64, number: u64) -> Random {
+        Random { state: seed, number }
+    }
+
     pub fn next(&mut self) -> u64 {
-        self.0 = self.0.wrapping_add(0x9e37_79b9_7f4a_7c15);
-        let mut z = self.0;
+        self.state = self.state.wrapping_add(0x9e37_79b9_7f4a_7c15);
+        let mut z = self.state;
         z = (z ^ (z >> 30)).wrapping_mul(0xbf58_476d_1ce4_e5b9);
         z = (z ^ (z >> 27)).wrapping_mul(0x94d0_49bb_1331_11eb);
         z ^ (z >> 31)
@@ -23,6 +31,11 @@ impl Random {
 
     pub fn pick<T: Copy>(&mut self, choices: &[T]) -> T {
         choices[self.below(choices.len() as u64) as usize]
+    }
+
+    /// The choices one after the other, from one job of the kind to the next.
+    pub fn turn<T: Copy>(&self, choices: &[T]) -> T {
+        choices[(self.number % choices.len() as u64) as usize]
     }
 
     /// True once in n times.

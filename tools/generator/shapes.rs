@@ -32,12 +32,16 @@ pub fn cuboid(low: [f64; 3], high: [f64; 3]) -> Mesh {
     mesh
 }
 
+/// Which triangles of a cuboid are its lower face across an axis.
+pub fn cuboid_face(axis: usize) -> std::ops::Range<usize> {
+    [8..10, 4..6, 0..2][axis].clone()
+}
+
 /// A closed sphere (an ellipsoid) of bands and segments.
 pub fn sphere(centre: [f64; 3], radius: [f64; 3], bands: u32, segments: u32) -> Mesh {
     let mut mesh = Mesh::default();
-    let place = |x: f64, y: f64, z: f64| {
-        [centre[0] + x * radius[0], centre[1] + y * radius[1], centre[2] + z * radius[2]]
-    };
+    let place =
+        |x: f64, y: f64, z: f64| [centre[0] + x * radius[0], centre[1] + y * radius[1], centre[2] + z * radius[2]];
     let low = mesh.vertex(place(0.0, 0.0, -1.0));
     for band in 1..bands {
         let (sin, cos) = turn(0.5 * f64::from(band) / f64::from(bands));

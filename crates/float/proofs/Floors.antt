@@ -2,25 +2,23 @@
 -- below zero it is before every row; and the tests fail for a NaN, whose floor is 0. Assumes nothing.
 use mathlib.Core.Path.{_≡_, refl, sym, ap, _∙_, subst}
 use mathlib.Core.Logic.{_⊎_, inl, inr}
-use mathlib.Core.Bool.{Bool, true, false, _&&_, _||_, true≢false}
+use mathlib.Core.Bool.{true, false, _&&_, _||_, true≢false}
 use Prim.Native.Nat.{ℕ, zero, suc, _+_, _-_, _*_, _/_, _^_, _≤_, _<_, min}
 use native.Mathlib.Nat.{mul-pos, mul-one, zero-mul, div-lt-iff-lt-mul, le-div-iff-mul-le, lt-of-lt-of-le, mul-le-mul-right, eq-zero-or-pos}
 use native.Mathlib.Omega.{arith}
 use lib.IntN.{ℤ, pos, negsuc}
-use lib.Dec.{T, leb, ltb, eqb, lit≤, lt→ltb}
+use lib.Dec.{T, ltb, eqb, lit≤, lt→ltb}
 use lib.Ieee.{Float, nan, inf, fin, binary32, ofBits, up, down, lt, le, toUnsigned}
 use lib.Ieee.Fits.{up-pos, down-pos}
 use borrow.Author.Tests.{ltb-true, ltb-false, eqb-true, lt-ltb, lt-leb, le-leb, eq-eqb}
 use Rattle.float.specs.Arith.{_≦_, _≺_, f0}
 use Rattle.float.specs.Cell.{floorOf, cellOf, outside, Snapped}
+use Rattle.float.proofs.Bools.{and-first, both, or-first, or-second}
+use Rattle.float.proofs.Units.{zero-is}
 
 -- 4294967296.0, from which on no count of cells reaches
 abbrev pub f2³² : Float
 f2³² = ofBits binary32 0x4f80_0000
-
-zero-is : f0 ≡ fin false 0 (pos 0)
-unfolding ofBits
-zero-is = refl
 
 most-is : f2³² ≡ fin false 1 (pos 32)
 unfolding ofBits
@@ -52,10 +50,6 @@ no-row q count e =
     subst (λ (n : ℕ). Snapped n q 0 true) (sym e) (record { at = no-cells (floorOf q) .0; past = no-cells (floorOf q) .1 })
 
 -- ---- from 0 to 2 ^ 32
-
-and-first : (a b : Bool) → (a && b) ≡ true → a ≡ true
-and-first true b h = refl
-and-first false b h = h
 
 -- a value below zero is not at least zero
 not-least : (m : ℕ) (e : ℤ) → le (fin false 0 (pos 0)) (fin true (suc m) e) ≡ true → ⊥
@@ -129,23 +123,13 @@ past-every-row q count n h k =
 
 -- ---- below zero, and a NaN
 
-either : (a b : Bool) → a ≡ true → (a || b) ≡ true
-either a b h = ap (λ (x : Bool). x || b) h
-
-or-second : (a b : Bool) → b ≡ true → (a || (b && true)) ≡ true
-or-second true b h = refl
-or-second false b h = ap (λ (x : Bool). x && true) h
-
-both : (a b : Bool) → a ≡ true → b ≡ true → (a && b) ≡ true
-both a b p q = ap (λ (x : Bool). x && b) p ∙ q
-
 -- 0 is at most a value without a sign
 least : (d a : ℕ) → (ltb (0 * d) a || (eqb (0 * d) a && true)) ≡ true
 least d a = go (eq-zero-or-pos a)
   where
     go : (a ≡ 0) ⊎ (0 < a) → (ltb (0 * d) a || (eqb (0 * d) a && true)) ≡ true
-    go (inl e) = or-second (ltb (0 * d) a) (eqb (0 * d) a) (eq-eqb (0 * d) a (zero-mul d ∙ sym e))
-    go (inr p) = either (ltb (0 * d) a) (eqb (0 * d) a && true) (lt-ltb (0 * d) a (subst (λ (x : ℕ). x < a) (sym (zero-mul d)) p))
+    go (inl e) = or-second (ltb (0 * d) a) (eqb (0 * d) a && true) (both (eqb (0 * d) a) true (eq-eqb (0 * d) a (zero-mul d ∙ sym e)) refl)
+    go (inr p) = or-first (ltb (0 * d) a) (eqb (0 * d) a && true) (lt-ltb (0 * d) a (subst (λ (x : ℕ). x < a) (sym (zero-mul d)) p))
 
 below : (q : Float) (count : ℕ) → 0 < count → le (fin false 0 (pos 0)) q ≡ false
     → (0 ≡ cellOf count (floorOf q)) × (lt q (fin false 0 (pos 0)) ≡ outside count (floorOf q))

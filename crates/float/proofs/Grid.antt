@@ -2,7 +2,7 @@
 -- 2 ^ 23 up, no value lies between the neighbours (q - 1) * 2 ^ k and (q + 1) * 2 ^ k, but for finer ones below 2 ^ 23 * 2 ^ k; and where q is nearest
 -- to the root of N among the whole numbers, q * 2 ^ k is nearest to that of N * 4 ^ k among those values. Assumes nothing.
 use mathlib.Core.Path.{_≡_, refl, sym, ap, _∙_, subst}
-use mathlib.Core.Logic.{_⊎_, ⊎-elim}
+use mathlib.Core.Logic.{⊎-elim}
 use Prim.Native.Nat.{ℕ, _+_, _-_, _*_, _/_, _%_, _^_, _≤_, _<_}
 use native.Mathlib.Nat.{le-of-lt, le-trans, le-of-eq, lt-of-le-of-lt, lt-of-lt-of-le, lt-of-not-le, not-le-of-lt, lt-of-mul-lt-mul-right, mul-pos, mul-le-mul, mul-le-mul-left, mul-le-mul-right, mul-lt-mul-of-pos-right, mul-add, add-mul, mul-assoc, mul-mul-mul-comm}
 use native.Mathlib.Omega.{arith}

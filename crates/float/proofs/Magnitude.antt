@@ -3,16 +3,16 @@
 use mathlib.Core.Path.{_≡_, refl, sym, ap, _∙_, subst}
 use mathlib.Core.Logic.{_⊎_, inl, inr, ⊎-elim}
 use mathlib.Core.Bool.{Bool, true, false, not, Bool·beq, _&&_, _||_, true≢false}
-use Prim.Native.Nat.{ℕ, zero, suc, _+_, _*_, _%_, _≤_, _<_}
+use Prim.Native.Nat.{ℕ, zero, suc, _+_, _*_, _%_, _≤_}
 use native.Mathlib.Omega.{arith}
 use lib.IntN.{ℤ, pos}
-use lib.Dec.{T, eqb, leb}
+use lib.Dec.{T, eqb}
 use lib.Ieee.{Float, nan, inf, fin, binary32, up, down, fits, isNan, ne, le, ofBits, toBits}
-use lib.Ieee.Bits.{ofBits-toBits}
 use borrow.Author.Tests.{eq-eqb}
 use Rattle.float.specs.Arith.{_≦_, fMax}
 use Rattle.float.specs.Distance.{Distance, unsigned}
 use Rattle.float.specs.Steps.{absOf, finiteAtMost}
+use Rattle.float.proofs.Bools.{and-first}
 use Rattle.float.proofs.Order.{unsigned-distance, distance-unsigned}
 
 -- ---- the test `x != x`
@@ -98,10 +98,6 @@ unfolding absOf le
 under-most nan h = absurd (true≢false (sym h))
 under-most (inf s) h = absurd (true≢false (sym h))
 under-most (fin s m e) h = (s, m, e, refl)
-
-and-first : (a b : Bool) → (a && b) ≡ true → a ≡ true
-and-first true b h = refl
-and-first false b h = h
 
 -- such an x is a number
 pub finite-form : (x bound : Float) → finiteAtMost x bound ≡ true → (s : Bool) × (m : ℕ) × (e : ℤ) × (x ≡ fin s m e)

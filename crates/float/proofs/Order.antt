@@ -6,16 +6,17 @@ use native.Mathlib.Omega.{arith}
 use native.Mathlib.Decide.{decLt}
 use mathlib.Core.Path.{_≡_, refl, sym, ap, ap₂, _∙_, subst}
 use mathlib.Core.Logic.{_⊎_, inl, inr}
-use mathlib.Core.Bool.{Bool, true, false, not, cond, _&&_, _||_, true≢false}
+use mathlib.Core.Bool.{Bool, true, false, not, cond, _||_, true≢false}
 use lib.Dec.{T, leb, ltb, eqb, ltb→lt, lt→ltb, not-T, T-not}
 use lib.Pow.{pow-pos}
 use lib.Ieee.{Float, nan, inf, fin, binary32, up, down, odd, ofFields, ofBits, toBits, fits, isNan, lt, le, eq, nanBits}
-use lib.Ieee.Bits.{ofBits-toBits, toBits-ofBits, toBits-lt, ofBits-fits, nanBits-is, nanBits-above}
+use lib.Ieee.Bits.{ofBits-toBits, toBits-ofBits, ofBits-fits, nanBits-is, nanBits-above}
 use lib.Ieee.Exact.{HasValue}
 use lib.Ieee.Fits.{down-pos}
 use lib.Ieee.Order.{transfer}
 use borrow.Author.Tests.{lt-ltb, le-ltb, lt-leb, le-leb, eq-eqb, ne-eqb}
 use Rattle.float.specs.Distance.{Distance, unsigned}
+use Rattle.float.proofs.Bools.{and-true}
 use Rattle.float.proofs.Units.{unitsAt, units-ltb, value, infinity, ofBits-is, field-zero, field-suc}
 
 -- ---- three ways to compare two numbers, from one
@@ -45,10 +46,6 @@ ltb-or-eqb a b = go (decLt a b) (decLt b a)
     go (no h) (no v) = ap₂ _||_ (le-ltb a b (omega arith)) (eq-eqb a b (omega arith)) ∙ sym (le-leb a b (omega arith))
 
 -- ---- two values over one denominator
-
-and-true : (t : Bool) → (t && true) ≡ t
-and-true true = refl
-and-true false = refl
 
 -- x / de and y / dd are a / c and b / c: crosswise they compare as a and b
 cross : (x y de dd a b c : ℕ) → 0 < c → 0 < de → 0 < dd → x * c ≡ a * de → y * c ≡ b * dd → ltb (x * dd) (y * de) ≡ ltb a b

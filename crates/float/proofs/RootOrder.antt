@@ -1,12 +1,11 @@
 -- A root grows with its number: were the root R of X above the root S of Y, with X at most Y, then the square of R + S would be below four times X and
 -- above four times Y. Assumes nothing.
 use mathlib.Core.Path.{_≡_, sym, ap, _∙_, subst}
-use mathlib.Core.Logic.{_⊎_, inl, inr, ⊎-elim}
-use mathlib.Core.Bool.{Bool, true}
-use Prim.Native.Nat.{ℕ, _+_, _*_, _^_, _≤_, _<_}
+use mathlib.Core.Logic.{⊎-elim}
+use Prim.Native.Nat.{ℕ, _*_, _^_, _≤_, _<_}
 use native.Mathlib.Nat.{le-of-eq, le-of-lt, le-trans, lt-of-lt-of-le, not-le-of-lt, mul-le-mul-left, mul-le-mul-right, add-comm, eq-or-lt-of-le}
 use native.Mathlib.Omega.{arith}
-use lib.Dec.{T, leb, le→leb, leb→le}
+use lib.Dec.{T, le→leb, leb→le}
 use lib.Ieee.{Float, binary32, ofBits, toBits, le}
 use lib.Ieee.Bits.{ofBits-toBits, ofBits-fits}
 use Rattle.float.specs.Distance.{Distance}

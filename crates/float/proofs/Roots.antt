@@ -1,10 +1,10 @@
 -- The nearest root: the pattern that is made of a nearest whole number stands for it, there is no other, and `rootOf` computes it. Two nearest
 -- roots r and s of x would each be nearer than the other, so the square of r + s would lie on both sides of four times x. Assumes nothing.
 use mathlib.Core.Path.{_≡_, refl, sym, ap, _∙_, subst}
-use mathlib.Core.Logic.{_⊎_, inl, inr, ⊎-elim}
-use mathlib.Core.Bool.{Bool, true, false, not, cond, true≢false}
+use mathlib.Core.Logic.{⊎-elim}
+use mathlib.Core.Bool.{Bool, true, false, cond, true≢false}
 use Prim.Native.Nat.{ℕ, zero, suc, _+_, _-_, _*_, _/_, _%_, _^_, _≤_, _<_, min}
-use native.Mathlib.Nat.{le-trans, lt-irrefl, lt-of-lt-of-le, lt-of-le-of-lt, le-of-eq, le-of-lt, le-antisymm, lt-of-not-le, not-le-of-lt, mul-pos, zero-mul, mul-comm, mul-assoc, add-comm, eq-or-lt-of-le, mod-lt, mul-div-cancel, mul-lt-mul-of-pos-right, mul-le-mul-right, lt-of-mul-lt-mul-right, le-of-mul-le-mul-right, pow-succ'}
+use native.Mathlib.Nat.{le-trans, lt-irrefl, lt-of-lt-of-le, lt-of-le-of-lt, le-of-eq, le-of-lt, le-antisymm, lt-of-not-le, not-le-of-lt, mul-pos, zero-mul, mul-comm, add-comm, eq-or-lt-of-le, mod-lt, mul-div-cancel, mul-lt-mul-of-pos-right, mul-le-mul-right, lt-of-mul-lt-mul-right, le-of-mul-le-mul-right}
 use native.Mathlib.Omega.{arith}
 use native.Mathlib.Decide.{decLt}
 use lib.IntN.{ℤ, pos}
@@ -18,7 +18,7 @@ use lib.Ieee.Fits.{down-pos, nan-fits}
 use Rattle.float.specs.Distance.{Distance, unsigned}
 use Rattle.float.specs.Root.{unitsOf, Nearer, NearestRoot, Root}
 use Rattle.float.specs.RootOf.{NearestTo, nearestWhole, rootPattern, rootOf, rootBits, IsRoot, NormalForm}
-use Rattle.float.proofs.Units.{unitsAt, units-grow, value, infinity, ofBits-is, field-zero, field-suc, units-value}
+use Rattle.float.proofs.Units.{unitsAt, units-grow, value, zero-is, infinity, ofBits-is, field-zero, field-suc, units-value}
 use Rattle.float.proofs.Order.{unsigned-distance, distance-unsigned, bits-back}
 use Rattle.float.proofs.Squares.{le-or-lt, nearest-least, nearest-most}
 use Rattle.float.proofs.Grid.{nearest, scale}
@@ -206,10 +206,6 @@ at-bits b p h =
       packed-lt (51 + e / 2) q (omega (arith, n .small)) (nearest-most (lifted m e) q (range .1) (near .0)),
       is-root (ofBits binary32 b) m e q (omega (arith, n .small)) (omega arith) (omega arith) (n .same) near,
     )
-
-pub zero-is : ofBits binary32 0 ≡ fin false 0 (pos 0)
-unfolding ofBits
-zero-is = refl
 
 -- the pattern of a number above zero
 pub above-bits : (m : ℕ) (e : ℤ) → T (fits binary32 (fin false (suc m) e)) → (0 < toBits binary32 (fin false (suc m) e)) × (toBits binary32 (fin false (suc m) e) < 0x7f80_0000)

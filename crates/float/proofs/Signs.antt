@@ -6,8 +6,8 @@ use mathlib.Core.Bool.{Bool, true, false, cond, true≢false}
 use Prim.Native.Nat.{ℕ, zero, suc, _+_, _*_, _/_, _%_, _^_, _≤_, _<_}
 use native.Mathlib.Nat.{le-of-lt, mul-pos, mod-eq-of-lt}
 use native.Mathlib.Omega.{arith}
-use lib.IntN.{ℤ, pos}
-use lib.Dec.{T, leb, ltb, eqb, lt→ltb}
+use lib.IntN.{pos}
+use lib.Dec.{T, eqb, lt→ltb}
 use lib.Pow.{pow-pos}
 use lib.Ieee.{Float, nan, inf, fin, binary32, up, down, odd, fits, isNan, ofFields, ofBits, toBits, lt, div}
 use lib.Ieee.Bits.{nanBits-is, nanBits-above}
@@ -17,9 +17,9 @@ use borrow.Author.Tests.{ltb-true, lt-ltb, le-leb}
 use Rattle.float.specs.Arith.{_≺_, f0}
 use Rattle.float.specs.Distance.{unsigned}
 use Rattle.float.specs.RootOf.{rootOf, rootBits}
-use Rattle.float.proofs.Units.{ofBits-is, field-zero, field-suc}
+use Rattle.float.proofs.Units.{zero-is, ofBits-is, field-zero, field-suc}
 use Rattle.float.proofs.Squares.{le-or-lt}
-use Rattle.float.proofs.Roots.{none, zero-is, above-bits}
+use Rattle.float.proofs.Roots.{none, above-bits}
 
 -- ---- above zero
 

@@ -6,10 +6,11 @@ use native.Mathlib.Omega.{arith}
 use native.Mathlib.Decide.{decLt}
 use mathlib.Core.Path.{_≡_, refl, sym, ap, ap₂, _∙_, subst}
 use mathlib.Core.Logic.{_⊎_, inl, inr}
-use mathlib.Core.Bool.{Bool, true, false, cond}
+use mathlib.Core.Bool.{Bool, false, cond}
 use lib.Dec.{T, leb, ltb, eqb, not-T, eqb→eq}
+use lib.IntN.{pos}
 use lib.Pow.{pow-pos, pow-mono}
-use lib.Ieee.{Float, nan, inf, fin, binary32, up, down, odd, ofFields, ofBits}
+use lib.Ieee.{Float, nan, inf, fin, binary32, down, odd, ofFields, ofBits}
 use lib.Ieee.Bits.{cond-no}
 use lib.Ieee.Exact.{HasValue, odd-sign}
 use lib.Ieee.Fits.{down-pos}
@@ -106,6 +107,10 @@ field-value s (suc x) t h =
 pub value : (b : ℕ) → b < 0x7f80_0000 → HasValue (ofBits binary32 b) false (unitsAt b) (2 ^ 149)
 value b h =
     subst (λ (w : Float). HasValue w false (unitsAt b) (2 ^ 149)) (sym (plain b (omega arith))) (field-value false (b / 0x80_0000) (b % 0x80_0000) (omega arith))
+
+pub zero-is : ofBits binary32 0 ≡ fin false 0 (pos 0)
+unfolding ofBits
+zero-is = refl
 
 pub infinity : ofBits binary32 0x7f80_0000 ≡ inf false
 unfolding ofBits ofFields

@@ -1,6 +1,6 @@
 -- "Distances that wait": a distance is a value that is no NaN and has no sign bit, so its bit pattern is at most infinity's. Definitions only.
 use Prim.Native.Nat.{_≤_}
-use mathlib.Core.Bool.{Bool, true, false, not}
+use mathlib.Core.Bool.{Bool, false, not}
 use lib.Dec.{T}
 use lib.Ieee.{Float, nan, inf, fin, binary32, fits, toBits}
 

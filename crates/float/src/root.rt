@@ -45,15 +45,24 @@ fn guess(w: u32) -> u64
     ((row >> 35) + rise) >> 5
 }
 
-// The whole number nearest to the root of n, one by one from g.
-fn walked(n: u64, g: u64) -> u64
+// From g down to a number that is not too large to be nearest to the root of n.
+fn lowered(n: u64, g: u64) -> u64
     requires { ⌜ (0 < n) × (n < 2 ^ 48) × (g < 2 ^ 25) ⌝ }
-    ensures { λ q. ⌜ NearestTo n q ⌝ }
+    ensures { λ q. ⌜ (q < 2 ^ 25) × (q * q < n + q) ⌝ }
 {
     let mut q = g;
     while n + q <= q * q {
         q -= 1;
     }
+    q
+}
+
+// From such a number up to the nearest.
+fn raised(n: u64, g: u64) -> u64
+    requires { ⌜ (n < 2 ^ 48) × (g < 2 ^ 25) × (g * g < n + g) ⌝ }
+    ensures { λ q. ⌜ NearestTo n q ⌝ }
+{
+    let mut q = g;
     while q * q + q < n {
         q += 1;
     }
@@ -71,7 +80,7 @@ fn nearest_root(n: u64, g: u64) -> u64
             return g;
         }
     }
-    walked(n, g)
+    raised(n, lowered(n, g))
 }
 
 // The pattern of the root of the number above zero whose pattern is b.

@@ -6,7 +6,7 @@ use Rattle.point.specs.Point.{_+ᵥ_, _*ᵥ_}
 use Rattle.point.specs.declared.Point.{Point}
 use Rattle.geo.specs.declared.closest.Facet.{Facet}
 use Rattle.geo.specs.declared.closest.Dots.{Dots}
-use Rattle.geo.specs.declared.closest.Regions.{Regions}
+use Rattle.geo.specs.declared.squares.Regions.{Regions}
 use Rattle.geo.specs.Closest.{nearest, va, vb, vc, atA, atB, atC, onAB, onAC, onBC}
 use Rattle.geo.specs.Flat.{regionsOf, ratio, start, way, place}
 

@@ -3,7 +3,8 @@
 -- (document 01). Definitions only.
 use mathlib.Core.Bool.{Bool, _&&_, _||_}
 use lib.Ieee.{Float}
-use Rattle.float.specs.Arith.{_⊕_, _⊖_, _⊗_, _⊘_, _≦_, _≺_, f0, f1, if_then_else_}
+use Rattle.float.specs.Arith.{_⊕_, _⊖_, _⊗_, _⊘_, _≦_, f0, f1, if_then_else_}
+use Rattle.float.specs.Steps.{clampOf}
 use Rattle.point.specs.Point.{_+ᵥ_, _-ᵥ_, _*ᵥ_, _·_, _≐ᵥ_}
 use Rattle.point.specs.declared.Point.{Point}
 use Rattle.geo.specs.declared.closest.Facet.{Facet}
@@ -11,14 +12,11 @@ use Rattle.geo.specs.declared.closest.Dots.{Dots}
 
 -- ---- the segment from a to b
 
--- f32::clamp(0.0, 1.0): a NaN is neither below 0 nor above 1, and stays
-abbrev pub clamped : Float → Float
-clamped t = if t ≺ f0 then f0 else if f1 ≺ t then f1 else t
-
+-- the clamp keeps a NaN, which is neither below 0 nor above 1
 unfoldable pub closestPointSegment : Point → Point → Point → Point
 closestPointSegment p a b =
     let ab = b -ᵥ a in
-    a +ᵥ ab *ᵥ clamped (ab · (p -ᵥ a) ⊘ ab · ab)
+    a +ᵥ ab *ᵥ clampOf f0 f1 (ab · (p -ᵥ a) ⊘ ab · ab)
 
 -- ---- a triangle with equal corners
 

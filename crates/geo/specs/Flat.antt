@@ -8,7 +8,7 @@ use Rattle.point.specs.declared.Point.{Point}
 use Rattle.geo.specs.Closest.{va, vb, vc, atA, atB, atC, onAB, onAC, onBC}
 use Rattle.geo.specs.declared.closest.Facet.{Facet}
 use Rattle.geo.specs.declared.closest.Dots.{Dots}
-use Rattle.geo.specs.declared.closest.Regions.{Regions}
+use Rattle.geo.specs.declared.squares.Regions.{Regions}
 
 abbrev pub first : {A : Type 0} → Bool → Bool → Bool → A → A → A → A → A
 first x y z a b c e = cond x a (cond y b (cond z c e))
@@ -24,11 +24,13 @@ ratio g d =
 
 -- the corner that the region is, or from which its edge starts
 unfoldable pub start : Regions → Facet → Point
-start g f = first (g .a) (g .b) (g .c) (f .a) (f .b) (f .c) (cond (g .ab || g .ac || not (g .bc)) (f .a) (f .b))
+start g f =
+    cond (not (g .a) && (g .b || (not (g .c) && not (g .ab) && not (g .ac) && g .bc))) (f .b)
+    (cond (not (g .a) && not (g .b) && g .c) (f .c) (f .a))
 
 -- the first edge to go along
 unfoldable pub way : Regions → Facet → Point
-way g f = first (g .ab) (g .ac) (g .bc) (f .ab) (f .ac) (f .bc) (f .ab)
+way g f = cond (not (g .ab) && g .ac) (f .ac) (cond (not (g .ab) && not (g .ac) && g .bc) (f .bc) (f .ab))
 
 -- from the start along the first edge, and inside along ac too
 unfoldable pub place : Regions → Facet → Dots → Float → Point

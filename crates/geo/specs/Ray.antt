@@ -18,28 +18,28 @@ use Rattle.geo.specs.declared.ray.RayHit.the-variants.{Miss, Hit}
 abbrev pub weight : Point → Point → Float
 weight p e = p .z ⊗ e .y ⊖ p .y ⊗ e .z
 
+abbrev pub weightsX : Point → Point → Point → Point → Three
+weightsX o v0 v1 v2 = record { v0 = weight (o -ᵥ v1) (v2 -ᵥ v1); v1 = weight (o -ᵥ v2) (v0 -ᵥ v2); v2 = weight (o -ᵥ v0) (v1 -ᵥ v0) }
+
+-- t, from the weights and from where the origin lies along x, seen from each corner
+abbrev pub reach : Float → Float → Float → Float → Float → Float → Float
+reach w0 w1 w2 x0 x1 x2 = neg (w0 ⊗ x0 ⊕ w2 ⊗ x2 ⊕ w1 ⊗ x1) ⊘ (w0 ⊕ w1 ⊕ w2)
+
+abbrev pub reachX : Point → Point → Point → Point → Float
+reachX o v0 v1 v2 =
+    let w = weightsX o v0 v1 v2 in reach (w .v0) (w .v1) (w .v2) ((o -ᵥ v0) .x) ((o -ᵥ v1) .x) ((o -ᵥ v2) .x)
+
 abbrev pub allBelow : Float → Float → Float → Bool
 allBelow w0 w1 w2 = (w0 ≺ f0) && (w1 ≺ f0) && (w2 ≺ f0)
 
 abbrev pub allAbove : Float → Float → Float → Bool
 allAbove w0 w1 w2 = (f0 ≺ w0) && (f0 ≺ w1) && (f0 ≺ w2)
 
--- t, from the weights and from where the origin lies along x, seen from each corner
-abbrev pub reach : Float → Float → Float → Float → Float → Float → Float
-reach w0 w1 w2 x0 x1 x2 = neg (w0 ⊗ x0 ⊕ w2 ⊗ x2 ⊕ w1 ⊗ x1) ⊘ (w0 ⊕ w1 ⊕ w2)
-
 abbrev pub reply : Float → Float → Float → Float → RayHit
 reply w0 w1 w2 t = if allBelow w0 w1 w2 || allAbove w0 w1 w2 then (if f0 ≺ t then Hit t else Miss) else Miss
 
 unfoldable pub rayX : Point → Point → Point → Point → RayHit
-rayX o v0 v1 v2 =
-    let p0 = o -ᵥ v0 in
-    let p1 = o -ᵥ v1 in
-    let p2 = o -ᵥ v2 in
-    let w0 = weight p1 (v2 -ᵥ v1) in
-    let w1 = weight p2 (v0 -ᵥ v2) in
-    let w2 = weight p0 (v1 -ᵥ v0) in
-    reply w0 w1 w2 (reach w0 w1 w2 (p0 .x) (p1 .x) (p2 .x))
+rayX o v0 v1 v2 = let w = weightsX o v0 v1 v2 in reply (w .v0) (w .v1) (w .v2) (reachX o v0 v1 v2)
 
 -- ---- along any axis: with the coordinates turned, it is along x
 

@@ -1,10 +1,8 @@
 // The point of a segment and of a triangle that is closest to a point, after Embree. What depends on the
-// triangle alone is a `Facet`, made once for many points. The regions are picked with no branch.
+// triangle alone is a `Facet`, made once for many points.
 ghost use mathlib.Core.Path.{_≡_};
-ghost use mathlib.Core.Bool.{cond};
 ghost use Rattle.point.specs.Point.{_+ᵥ_, _*ᵥ_};
 ghost use Rattle.geo.specs.Closest as Closest;
-ghost use Rattle.geo.specs.Flat as Flat;
 use point::Point;
 
 // A triangle made ready: its corners, its edges, and whether two of its corners are equal.
@@ -28,18 +26,8 @@ pub struct Dots {
     pub d6: f32,
 }
 
-// The outcomes of the six tests. The first that passes names the region, and inside is where none does.
-pub struct Regions {
-    pub a: bool,
-    pub b: bool,
-    pub c: bool,
-    pub ab: bool,
-    pub ac: bool,
-    pub bc: bool,
-}
-
 // From `o` along `e`, as far as `t` says: the source's `o.add(&e.fmul(t))`.
-fn step(o: Point, e: Point, t: f32) -> Point
+pub fn step(o: Point, e: Point, t: f32) -> Point
     ensures { λ r. ⌜ r ≡ o +ᵥ e *ᵥ t ⌝ }
 {
     Point {
@@ -92,125 +80,43 @@ pub fn dots_of(f: Facet, p: Point) -> Dots
     }
 }
 
-pub fn regions_of(d: Dots) -> Regions
-    ensures { λ r. ⌜ r ≡ Flat.regionsOf d ⌝ }
-{
-    let d1 = d.d1;
-    let d2 = d.d2;
-    let d3 = d.d3;
-    let d4 = d.d4;
-    let d5 = d.d5;
-    let d6 = d.d6;
-    let vc = d1 * d4 - d3 * d2;
-    let vb = d5 * d2 - d1 * d6;
-    let va = d3 * d6 - d5 * d4;
-    Regions {
-        a: (d1 <= 0.0) & (d2 <= 0.0),
-        b: (d3 >= 0.0) & (d4 <= d3),
-        c: (d6 >= 0.0) & (d5 <= d6),
-        ab: (vc <= 0.0) & (d1 >= 0.0) & (d3 <= 0.0),
-        ac: (vb <= 0.0) & (d2 >= 0.0) & (d6 <= 0.0),
-        bc: (va <= 0.0) & (d4 - d3 >= 0.0) & (d5 - d6 >= 0.0),
-    }
-}
-
-fn pick(c: bool, a: f32, b: f32) -> f32
-    ensures { λ r. ⌜ r ≡ cond c a b ⌝ }
-{
-    if c { a } else { b }
-}
-
-fn pick_point(c: bool, a: Point, b: Point) -> Point
-    ensures { λ r. ⌜ r ≡ cond c a b ⌝ }
-{
-    if c { a } else { b }
-}
-
-fn first(x: bool, y: bool, z: bool, a: f32, b: f32, c: f32, e: f32) -> f32
-    ensures { λ r. ⌜ r ≡ Flat.first x y z a b c e ⌝ }
-{
-    if x {
-        a
-    } else if y {
-        b
-    } else if z {
-        c
-    } else {
-        e
-    }
-}
-
-fn first_point(x: bool, y: bool, z: bool, a: Point, b: Point, c: Point, e: Point) -> Point
-    ensures { λ r. ⌜ r ≡ Flat.first x y z a b c e ⌝ }
-{
-    if x {
-        a
-    } else if y {
-        b
-    } else if z {
-        c
-    } else {
-        e
-    }
-}
-
-// The parameter of the edge, or 1 / (va + vb + vc): one division for every region.
-pub fn ratio(g: Regions, d: Dots) -> f32
-    ensures { λ r. ⌜ r ≡ Flat.ratio g d ⌝ }
-{
-    let d1 = d.d1;
-    let d2 = d.d2;
-    let d3 = d.d3;
-    let d4 = d.d4;
-    let d5 = d.d5;
-    let d6 = d.d6;
-    let sum = (d3 * d6 - d5 * d4) + (d5 * d2 - d1 * d6) + (d1 * d4 - d3 * d2);
-    first(g.ab, g.ac, g.bc, d1, d2, d4 - d3, 1.0)
-        / first(
-            g.ab,
-            g.ac,
-            g.bc,
-            d1 - d3,
-            d2 - d6,
-            (d4 - d3) + (d5 - d6),
-            sum,
-        )
-}
-
-// The corner that the region is, or from which its edge starts.
-fn start(g: Regions, f: Facet) -> Point
-    ensures { λ r. ⌜ r ≡ Flat.start g f ⌝ }
-{
-    let s = pick_point(g.ab | g.ac | !g.bc, f.a, f.b);
-    first_point(g.a, g.b, g.c, f.a, f.b, f.c, s)
-}
-
-// The first edge to go along.
-fn way(g: Regions, f: Facet) -> Point
-    ensures { λ r. ⌜ r ≡ Flat.way g f ⌝ }
-{
-    first_point(g.ab, g.ac, g.bc, f.ab, f.ac, f.bc, f.ab)
-}
-
-// From the start along the first edge, and inside along ac too.
-pub fn place(g: Regions, f: Facet, d: Dots, q: f32) -> Point
-    ensures { λ r. ⌜ r ≡ Flat.place g f d q ⌝ }
-{
-    let v = (d.d5 * d.d2 - d.d1 * d.d6) * q;
-    let w = (d.d1 * d.d4 - d.d3 * d.d2) * q;
-    let edge = g.ab | g.ac | g.bc;
-    let o = start(g, f);
-    let corner = g.a | g.b | g.c;
-    let s = step(o, way(g, f), pick(edge, q, v));
-    let i = pick_point(edge, s, step(s, f.ac, w));
-    pick_point(corner, o, i)
-}
-
+// The first region whose test passes, and inside where none does. The tests are joined by `&`: a branch
+// on each part costs more than the comparisons.
 fn nearest(d: Dots, f: Facet) -> Point
     ensures { λ r. ⌜ r ≡ Closest.nearest d f ⌝ }
 {
-    let g = regions_of(d);
-    place(g, f, d, ratio(g, d))
+    let a = f.a;
+    let b = f.b;
+    let c = f.c;
+    let d1 = d.d1;
+    let d2 = d.d2;
+    let d3 = d.d3;
+    let d4 = d.d4;
+    let d5 = d.d5;
+    let d6 = d.d6;
+    if (d1 <= 0.0) & (d2 <= 0.0) {
+        return a;
+    }
+    if (d3 >= 0.0) & (d4 <= d3) {
+        return b;
+    }
+    if (d6 >= 0.0) & (d5 <= d6) {
+        return c;
+    }
+    let vc = d1 * d4 - d3 * d2;
+    if (vc <= 0.0) & (d1 >= 0.0) & (d3 <= 0.0) {
+        return step(a, f.ab, d1 / (d1 - d3));
+    }
+    let vb = d5 * d2 - d1 * d6;
+    if (vb <= 0.0) & (d2 >= 0.0) & (d6 <= 0.0) {
+        return step(a, f.ac, d2 / (d2 - d6));
+    }
+    let va = d3 * d6 - d5 * d4;
+    if (va <= 0.0) & (d4 - d3 >= 0.0) & (d5 - d6 >= 0.0) {
+        return step(b, f.bc, (d4 - d3) / ((d4 - d3) + (d5 - d6)));
+    }
+    let denom = 1.0 / (va + vb + vc);
+    step(step(a, f.ab, vb * denom), f.ac, vc * denom)
 }
 
 // A triangle of which two corners are equal is a segment or a point.

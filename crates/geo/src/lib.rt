@@ -1,10 +1,14 @@
 // Geometry of triangles, after `geo.rs`: the closest point, the distance, the box, and the ray along an
 // axis. Each function equals a definition of specs/. A part of the public face `sdf`.
+pub mod asked;
+mod bounding;
 mod closest;
 mod distance;
-mod ray;
+pub mod ray;
 mod squares;
 
+pub use bounding::TriangleBox;
+pub use bounding::triangle_bounding_box;
 pub use closest::Facet;
 pub use closest::closest_on;
 pub use closest::closest_point_segment;

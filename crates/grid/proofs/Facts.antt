@@ -1,5 +1,5 @@
 -- What the tests of a grid and of a cell say of their numbers. Assumes nothing.
-use mathlib.Core.Path.{_≡_, refl, sym, ap, _∙_}
+use mathlib.Core.Path.{_≡_, refl, sym, _∙_}
 use mathlib.Core.Bool.{Bool, true, false, not, _&&_, true≢false}
 use Prim.Native.Nat.{ℕ, _+_, _*_, _^_, _≤_, _<_}
 use native.Mathlib.Nat.{mul-le-mul, le-mul-of-pos-right, lt-of-le-of-lt, lt-of-lt-of-le}
@@ -13,7 +13,7 @@ use Rattle.grid.specs.declared.Grid.{Grid}
 use Rattle.grid.specs.declared.Cell.{Cell}
 use Rattle.grid.specs.Axes.{countOn, firstOn, sizeOn, cellOn, onEvery}
 use Rattle.grid.specs.Index.{Inside, index, total, isCell}
-use Rattle.grid.specs.Bounds.{isCount, isCoordinate, isSize, axisInBounds, isTotal, inBounds}
+use Rattle.grid.specs.Bounds.{isCount, isCoordinate, isSize, axisInBounds, isAxis, isTotal, inBounds}
 use Rattle.grid.proofs.Laws.{index-below}
 
 both : (a b : Bool) → (a && b) ≡ true → (a ≡ true) × (b ≡ true)
@@ -63,13 +63,13 @@ on-axis b X = b .on-x
 on-axis b Y = b .on-y
 on-axis b Z = b .on-z
 
-pub axes-of : (g : Grid) → onEvery (λ a. axisInBounds (countOn a g) (firstOn a g) (sizeOn a g)) ≡ true → (a : Axis) → Axis-bounds (countOn a g) (firstOn a g) (sizeOn a g)
-axes-of g h a = axis-bounds (countOn a g) (firstOn a g) (sizeOn a g) (each (λ a. axisInBounds (countOn a g) (firstOn a g) (sizeOn a g)) h a)
+pub axes-of : (g : Grid) → onEvery (isAxis g) ≡ true → (a : Axis) → Axis-bounds (countOn a g) (firstOn a g) (sizeOn a g)
+axes-of g h a = axis-bounds (countOn a g) (firstOn a g) (sizeOn a g) (each (isAxis g) h a)
 
 pub bounds-of : (g : Grid) → inBounds g ≡ true → Bounds g
 unfolding inBounds
 bounds-of g h =
-    let tests = both (onEvery (λ a. axisInBounds (countOn a g) (firstOn a g) (sizeOn a g))) (isTotal (total g) && true) h in
+    let tests = both (onEvery (isAxis g)) (isTotal (total g) && true) h in
     record {
       on-x = axes-of g (tests .0) X;
       on-y = axes-of g (tests .0) Y;

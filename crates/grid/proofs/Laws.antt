@@ -2,14 +2,14 @@
 -- each law is one about a digit in front of another. Over plain numbers nx, ny, nz. Assumes nothing.
 use mathlib.Core.Path.{_≡_, refl, sym, ap, _∙_}
 use mathlib.Core.Logic.{_⊎_, inl, inr}
-use Prim.Native.Nat.{ℕ, zero, suc, _+_, _*_, _/_, _%_, _≤_, _<_}
-use native.Mathlib.Nat.{add-mul, mul-assoc, mul-comm, zero-mul, mul-zero, mul-pos, mul-le-mul-right, lt-of-lt-of-le, mod-lt, mod-eq-of-lt, div-eq-of-lt, div-div-eq-div-mul, div-lt-iff-lt-mul, div-add-mod', mul-add-div-right, mul-add-mod-self-right, eq-zero-or-pos, lt-irrefl}
+use Prim.Native.Nat.{ℕ, _+_, _*_, _/_, _%_, _≤_, _<_}
+use native.Mathlib.Nat.{add-mul, mul-assoc, mul-comm, zero-mul, mul-zero, mul-pos, mul-le-mul-right, lt-of-lt-of-le, mod-lt, mod-eq-of-lt, div-eq-of-lt, div-div-eq-div-mul, div-lt-iff-lt-mul, div-add-mod', mul-add-div-right, mul-add-mod-self-right, eq-zero-or-pos}
 use native.Mathlib.Omega.{arith}
 use Rattle.point.specs.declared.Axis.{Axis}
 use Rattle.point.specs.declared.Axis.the-variants.{X, Y, Z}
 use Rattle.grid.specs.declared.Cell.{Cell}
-use Rattle.grid.specs.Axes.{cellOn, cell}
-use Rattle.grid.specs.Index.{index, coordinates, Within}
+use Rattle.grid.specs.Axes.{cellOn, pick, put}
+use Rattle.grid.specs.Index.{index, coordinates, stride, Within}
 
 -- ---- one digit in front of another
 -- below m before, below n behind: below m·n
@@ -103,20 +103,23 @@ index-order {nx} {ny} {nz} {c} {d} w b = rw (nested, nested ny nz d) (further (a
     further (inr (e, h)) = rw e (omega arith)
 
 -- ---- along a line
--- the cell with k in the place of its number along an axis
-abbrev pub put : Axis → ℕ → Cell → Cell
-put X k c = cell k (c .y) (c .z)
-put Y k c = cell (c .x) k (c .z)
-put Z k c = cell (c .x) (c .y) k
-
--- by how much the index grows from a cell to the next along an axis
-abbrev pub stride : Axis → ℕ → ℕ → ℕ
-stride X ny nz = ny * nz
-stride Y ny nz = nz
-stride Z ny nz = 1
-
 pub index-along : (a : Axis) (ny nz k : ℕ) (c : Cell) → index ny nz (put a k c) ≡ index ny nz (put a 0 c) + k * stride a ny nz
 unfolding index
 index-along X ny nz k c = rw (← mul-assoc, zero-mul, zero-mul) (omega arith)
 index-along Y ny nz k c = omega arith
 index-along Z ny nz k c = omega arith
+
+pub put-within : (a : Axis) {nx ny nz k : ℕ} {c : Cell} → Within nx ny nz c → k < pick a nx ny nz → Within nx ny nz (put a k c)
+put-within X w h = record { x-below = h; y-below = w .y-below; z-below = w .z-below }
+put-within Y w h = record { x-below = w .x-below; y-below = h; z-below = w .z-below }
+put-within Z w h = record { x-below = w .x-below; y-below = w .y-below; z-below = h }
+
+pub put-on : (a : Axis) (k : ℕ) (c : Cell) → cellOn a (put a k c) ≡ k
+put-on X k c = refl
+put-on Y k c = refl
+put-on Z k c = refl
+
+pub put-same : (a : Axis) (c : Cell) → put a (cellOn a c) c ≡ c
+put-same X c = refl
+put-same Y c = refl
+put-same Z c = refl

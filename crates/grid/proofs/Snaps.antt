@@ -1,13 +1,12 @@
 -- A snapped cell is within the counts, and a snap is Inside exactly when no axis was clamped: when on each axis the cell is the
 -- floor itself. Assumes nothing.
-use mathlib.Core.Path.{_≡_, refl, sym, ap, _∙_}
+use mathlib.Core.Path.{_≡_, refl, ap}
 use mathlib.Core.Bool.{Bool, true, false, cond, _||_, true≢false}
-use Prim.Native.Nat.{ℕ, _-_, _≤_, _<_, min}
+use Prim.Native.Nat.{ℕ, _-_, _<_, min}
 use native.Mathlib.Omega.{arith}
 use lib.IntN.{ℤ, pos, negsuc}
-use lib.Dec.{leb}
 use borrow.Author.Tests.{leb-false, lt-leb}
-use Rattle.float.specs.Cell.{floorOf, cellOf, outside}
+use Rattle.float.specs.Cell.{cellOf, outside}
 use Rattle.float.proofs.Floors.{cell-lt}
 use Rattle.point.specs.declared.Point.{Point}
 use Rattle.point.specs.declared.Axis.{Axis}

@@ -38,6 +38,18 @@ cellOn Z c = c .z
 abbrev pub cell : ℕ → ℕ → ℕ → Cell
 cell x y z = record { x = x; y = y; z = z }
 
+-- the cell with k in the place of its number along an axis
+abbrev pub put : Axis → ℕ → Cell → Cell
+put X k c = cell k (c .y) (c .z)
+put Y k c = cell (c .x) k (c .z)
+put Z k c = cell (c .x) (c .y) k
+
+-- the one of three numbers that belongs to an axis
+abbrev pub pick : Axis → ℕ → ℕ → ℕ → ℕ
+pick X x y z = x
+pick Y x y z = y
+pick Z x y z = z
+
 -- the point and the cell that f gives axis by axis
 abbrev pub pointBy : (Axis → Float) → Point
 pointBy f = vec (f X) (f Y) (f Z)

@@ -7,6 +7,8 @@ use lib.Dec.{leb}
 use lib.Ieee as Ieee
 use lib.Ieee.{Float, binary32}
 use Rattle.float.specs.Arith.{_≦_}
+use Rattle.float.specs.Steps.{finiteAtMost}
+use Rattle.point.specs.declared.Axis.{Axis}
 use Rattle.grid.specs.declared.Grid.{Grid}
 use Rattle.grid.specs.Axes.{countOn, firstOn, sizeOn, onEvery}
 use Rattle.grid.specs.Index.{total}
@@ -29,9 +31,9 @@ f2¹⁰ = Ieee.ofBits binary32 0x4480_0000
 abbrev pub f2⁻¹⁰ : Float
 f2⁻¹⁰ = Ieee.ofBits binary32 0x3a80_0000
 
--- "first-cell coordinates | finite, magnitude at most 1,048,576". A NaN and an infinity fail a test.
+-- "first-cell coordinates | finite, magnitude at most 1,048,576"
 abbrev pub isCoordinate : Float → Bool
-isCoordinate x = (Ieee.neg f2²⁰ ≦ x) && (x ≦ f2²⁰)
+isCoordinate x = finiteAtMost x f2²⁰
 
 -- "cell size, each axis | 1/1,024 to 1,024, both allowed"
 abbrev pub isSize : Float → Bool
@@ -41,12 +43,12 @@ isSize x = (f2⁻¹⁰ ≦ x) && (x ≦ f2¹⁰)
 abbrev pub axisInBounds : ℕ → Float → Float → Bool
 axisInBounds count first size = isCount count && isCoordinate first && isSize size
 
+abbrev pub isAxis : Grid → Axis → Bool
+isAxis g a = axisInBounds (countOn a g) (firstOn a g) (sizeOn a g)
+
 -- every test that a grid must pass
 abbrev pub bounds : Grid → List Bool
-bounds g =
-    onEvery (λ a. axisInBounds (countOn a g) (firstOn a g) (sizeOn a g)) ∷
-    isTotal (total g) ∷
-    []
+bounds g = onEvery (isAxis g) ∷ isTotal (total g) ∷ []
 
 abbrev pub all : List Bool → Bool
 all [] = true

@@ -2,6 +2,7 @@
 use mathlib.Core.Bool.{Bool}
 use Prim.Native.Nat.{ℕ, _+_, _*_, _/_, _%_, _<_}
 use lib.Dec.{ltb}
+use Rattle.point.specs.declared.Axis.{Axis}
 use Rattle.point.specs.declared.Axis.the-variants.{X, Y, Z}
 use Rattle.grid.specs.declared.Grid.{Grid}
 use Rattle.grid.specs.declared.Cell.{Cell}
@@ -13,6 +14,12 @@ index ny nz c = c .z + c .y * nz + c .x * ny * nz
 
 unfoldable pub coordinates : ℕ → ℕ → ℕ → Cell
 coordinates ny nz i = cell (i / (ny * nz)) (i / nz % ny) (i % nz)
+
+-- by how much the index grows from a cell to the next along an axis
+abbrev pub stride : Axis → ℕ → ℕ → ℕ
+stride X ny nz = ny * nz
+stride Y ny nz = nz
+stride Z ny nz = 1
 
 -- a cell within the counts
 pub record Within (nx ny nz : ℕ) (c : Cell) : Type 0 where

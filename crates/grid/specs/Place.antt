@@ -9,7 +9,6 @@ use Rattle.float.specs.Arith.{_⊕_, _⊖_, _⊗_, _⊘_, f½, if_then_else_}
 use Rattle.float.specs.Cell.{floorOf, cellOf, outside}
 use Rattle.point.specs.declared.Point.{Point}
 use Rattle.point.specs.declared.Axis.{Axis}
-use Rattle.point.specs.declared.Axis.the-variants.{X, Y, Z}
 use Rattle.point.specs.Point.{coordinate}
 use Rattle.grid.specs.declared.Grid.{Grid}
 use Rattle.grid.specs.declared.Cell.{Cell}

@@ -97,7 +97,7 @@ fn axis_in_bounds(count: u32, first: f32, size: f32) -> bool
     ensures { λ r. ⌜ r ≡ axisInBounds count first size ⌝ }
 {
     let count_ok = (1 <= count) & (count <= 1024);
-    let first_ok = (-1048576.0 <= first) & (first <= 1048576.0);
+    let first_ok = float::finite_at_most(first, 1048576.0);
     let size_ok = (0.0009765625 <= size) & (size <= 1024.0);
     count_ok & first_ok & size_ok
 }

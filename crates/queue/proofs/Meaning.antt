@@ -2,7 +2,7 @@
 -- order, that it has each of the first n elements as often as they do, and what is a member of it. Assumes nothing.
 use Prim.Native.Nat.{ℕ, zero, suc, _+_, _≤_}
 use native.Mathlib.Nat.{le-of-suc-le-suc, not-suc-le-zero, add-left-comm}
-use mathlib.Core.Path.{_≡_, refl, sym, ap, _∙_}
+use mathlib.Core.Path.{_≡_, refl, ap, _∙_}
 use mathlib.Core.Logic.{_⊎_, inl, inr}
 use mathlib.Core.Bool.{Bool, true, false, cond}
 use mathlib.Core.List.{List, [], _∷_, List·Memᴰ, List·Memᴰ·head, List·Memᴰ·tail, List·Memᴰ·cases-cons, List·Memᴰ·not-nil}
@@ -51,34 +51,33 @@ module _ {A : Type 0} (le : A → A → Bool) where
   count-inOrder p (suc n) [] = refl
   count-inOrder p (suc n) (x ∷ q) = count-insert p x (inOrder le n q) ∙ ap (λ (k : ℕ). cond (p x) 1 0 + k) (count-inOrder p n q)
 
--- ---- in order
-module _ {A : Type 0} {le : A → A → Bool} (𝓞 : Total le) where
-  -- each goes no later than any behind it
-  abbrev pub Sorted : List A → Type 0
-  Sorted [] = Unit {0}
-  Sorted (x ∷ l) = After 𝓞 x l × Sorted l
+-- ---- in order: each goes no later than any behind it
+abbrev pub Sorted : {A : Type 0} → (A → A → Bool) → List A → Type 0
+Sorted le [] = Unit {0}
+Sorted le (x ∷ l) = After le x l × Sorted le l
 
-  after-trans : (x y : A) (l : List A) → le x y ≡ true → After 𝓞 y l → After 𝓞 x l
+module _ {A : Type 0} {le : A → A → Bool} (𝓞 : Total le) where
+  after-trans : (x y : A) (l : List A) → le x y ≡ true → After le y l → After le x l
   after-trans x y [] h a = tt
   after-trans x y (z ∷ l) h a = (𝓞 .trans x y z h (a .0), after-trans x y l h (a .1))
 
-  sorted-cond : (x y : A) (l : List A) (b : Bool) → le x y ≡ b → Sorted (y ∷ l) → Sorted (insert le x l) → Sorted (cond b (x ∷ y ∷ l) (y ∷ insert le x l))
+  sorted-cond : (x y : A) (l : List A) (b : Bool) → le x y ≡ b → Sorted le (y ∷ l) → Sorted le (insert le x l) → Sorted le (cond b (x ∷ y ∷ l) (y ∷ insert le x l))
   sorted-cond x y l true e s k = ((e, after-trans x y l e (s .0)), s)
   sorted-cond x y l false e s k = (after-insert 𝓞 y x l (𝓞 .total x y e) (s .0), k)
 
-  pub sorted-insert : (x : A) (l : List A) → Sorted l → Sorted (insert le x l)
+  pub sorted-insert : (x : A) (l : List A) → Sorted le l → Sorted le (insert le x l)
   unfolding insert
   sorted-insert x [] s = (tt, tt)
   sorted-insert x (y ∷ l) s = sorted-cond x y l (le x y) refl s (sorted-insert x l (s .1))
 
-  pub sorted-inOrder : (n : ℕ) (q : List A) → Sorted (inOrder le n q)
+  pub sorted-inOrder : (n : ℕ) (q : List A) → Sorted le (inOrder le n q)
   unfolding inOrder
   sorted-inOrder zero q = tt
   sorted-inOrder (suc n) [] = tt
   sorted-inOrder (suc n) (x ∷ q) = sorted-insert x (inOrder le n q) (sorted-inOrder n q)
 
   -- what goes no later than the whole list goes no later than a member
-  pub after-member : (r x : A) (l : List A) → After 𝓞 r l → List·Memᴰ x l → le r x ≡ true
+  pub after-member : (r x : A) (l : List A) → After le r l → List·Memᴰ x l → le r x ≡ true
   after-member r x [] a m = absurd (List·Memᴰ·not-nil m)
   after-member r x (y ∷ l) a m = go (after-member r x l (a .1)) (List·Memᴰ·cases-cons m)
     where

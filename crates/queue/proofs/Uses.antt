@@ -3,16 +3,14 @@
 -- Assumes nothing.
 use Prim.Native.Nat.{ℕ, zero, suc, _-_, _≤_, _<_}
 use native.Mathlib.Omega.{arith}
-use native.Mathlib.Decide.{decLt}
-use mathlib.Core.Path.{_≡_, refl, sym, ap, subst, _∙_}
+use mathlib.Core.Path.{_≡_, refl, ap, subst, _∙_}
 use mathlib.Core.Bool.{Bool, true}
-use mathlib.Core.List.{List, [], _∷_, List·Memᴰ}
-use lib.ListN.{length, getD, take, replicate, length-replicate, List·getD-eq-default}
+use mathlib.Core.List.{List, [], List·Memᴰ}
+use lib.ListN.{length, getD, take, replicate}
 use Rattle.queue.specs.declared.Entry.{Entry}
 use Rattle.queue.specs.InOrder.{Total, inOrder}
 use Rattle.queue.specs.Queue.{blank, entries, Even, Held, waiting, Cleared, Taken}
-use Rattle.queue.proofs.Bags.{After}
-use Rattle.queue.proofs.Flat.{length-entries, at-entries, held-fit}
+use Rattle.queue.proofs.Flat.{at-entries, held-fit}
 use Rattle.queue.proofs.Zeros.{zeros}
 use Rattle.queue.proofs.Meaning.{length-inOrder, count, count-inOrder, Sorted, sorted-inOrder, after-member}
 
@@ -67,12 +65,12 @@ pub each-as-often : (le : Entry → Entry → Bool) (p : Entry → Bool) (ds cs 
 each-as-often le p ds cs ts n = count-inOrder le p n (entries ds cs ts)
 
 module _ {le : Entry → Entry → Bool} (𝓞 : Total le) where
-  pub in-order : (ds cs ts : List ℕ) (n : ℕ) → Sorted 𝓞 (waiting le ds cs ts n)
+  pub in-order : (ds cs ts : List ℕ) (n : ℕ) → Sorted le (waiting le ds cs ts n)
   in-order ds cs ts n = sorted-inOrder 𝓞 n (entries ds cs ts)
 
   -- what is taken goes no later than any that waits on
   pub taken-first : (r : Entry) (ds cs ts ds′ cs′ ts′ : List ℕ) (n : ℕ) → Taken le r ds cs ts ds′ cs′ ts′ n
       → (x : Entry) → List·Memᴰ x (waiting le ds′ cs′ ts′ (n - 1)) → le r x ≡ true
   taken-first r ds cs ts ds′ cs′ ts′ n t x m =
-      let s = subst (λ (l : List Entry). Sorted 𝓞 l) (t .waits) (in-order ds cs ts n) in
+      let s = subst (λ (l : List Entry). Sorted le l) (t .waits) (in-order ds cs ts n) in
       after-member 𝓞 r x (waiting le ds′ cs′ ts′ (n - 1)) (s .0) m

@@ -14,6 +14,8 @@ use Rattle.grid.specs.declared.Cell.{Cell}
 use Rattle.grid.specs.Axes.{countOn, firstOn, sizeOn, cellOn, cell, cellBy}
 use Rattle.grid.specs.Index.{indexOf, cellAt, total}
 use Rattle.grid.specs.Place.{centreOn, centreOf, snapCell}
+use Rattle.geo.specs.declared.bounding.TriangleBox.{TriangleBox}
+use Rattle.geo.specs.Box as Triangle
 use Rattle.geo.specs.Distance.{distance}
 use Rattle.mesh.specs.declared.Corners.{Corners}
 use Rattle.mesh.specs.Mesh.{Mesh, vertexCount, trianglesIn, cornersAt}
@@ -43,7 +45,7 @@ unfoldable pub lastOf : Grid → Point → Cell
 lastOf g high = cellBy (λ a. raised a g high (cellOn a (snapCell g high)))
 
 unfoldable pub boxOf : Grid → Corners → Box
-boxOf g t = record { low = firstOf g (t .a); high = lastOf g (t .b) }
+boxOf g t = let b = Triangle.boxOf (t .a) (t .b) (t .c) in record { low = firstOf g (b .low); high = lastOf g (b .high) }
 
 -- ---- the distance of a triangle from a cell
 

@@ -1,10 +1,10 @@
 -- `float::cell`: each return by the tests that led there (`proofs/Floors.antt`). Assumes nothing.
 use borrow.Author.Needs.{needs}
-use mathlib.Core.Path.{_≡_, ap, _∙_, subst}
+use mathlib.Core.Path.{_≡_, ap, _∙_}
 use mathlib.Core.Bool.{Bool, true, false}
 use Prim.Native.Nat.{ℕ, _-_}
 use native.Mathlib.Omega.{arith}
-use lib.IntN.{ℤ, pos}
+use lib.IntN.{pos}
 use Rattle.float.specs.Cell.{cellOf, outside, Snapped}
 use Rattle.float.proofs.Floors.{Truncates, truncates, inside, after, no-row, past-every-row, before-every-row}
 use Rattle.float.proofs.cell.Statement.{statement}

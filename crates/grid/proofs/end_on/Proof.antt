@@ -1,7 +1,6 @@
 -- `grid::end_on`: the definition, with what the conversion gives. Assumes nothing.
-use borrow.Author.Needs.{needs}
 use Rattle.grid.proofs.end_on.Statement.{statement}
 use Rattle.grid.proofs.end_on.Tie as tie
 
 pub end-on-spec : {M : Type 1} → statement M
-end-on-spec = tie.close (tie.spec (λ c κs. search needs) (λ c. rw (c .nearest-u32-to-f32 .ensures)))
+end-on-spec = tie.close (tie.spec (λ c κs. tt) (λ c. rw (c .nearest-u32-to-f32 .ensures)))

@@ -5,22 +5,15 @@ use borrow.Author.Tests.{lt-ltb, le-ltb}
 use Rattle.queue.specs.Order.{goesFirst}
 use Rattle.queue.proofs.goes_first.Statement.{statement}
 use Rattle.queue.proofs.goes_first.Tie as tie
-use Rattle.queue.proofs.goes_first.Reads as reads
-use Rattle.queue.proofs.goes_first.Lts as lts
-use Rattle.queue.proofs.triple.Reads as triple-reads
-use Rattle.queue.proofs.triple_first.Reads as triple-first-reads
 
--- src/lib.rt:77:9
 returns : tie.Need-returns
 unfolding goesFirst
 returns c = simp (lt-ltb _ _ (c .if1 .taken))
 
--- src/lib.rt:80:9
 returns-2 : tie.Need-returns-2
 unfolding goesFirst
 returns-2 c = let one = c .before .before .before in simp (le-ltb _ _ (one .if1 .left), lt-ltb _ _ (c .if2 .taken))
 
--- src/lib.rt:83:9
 returns-3 : tie.Need-returns-3
 unfolding goesFirst
 returns-3 c =
@@ -28,7 +21,6 @@ returns-3 c =
     let one = two .before .before .before in
     simp (le-ltb _ _ (one .if1 .left), le-ltb _ _ (two .if2 .left), lt-ltb _ _ (c .if3 .taken))
 
--- src/lib.rt:86:9
 returns-4 : tie.Need-returns-4
 unfolding goesFirst
 returns-4 c =
@@ -37,19 +29,15 @@ returns-4 c =
     let one = two .before .before .before in
     simp (le-ltb _ _ (one .if1 .left), le-ltb _ _ (two .if2 .left), le-ltb _ _ (three .if3 .left), lt-ltb _ _ (c .if4 .taken))
 
--- src/lib.rt:88:9
 triple-requires : tie.Need-triple-requires
 triple-requires c κs = search needs
 
--- src/lib.rt:89:9
 triple-requires-2 : tie.Need-triple-requires-2
 triple-requires-2 c κs = search needs
 
--- src/lib.rt:90:5
 triple-first-requires : tie.Need-triple-first-requires
 triple-first-requires c κs = search needs
 
--- src/lib.rt:65:1
 returns-5 : tie.Need-returns-5
 unfolding goesFirst
 returns-5 c =

@@ -3,34 +3,25 @@ use borrow.Author.Needs.{needs}
 use Rattle.queue.proofs.Flat.{at-entries}
 use Rattle.queue.proofs.load.Statement.{statement}
 use Rattle.queue.proofs.load.Tie as tie
-use Rattle.queue.proofs.load.Reads as reads
-use Rattle.queue.proofs.load.Lts as lts
 
--- src/lib.rt:98:20
 mul-distance : tie.Need-mul-distance
 mul-distance c = search needs
 
--- src/lib.rt:98:20
 shared-slice-read-distance : tie.Need-shared-slice-read-distance
 shared-slice-read-distance c = search needs
 
--- src/lib.rt:99:16
 mul-cell : tie.Need-mul-cell
 mul-cell c = search needs
 
--- src/lib.rt:99:16
 shared-slice-read-cell : tie.Need-shared-slice-read-cell
 shared-slice-read-cell c = search needs
 
--- src/lib.rt:100:20
 mul-triangle : tie.Need-mul-triangle
 mul-triangle c = search needs
 
--- src/lib.rt:100:20
 shared-slice-read-triangle : tie.Need-shared-slice-read-triangle
 shared-slice-read-triangle c = search needs
 
--- src/lib.rt:94:1
 returns : tie.Need-returns
 returns c =
     let s = c .before .before .before in

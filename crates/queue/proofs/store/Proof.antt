@@ -3,46 +3,34 @@ use borrow.Author.Needs.{needs}
 use Rattle.queue.proofs.Flat.{set-entries}
 use Rattle.queue.proofs.store.Statement.{statement}
 use Rattle.queue.proofs.store.Tie as tie
-use Rattle.queue.proofs.store.Reads as reads
-use Rattle.queue.proofs.store.Lts as lts
 
--- src/lib.rt:113:5
 mul-distances : tie.Need-mul-distances
 mul-distances c = search needs
 
--- src/lib.rt:113:5
 slice-write-distances : tie.Need-slice-write-distances
 slice-write-distances c = search needs
 
--- src/lib.rt:114:5
 mul-cells : tie.Need-mul-cells
 mul-cells c = search needs
 
--- src/lib.rt:114:5
 slice-write-cells : tie.Need-slice-write-cells
 slice-write-cells c = search needs
 
--- src/lib.rt:115:5
 mul-triangles : tie.Need-mul-triangles
 mul-triangles c = search needs
 
--- src/lib.rt:115:5
 slice-write-triangles : tie.Need-slice-write-triangles
 slice-write-triangles c = search needs
 
--- src/lib.rt:109:1
 same-length : tie.Need-same-length
 same-length c = search needs
 
--- src/lib.rt:109:1
 same-length-2 : tie.Need-same-length-2
 same-length-2 c = search needs
 
--- src/lib.rt:109:1
 same-length-3 : tie.Need-same-length-3
 same-length-3 c = search needs
 
--- src/lib.rt:109:1
 returns : tie.Need-returns
 returns c = set-entries (c .args .distances .now) (c .args .cells .now) (c .args .triangles .now) (c .args .i) (c .args .e)
 

@@ -1,7 +1,6 @@
 -- `queue::take` meets its contract: the root goes first, and the last is sifted down from its place. Assumes nothing.
 use native.Mathlib.Omega.{arith}
 use Prim.Native.Nat.{_≤_}
-use mathlib.Core.Path.{_∙_}
 use mathlib.Core.List.{List}
 use denote.Ref.{now}
 use lib.ListN.{length}
@@ -15,11 +14,6 @@ use Rattle.queue.proofs.Moves.{lowered, taken-some, taken-none}
 use borrow.Author.Needs.{needs}
 use Rattle.queue.proofs.take.Statement.{statement}
 use Rattle.queue.proofs.take.Tie as tie
-use Rattle.queue.proofs.take.Reads as reads
-use Rattle.queue.proofs.take.Lts as lts
-use Rattle.queue.proofs.load.Reads as load-reads
-use Rattle.queue.proofs.sift_down.Reads as sift-down-reads
-use Rattle.queue.proofs.store.Reads as store-reads
 
 -- the order of the mesh is total
 abbrev 𝓞 : (s : tie.Start) → Total (orderOf (s .args .topology) (s .args .given) (now (s .args .indices)) (s .args .vertices))
@@ -31,32 +25,27 @@ q s = entries (now (s .args .distances)) (now (s .args .cells)) (now (s .args .t
 fits : (s : tie.Start) → s .args .n ≤ length (now (s .args .distances))
 fits s = held-fit (now (s .args .distances)) (now (s .args .cells)) (now (s .args .triangles)) (s .pre .1 .0)
 
--- src/lib.rt:227:13
 sub-m : tie.Need-sub-m
 sub-m c = search needs
 
--- src/lib.rt:228:9
 load-requires : tie.Need-load-requires
 load-requires c κs =
     let s = c .before .before .before .before .before .before .before in
     let even = s .pre .1 .0 .even in
     omega (arith, fits s)
 
--- src/lib.rt:229:9
 load-requires-2 : tie.Need-load-requires-2
 load-requires-2 c κs =
     let s = c .before .before .before .before .before .before .before .before .before .before .before in
     let even = s .pre .1 .0 .even in
     omega (arith, fits s)
 
--- src/lib.rt:235:5
 store-requires : tie.Need-store-requires
 store-requires c κs =
     let s = c .before .before .before .before .before .before .before .before .before .before .before .before .before .before .before in
     let even = s .pre .1 .0 .even in
     omega (arith, fits s)
 
--- src/lib.rt:237:9
 sift-down-requires : tie.Need-sift-down-requires
 sift-down-requires c κs =
     let t = c .before .before .before .before .before .before .before .before .before .before in
@@ -64,19 +53,15 @@ sift-down-requires c κs =
     let even = s .pre .1 .0 .even in
     (s .pre .0, (record { cells = omega arith; triangles = omega arith }, (omega (arith, fits s), lowered (𝓞 s) blank (q s) _ _ (s .pre .1 .1) (s .pre .1 .0 .keeps .heap) (t .store .ensures))))
 
--- src/lib.rt:212:1
 same-length : tie.Need-same-length
 same-length c = search needs
 
--- src/lib.rt:212:1
 same-length-2 : tie.Need-same-length-2
 same-length-2 c = search needs
 
--- src/lib.rt:212:1
 same-length-3 : tie.Need-same-length-3
 same-length-3 c = search needs
 
--- src/lib.rt:212:1
 returns : tie.Need-returns
 returns c =
     let d = c .before .before .before .before .before .before in
@@ -88,21 +73,17 @@ returns c =
     let kept = t .store .kept in
     let again = d .sift-down .kept in
     flat-taken _ _ _ _ _ _ (record { even = h .even; distances = omega (arith, again .0, kept .0); cells = omega (arith, again .1 .0, kept .1 .0); triangles = omega (arith, again .1 .1 .0, kept .1 .1 .0) })
-    (λ long. taken-some (𝓞 s) blank _ _ (q s) _ _ _ (h .keeps) (s .pre .1 .1) (d .before .before .before .before .if1 .taken) long (f .load .ensures) (l .load2 .ensures) (t .store .ensures) (d .sift-down .ensures))
+    (λ long. taken-some (𝓞 s) blank _ _ (q s) _ _ _ (h .keeps) (s .pre .1 .1) (omega (arith, d .before .before .before .before .if1 .taken)) long (f .load .ensures) (l .load2 .ensures) (t .store .ensures) (d .sift-down .ensures))
 
--- src/lib.rt:212:1
 same-length-4 : tie.Need-same-length-4
 same-length-4 c = search needs
 
--- src/lib.rt:212:1
 same-length-5 : tie.Need-same-length-5
 same-length-5 c = search needs
 
--- src/lib.rt:212:1
 same-length-6 : tie.Need-same-length-6
 same-length-6 c = search needs
 
--- src/lib.rt:212:1
 returns-2 : tie.Need-returns-2
 returns-2 c =
     let t = c .before .before .before .before .before .before .before in
@@ -111,7 +92,7 @@ returns-2 c =
     let h = s .pre .1 .0 in
     let kept = t .store .kept in
     flat-taken _ _ _ _ _ _ (record { even = h .even; distances = kept .0; cells = kept .1 .0; triangles = kept .1 .1 .0 })
-    (λ long. taken-none (𝓞 s) blank _ (q s) _ _ (h .keeps) (s .pre .1 .1) (c .if1 .left) long (f .load .ensures) (t .store .ensures))
+    (λ long. taken-none (𝓞 s) blank _ (q s) _ _ (h .keeps) (s .pre .1 .1) (omega (arith, c .if1 .left)) long (f .load .ensures) (t .store .ensures))
 
 pub take-spec : {M : Type 1} → statement M
 take-spec =

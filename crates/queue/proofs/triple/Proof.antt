@@ -7,24 +7,16 @@ use borrow.Author.Needs.{needs}
 use Rattle.topology.specs.Topology.{triangle, trianglesOf}
 use Rattle.queue.proofs.triple.Statement.{statement}
 use Rattle.queue.proofs.triple.Tie as tie
-use Rattle.queue.proofs.triple.Reads as reads
-use Rattle.queue.proofs.triple.Lts as lts
-use Rattle.topology.proofs.triangle_at.Reads as triangle-at-reads
-use Rattle.topology.proofs.triangle_count.Reads as triangle-count-reads
 
--- src/lib.rt:33:12
 triangle-count-requires : tie.Need-triangle-count-requires
 triangle-count-requires c κs = search needs
 
--- src/lib.rt:34:9
 triangle-at-requires : tie.Need-triangle-at-requires
 triangle-at-requires c κs = search needs
 
--- src/lib.rt:34:9
 returns : tie.Need-returns
 returns c = search needs
 
--- src/lib.rt:22:1
 returns-2 : tie.Need-returns-2
 returns-2 c =
     let s = c .before .before .before .args in

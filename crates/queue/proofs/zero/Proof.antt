@@ -6,8 +6,6 @@ use lib.ListN.{length, getD, length-set}
 use Rattle.queue.proofs.Zeros.{zeros, one-more}
 use Rattle.queue.proofs.zero.Statement.{statement}
 use Rattle.queue.proofs.zero.Tie as tie
-use Rattle.queue.proofs.zero.Reads as reads
-use Rattle.queue.proofs.zero.Lts as lts
 
 abbrev Inv-loop : tie.InvT-loop
 Inv-loop s₀ i₀ s i = (length s ≡ length s₀) × (i ≤ length s) × ((k : ℕ) → k < i → getD s k 0 ≡ 0)
@@ -15,37 +13,29 @@ Inv-loop s₀ i₀ s i = (length s ≡ length s₀) × (i ≤ length s) × ((k :
 abbrev μ-loop : tie.MeasureT-loop
 μ-loop s₀ i₀ s i = length s₀ - i
 
--- src/lib.rt:247:5
 loop-holds : tie.Need-loop-holds Inv-loop μ-loop
 loop-holds c = (refl, omega arith, λ k h. absurd (omega arith))
 
--- src/lib.rt:248:9
 mul-s : tie.Need-mul-s Inv-loop μ-loop
 mul-s c = omega arith
 
--- src/lib.rt:248:9
 slice-write-s : tie.Need-slice-write-s Inv-loop μ-loop
 slice-write-s c = omega arith
 
--- src/lib.rt:249:9
 add-i : tie.Need-add-i Inv-loop μ-loop
 add-i c = omega arith
 
--- src/lib.rt:247:5
 loop-less : tie.Need-loop-less Inv-loop μ-loop
 loop-less c = omega arith
 
--- src/lib.rt:247:5
 loop-again : tie.Need-loop-again Inv-loop μ-loop
 loop-again c =
     let l = c .before .loop in
     (length-set (l .s) (l .i) 0 ∙ l .inv .0, omega (arith, length-set (l .s) (l .i) 0), one-more (l .s) (l .i) (c .loop-test .taken) (l .inv .2))
 
--- src/lib.rt:243:1
 same-length : tie.Need-same-length Inv-loop μ-loop
 same-length c = omega arith
 
--- src/lib.rt:243:1
 returns : tie.Need-returns Inv-loop μ-loop
 returns c =
     let l = c .before .loop in

@@ -25,8 +25,18 @@ const KINDS: [&str; 10] = [
 ];
 
 const SPECIAL: [u32; 12] = [
-    0x0000_0000, 0x0000_0001, 0x0000_0002, 0x0000_0003, 0x007f_ffff, 0x0080_0000, 0x3586_37bd, 0x3586_37be,
-    0x3f80_0000, 0x7f7f_fffe, 0x7f7f_ffff, 0x7f80_0000,
+    0x0000_0000,
+    0x0000_0001,
+    0x0000_0002,
+    0x0000_0003,
+    0x007f_ffff,
+    0x0080_0000,
+    0x3586_37bd,
+    0x3586_37be,
+    0x3f80_0000,
+    0x7f7f_fffe,
+    0x7f7f_ffff,
+    0x7f80_0000,
 ];
 
 /// Any bit pattern but a NaN's.
@@ -66,7 +76,11 @@ fn pair(kind: usize, r: &mut Random) -> (f32, f32) {
             let a = f32::from_bits(0x3d80_0000 + r.below(6 << 23) as u32);
             let b = f32::from_bits(a.to_bits() + r.below(20) as u32);
             let (a, b) = (sign(a, r), sign(b, r));
-            if r.below(2) == 0 { (a, b) } else { (b, a) }
+            if r.below(2) == 0 {
+                (a, b)
+            } else {
+                (b, a)
+            }
         }
         7 => {
             let pick = |r: &mut Random| sign(f32::from_bits(r.pick(&SPECIAL)), r);
@@ -103,7 +117,7 @@ fn hold(kind: usize, a: f32, b: f32, counts: &mut [[u64; 3]; 10]) {
 fn main() {
     let args: Vec<u64> = std::env::args().skip(1).map(|a| a.parse().expect("a number")).collect();
     let (pairs, seed) = (args.first().copied().unwrap_or(20_000_000), args.get(1).copied().unwrap_or(1));
-    let mut r = Random(seed);
+    let mut r = Random::new(seed, 0);
     let mut counts = [[0; 3]; 10];
     for n in 0..pairs {
         let kind = (n % 10) as usize;

@@ -1,5 +1,5 @@
 //! steps-check N SEED: the model's grid and geometry held to the source's, one step at a time: N random cases of each
-//! step, bit for bit (any NaN equals any NaN). Ends with 1 at the first difference.
+//! step, bit for bit (any NaN equals any NaN). Prints what was met; ends with 1 at the first difference.
 
 #[allow(dead_code)]
 mod random;
@@ -60,6 +60,16 @@ fn same_point(a: P, b: P) -> bool {
     a.iter().zip(&b).all(|(&a, &b)| same(a, b))
 }
 
+/// What the cases led to, so that one sees that they reach into every corner.
+#[derive(Default, Debug)]
+struct Met {
+    ray_hits: u64,
+    nan_distances: u64,
+    infinite_distances: u64,
+    corners_closest: u64,
+    snaps_inside: u64,
+}
+
 fn hold(step: &str, equal: bool, case: impl std::fmt::Debug) {
     if !equal {
         println!("{step}: a difference at {case:?}");
@@ -67,28 +77,42 @@ fn hold(step: &str, equal: bool, case: impl std::fmt::Debug) {
     }
 }
 
-fn geometry_case(r: &mut Random) {
+fn geometry_case(r: &mut Random, met: &mut Met) {
     let style = r.below(8);
     let p = point(style, r);
     let [a, b, c] = triangle(style, r);
     let case = (p, a, b, c);
-    hold("closest_point_triangle",
-         same_point(probe::closest_point_triangle(&p, &a, &b, &c), geometry::closest_point(p, [a, b, c])), case);
-    hold("closest_point_segment",
-         same_point(probe::closest_point_segment(&p, &a, &b), geometry::closest_on_segment(p, a, b)), case);
-    hold("point_triangle_distance",
-         same(probe::point_triangle_distance(&p, &a, &b, &c), geometry::distance(p, [a, b, c])), case);
+    hold(
+        "closest_point_triangle",
+        same_point(probe::closest_point_triangle(&p, &a, &b, &c), geometry::closest_point(p, [a, b, c])),
+        case,
+    );
+    hold(
+        "closest_point_segment",
+        same_point(probe::closest_point_segment(&p, &a, &b), geometry::closest_on_segment(p, a, b)),
+        case,
+    );
+    hold(
+        "point_triangle_distance",
+        same(probe::point_triangle_distance(&p, &a, &b, &c), geometry::distance(p, [a, b, c])),
+        case,
+    );
+    let distance = geometry::distance(p, [a, b, c]);
+    met.nan_distances += u64::from(distance.is_nan());
+    met.infinite_distances += u64::from(distance.is_infinite());
+    met.corners_closest += u64::from([a, b, c].contains(&geometry::closest_point(p, [a, b, c])));
     let (low, high) = probe::triangle_bounding_box(&a, &b, &c);
     let (model_low, model_high) = geometry::triangle_box([a, b, c]);
     hold("triangle_bounding_box", same_point(low, model_low) && same_point(high, model_high), case);
     for axis in 0..3 {
         let theirs = probe::ray_triangle_intersection_aligned(&p, [&a, &b, &c], axis as u32);
         let ours = geometry::ray(p, [a, b, c], axis);
+        met.ray_hits += u64::from(ours.is_some());
         hold("ray_triangle_intersection_aligned", theirs.map(f32::to_bits) == ours.map(f32::to_bits), case);
     }
 }
 
-fn grid_case(r: &mut Random) {
+fn grid_case(r: &mut Random, met: &mut Met) {
     let style = r.below(8);
     let count = [0; 3].map(|_| {
         let most = r.pick(&[1, 4, 12, 1024]);
@@ -121,6 +145,7 @@ fn grid_case(r: &mut Random) {
             SnapResult::Inside(cell) => (cell.map(|n| n as u32), true),
             SnapResult::Outside(cell) => (cell.map(|n| n as u32), false),
         };
+        met.snaps_inside += u64::from(snapped.1);
         hold("snap_point_to_grid", snapped == ours.snap(at), (case, at));
     }
     if u128::from(count[0]) * u128::from(count[1]) * u128::from(count[2]) <= 1 << 31 {
@@ -129,19 +154,26 @@ fn grid_case(r: &mut Random) {
         let back = theirs.get_cell_integer_coordinates(index).map(|n| n as u32);
         hold("get_cell_integer_coordinates", back == cell && ours.coordinates(index as u32) == cell, (case, cell));
     }
-    let (made, model_made) = (Grid::from_bounding_box(&near, &far, count.map(|n| n as usize)),
-                              grid::Grid::from_bounding_box(near, far, count));
-    hold("from_bounding_box", same_point(made.get_first_cell(), model_made.first)
-         && same_point(made.get_cell_size(), model_made.size), (near, far, count));
+    let (made, model_made) = (
+        Grid::from_bounding_box(&near, &far, count.map(|n| n as usize)),
+        grid::Grid::from_bounding_box(near, far, count),
+    );
+    hold(
+        "from_bounding_box",
+        same_point(made.get_first_cell(), model_made.first) && same_point(made.get_cell_size(), model_made.size),
+        (near, far, count),
+    );
 }
 
 fn main() {
     let args: Vec<u64> = std::env::args().skip(1).map(|a| a.parse().expect("a number")).collect();
     let (cases, seed) = (args.first().copied().unwrap_or(2_000_000), args.get(1).copied().unwrap_or(1));
-    let mut r = Random(seed);
+    let mut r = Random::new(seed, 0);
+    let mut met = Met::default();
     for _ in 0..cases {
-        geometry_case(&mut r);
-        grid_case(&mut r);
+        geometry_case(&mut r, &mut met);
+        grid_case(&mut r, &mut met);
     }
+    println!("{met:?}");
     println!("{cases} cases of each step of geometry and of the grid, 0 differences");
 }

@@ -40,10 +40,18 @@ fn three<T: Copy>(text: &str, one: fn(&str) -> Option<T>) -> Option<[T; 3]> {
 
 fn decimal(text: &str) -> Option<u32> {
     let plain = !text.is_empty() && text.bytes().all(|b| b.is_ascii_digit()) && (text == "0" || !text.starts_with('0'));
-    if plain { text.parse().ok() } else { None }
+    if plain {
+        text.parse().ok()
+    } else {
+        None
+    }
 }
 
 fn float(text: &str) -> Option<f32> {
     let plain = text.len() == 8 && text.bytes().all(|b| matches!(b, b'0'..=b'9' | b'a'..=b'f'));
-    if plain { u32::from_str_radix(text, 16).ok().map(f32::from_bits) } else { None }
+    if plain {
+        u32::from_str_radix(text, 16).ok().map(f32::from_bits)
+    } else {
+        None
+    }
 }

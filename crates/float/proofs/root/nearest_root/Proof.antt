@@ -1,4 +1,4 @@
--- `root::nearest_root`: the guess itself by the two tests, or what `walked` ensures. Assumes nothing.
+-- `root::nearest_root`: the guess itself by the two tests, or what `raised` ensures. Assumes nothing.
 use borrow.Author.Needs.{needs}
 use mir.Facts.{fits-bits}
 use Rattle.float.proofs.Squares.{mul-lt}
@@ -17,12 +17,16 @@ add-if2 c = search needs
 returns : tie.Need-returns
 returns c = search needs
 
-walked-requires : tie.Need-walked-requires
-walked-requires c κs = search needs
+lowered-requires : tie.Need-lowered-requires
+lowered-requires c κs = search needs
+
+raised-requires : tie.Need-raised-requires
+raised-requires c κs = search needs
 
 returns-2 : tie.Need-returns-2
 returns-2 c = search needs
 
 pub nearest-root-spec : {M : Type 1} → statement M
 nearest-root-spec =
-    tie.close (tie.spec mul-square add-if1 add-if2 returns walked-requires returns-2)
+    tie.close
+    (tie.spec mul-square add-if1 add-if2 returns lowered-requires raised-requires returns-2)

@@ -1,6 +1,5 @@
 -- `root::normalised`: a subnormal by `normal-low`, a normal pattern by `normal-high`. Assumes nothing.
 use borrow.Author.Needs.{needs}
-use Prim.Native.Nat.{_<_}
 use native.Mathlib.Omega.{arith}
 use lib.Count.{leadingZeros}
 use Rattle.float.proofs.Normal.{Shifted, shifted, normal-low, normal-high}

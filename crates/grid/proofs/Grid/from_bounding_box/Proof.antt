@@ -1,5 +1,4 @@
 -- `Grid::from_bounding_box`: each part is that of the definition. Assumes nothing.
-use borrow.Author.Needs.{needs}
 use Rattle.grid.specs.Place.{fromBox}
 use Rattle.grid.proofs.Grid.from_bounding_box.Statement.{statement}
 use Rattle.grid.proofs.Grid.from_bounding_box.Tie as tie
@@ -9,9 +8,9 @@ unfolding fromBox
 from-bounding-box-spec =
     tie.close
     (tie.spec
-    (λ c κs. search needs)
-    (λ c κs. search needs)
-    (λ c κs. search needs)
+    (λ c κs. tt)
+    (λ c κs. tt)
+    (λ c κs. tt)
     (λ c.
     let s = c .before .before .before in
     rw (s .before .before .size-between .ensures, s .before .size-between2 .ensures, s .size-between3 .ensures)))

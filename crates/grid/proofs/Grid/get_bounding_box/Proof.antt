@@ -1,5 +1,4 @@
 -- `Grid::get_bounding_box`: the six sides are those of the definition. Assumes nothing.
-use borrow.Author.Needs.{needs}
 use Rattle.grid.specs.Place.{boxMin, boxMax}
 use Rattle.grid.proofs.Grid.get_bounding_box.Statement.{statement}
 use Rattle.grid.proofs.Grid.get_bounding_box.Tie as tie
@@ -9,12 +8,12 @@ unfolding boxMin boxMax
 get-bounding-box-spec =
     tie.close
     (tie.spec
-    (λ c κs. search needs)
-    (λ c κs. search needs)
-    (λ c κs. search needs)
-    (λ c κs. search needs)
-    (λ c κs. search needs)
-    (λ c κs. search needs)
+    (λ c κs. tt)
+    (λ c κs. tt)
+    (λ c κs. tt)
+    (λ c κs. tt)
+    (λ c κs. tt)
+    (λ c κs. tt)
     (λ c.
     rw (
       c .before .before .before .before .before .low-on .ensures,

@@ -1,6 +1,7 @@
 -- `Grid::get_cell_integer_coordinates`: the counts are above 0 and their products fit. Assumes nothing.
 use mathlib.Core.Path.{refl}
 use native.Mathlib.Nat.{mul-pos}
+use native.Mathlib.Omega.{arith}
 use Rattle.grid.specs.Index.{coordinates}
 use Rattle.grid.proofs.Facts.{Bounds, bounds-of, counts-fit}
 use Rattle.grid.proofs.Grid.get_cell_integer_coordinates.Statement.{statement}
@@ -16,7 +17,7 @@ get-cell-integer-coordinates-spec =
     (tie.spec
     (λ c. let b = bound (c .before) in record { fits = counts-fit _ _ _ (b .on-y .few) (b .on-z .few) (b .on-x .few) .0 })
     (λ c. let b = bound (c .before) in mul-pos (b .on-y .some) (b .on-z .some))
-    (λ c. bound (c .before .before) .on-z .some)
-    (λ c. bound (c .before .before .before) .on-y .some)
-    (λ c. bound (c .before .before .before .before) .on-z .some)
+    (λ c. let b = bound (c .before .before) in omega arith)
+    (λ c. let b = bound (c .before .before .before) in omega arith)
+    (λ c. let b = bound (c .before .before .before .before) in omega arith)
     (λ c. refl))

@@ -1,5 +1,4 @@
 -- `Grid::get_last_cell`: the three coordinates are those of the definition. Assumes nothing.
-use borrow.Author.Needs.{needs}
 use Rattle.grid.specs.Place.{lastCell}
 use Rattle.grid.proofs.Grid.get_last_cell.Statement.{statement}
 use Rattle.grid.proofs.Grid.get_last_cell.Tie as tie
@@ -9,7 +8,7 @@ unfolding lastCell
 get-last-cell-spec =
     tie.close
     (tie.spec
-    (λ c κs. search needs)
-    (λ c κs. search needs)
-    (λ c κs. search needs)
+    (λ c κs. tt)
+    (λ c κs. tt)
+    (λ c κs. tt)
     (λ c. rw (c .before .before .end-on .ensures, c .before .end-on2 .ensures, c .end-on3 .ensures)))

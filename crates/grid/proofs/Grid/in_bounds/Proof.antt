@@ -1,13 +1,12 @@
 -- `Grid::in_bounds`: the product is formed only where each axis is within its bounds, and then it fits (`counts-fit`). Assumes
 -- nothing.
-use borrow.Author.Needs.{needs}
 use borrow.Author.Tests.{not-true, not-false}
-use mathlib.Core.Path.{_≡_, sym, _∙_}
-use mathlib.Core.Bool.{true, _&&_, and-true}
+use mathlib.Core.Path.{_≡_, _∙_}
+use mathlib.Core.Bool.{_&&_, and-true}
 use Prim.Native.Nat.{_*_, _^_, _<_}
 use Rattle.point.specs.declared.Axis.the-variants.{X, Y, Z}
-use Rattle.grid.specs.Axes.{countOn, firstOn, sizeOn, onEvery}
-use Rattle.grid.specs.Bounds.{axisInBounds, inBounds}
+use Rattle.grid.specs.Axes.{onEvery}
+use Rattle.grid.specs.Bounds.{isAxis, inBounds}
 use Rattle.grid.proofs.Facts.{axes-of, counts-fit}
 use Rattle.grid.proofs.Grid.in_bounds.Statement.{statement}
 use Rattle.grid.proofs.Grid.in_bounds.Tie as tie
@@ -15,7 +14,7 @@ use Rattle.grid.proofs.Grid.in_bounds.Tie as tie
 -- what the three calls found is the test of every axis
 found : (c : tie.After-axis-in-bounds3) →
     let g = c .before .before .before .before .before .args .self in
-    onEvery (λ a. axisInBounds (countOn a g) (firstOn a g) (sizeOn a g)) ≡ (c .before .before .axis-in-bounds .result && c .before .axis-in-bounds2 .result && c .axis-in-bounds3 .result)
+    onEvery (isAxis g) ≡ (c .before .before .axis-in-bounds .result && c .before .axis-in-bounds2 .result && c .axis-in-bounds3 .result)
 found c = rw (c .before .before .axis-in-bounds .ensures, c .before .axis-in-bounds2 .ensures, c .axis-in-bounds3 .ensures)
 
 fit : (c : tie.Else1) →
@@ -30,9 +29,9 @@ unfolding inBounds
 in-bounds-spec =
     tie.close
     (tie.spec
-    (λ c κs. search needs)
-    (λ c κs. search needs)
-    (λ c κs. search needs)
+    (λ c κs. tt)
+    (λ c κs. tt)
+    (λ c κs. tt)
     (λ c. rw (found (c .before) ∙ not-true _ (c .if1 .taken)))
     (λ c. record { fits = fit (c .before) .0 })
     (λ c. record { fits = fit (c .before .before) .1 })

@@ -1,5 +1,4 @@
 -- `Grid::snap_point_to_grid`: the cell and the test that the three calls give are those of the definition. Assumes nothing.
-use borrow.Author.Needs.{needs}
 use mathlib.Core.Path.{_≡_, sym, ap, _∙_}
 use mathlib.Core.Bool.{_||_}
 use Rattle.grid.specs.declared.SnapResult.the-variants.{Inside, Outside}
@@ -25,8 +24,8 @@ unfolding snap
 snap-point-to-grid-spec =
     tie.close
     (tie.spec
-    (λ c κs. search needs)
-    (λ c κs. search needs)
-    (λ c κs. search needs)
+    (λ c κs. tt)
+    (λ c κs. tt)
+    (λ c κs. tt)
     (λ c. let b = c .before .before .before .before in ap Outside (snapped b) ∙ sym (rw (past b ∙ c .if1 .taken)))
     (λ c. let b = c .before .before .before .before in ap Inside (snapped b) ∙ sym (rw (past b ∙ c .if1 .left))))

@@ -1,5 +1,4 @@
 -- `asked::from_bounding_box`: refused by the test of the grid that was made, else that grid. Assumes nothing.
-use borrow.Author.Needs.{needs}
 use Rattle.grid.proofs.Facts.{fails, passes}
 use Rattle.grid.proofs.asked.from_bounding_box.Statement.{statement}
 use Rattle.grid.proofs.asked.from_bounding_box.Tie as tie
@@ -8,7 +7,7 @@ pub from-bounding-box-spec : {M : Type 1} → statement M
 from-bounding-box-spec =
     tie.close
     (tie.spec
-    (λ c κs. search needs)
-    (λ c κs. search needs)
+    (λ c κs. tt)
+    (λ c κs. tt)
     (λ c. rw (← c .before .before .from-bounding-box .ensures, fails (c .before .in-bounds .ensures) (c .if1 .taken)))
     (λ c. rw (← c .before .before .from-bounding-box .ensures, passes (c .before .in-bounds .ensures) (c .if1 .left))))

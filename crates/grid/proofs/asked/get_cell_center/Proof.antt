@@ -1,5 +1,4 @@
 -- `asked::get_cell_center`: refused by the test of the grid, then by that of the cell, else the answer of the method. A cell within the counts is below 2^16. Assumes nothing.
-use borrow.Author.Needs.{needs}
 use native.Mathlib.Omega.{arith}
 use Rattle.grid.proofs.Facts.{fails, passes, bounds-of, inside-of}
 use Rattle.grid.proofs.asked.get_cell_center.Statement.{statement}
@@ -9,9 +8,9 @@ pub get-cell-center-spec : {M : Type 1} → statement M
 get-cell-center-spec =
     tie.close
     (tie.spec
-    (λ c κs. search needs)
+    (λ c κs. tt)
     (λ c. rw (fails (c .before .in-bounds .ensures) (c .if1 .taken)))
-    (λ c κs. search needs)
+    (λ c κs. tt)
     (λ c. rw (passes (c .before .before .before .in-bounds .ensures) (c .before .before .if1 .left), fails (c .before .is-cell .ensures) (c .if2 .taken)))
     (λ c κs.
     let s = c .before .before .before .before .args in

@@ -1,5 +1,4 @@
 -- `asked::get_cell_idx`: refused by the test of the grid, then by that of the cell, else the answer of the method. Assumes nothing.
-use borrow.Author.Needs.{needs}
 use Rattle.grid.proofs.Facts.{fails, passes, inside-of}
 use Rattle.grid.proofs.asked.get_cell_idx.Statement.{statement}
 use Rattle.grid.proofs.asked.get_cell_idx.Tie as tie
@@ -8,9 +7,9 @@ pub get-cell-idx-spec : {M : Type 1} → statement M
 get-cell-idx-spec =
     tie.close
     (tie.spec
-    (λ c κs. search needs)
+    (λ c κs. tt)
     (λ c. rw (fails (c .before .in-bounds .ensures) (c .if1 .taken)))
-    (λ c κs. search needs)
+    (λ c κs. tt)
     (λ c. rw (passes (c .before .before .before .in-bounds .ensures) (c .before .before .if1 .left), fails (c .before .is-cell .ensures) (c .if2 .taken)))
     (λ c κs.
     let s = c .before .before .before .before .args in

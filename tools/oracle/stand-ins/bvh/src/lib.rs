@@ -58,15 +58,8 @@ pub mod bvh {
 
     /// The two cases that `bvh_ext.rs` tells apart. None is ever made.
     pub enum BvhNode<T, const D: usize> {
-        Node {
-            child_l_aabb: Aabb<T, D>,
-            child_l_index: usize,
-            child_r_aabb: Aabb<T, D>,
-            child_r_index: usize,
-        },
-        Leaf {
-            shape_index: usize,
-        },
+        Node { child_l_aabb: Aabb<T, D>, child_l_index: usize, child_r_aabb: Aabb<T, D>, child_r_index: usize },
+        Leaf { shape_index: usize },
     }
 
     pub struct Bvh<T, const D: usize> {

@@ -1,7 +1,7 @@
 //! Probe into `generate/grid.rs`: runs its private passes by themselves and shows what they leave, which the
 //! whole call does not. It computes nothing of its own.
 
-use super::{compute_raycasts, generate_preheap, AtomicU32, Bvh, BoundingHierarchy, BvhNode, RwLock, Triangle};
+use super::{compute_raycasts, generate_preheap, AtomicU32, BoundingHierarchy, Bvh, BvhNode, RwLock, Triangle};
 use crate::{geo, Grid, Point, SignMethod, Topology};
 
 /// What seeding leaves: for each cell the vertex numbers of its triangle, and the distance.
@@ -24,8 +24,7 @@ pub(crate) fn crossings<V: Point>(vertices: &[V], indices: Topology<u32>, grid: 
         })
         .collect();
     let bvh = Bvh::build_par(&mut nodes);
-    let counts: Vec<[AtomicU32; 3]> =
-        (0..grid.get_total_cell_count()).map(|_| [0, 0, 0].map(AtomicU32::new)).collect();
+    let counts: Vec<[AtomicU32; 3]> = (0..grid.get_total_cell_count()).map(|_| [0, 0, 0].map(AtomicU32::new)).collect();
     let mut distances = vec![0.0; counts.len()];
     compute_raycasts(vertices, grid, &mut distances, &counts, &bvh, &nodes);
     counts.into_iter().map(|c| c.map(AtomicU32::into_inner)).collect()

@@ -1,0 +1,4 @@
+-- Laws of the crate's proofs.
+pub mod Offers
+pub mod Boxes
+pub mod Whole

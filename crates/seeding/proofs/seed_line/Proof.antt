@@ -1,0 +1,105 @@
+-- `seeding::seed_line`: the state is the one after the turns from lo to below z. Assumes nothing.
+use mathlib.Core.Path.{_≡_, refl, sym, _∙_}
+use mathlib.Core.Logic.{_⊎_, inl, inr}
+use Prim.Native.Nat.{ℕ, _+_, _-_, _≤_, _<_}
+use native.Mathlib.Omega.{arith}
+use lib.ListN.{length}
+use Rattle.lists.specs.Turns.{Turn, goes, between}
+use Rattle.lists.proofs.Turns.{between-none, between-on, between-stop, between-end}
+use Rattle.grid.specs.declared.Grid.{Grid}
+use Rattle.grid.specs.Axes.{cell}
+use Rattle.grid.specs.Index.{indexOf}
+use Rattle.grid.proofs.Facts.{bounds-of}
+use Rattle.geo.specs.declared.closest.Facet.{Facet}
+use Rattle.run.specs.Run.{State}
+use Rattle.seeding.specs.Parts.{seedState, offerTo, alongLine}
+use Rattle.seeding.proofs.seed_line.Statement.{statement}
+use Rattle.seeding.proofs.seed_line.Tie as tie
+
+abbrev step : Grid → Facet → ℕ → ℕ → ℕ → ℕ → State → Turn State
+step g f k x y z = offerTo g f k (indexOf g (cell x y z))
+
+abbrev Inv-loop : tie.InvT-loop
+Inv-loop field₀ names₀ grid f k x y lo hi z₀ field names z =
+    (lo ≤ z)
+    × ((z ≡ lo) ⊎ (z ≤ hi + 1))
+    × (length field ≡ length field₀)
+    × (length names ≡ length names₀)
+    × (between (step grid f k x y) lo z (seedState field₀ names₀) ≡ goes (seedState field names))
+
+abbrev μ-loop : tie.MeasureT-loop
+μ-loop field₀ names₀ grid f k x y lo hi z₀ field names z = hi + 1 - z
+
+loop-holds : tie.Need-loop-holds Inv-loop μ-loop
+loop-holds c = (omega arith, inl refl, refl, refl, between-none _ _ _ _ (omega arith))
+
+offer-at-requires : tie.Need-offer-at-requires Inv-loop μ-loop
+offer-at-requires c κs =
+    let n = c .before .before in
+    let s = n .before .before .before .before in
+    let inside = s .pre .0 .1 in (
+      (s .pre .0 .0, record { x-below = inside .x-below; y-below = inside .y-below; z-below = omega (arith, inside .z-below, n .loop-test .taken) }),
+      (n .before .loop .inv .2 ∙ s .pre .1 .0, n .before .loop .inv .3 ∙ s .pre .1 .1),
+    )
+
+same-length : tie.Need-same-length Inv-loop μ-loop
+same-length c = omega arith
+
+same-length-2 : tie.Need-same-length-2 Inv-loop μ-loop
+same-length-2 c = omega arith
+
+returns : tie.Need-returns Inv-loop μ-loop
+unfolding alongLine
+returns c =
+    let o = c .before .before .before .before .before in
+    let l = o .before .before .before .before in
+    between-stop _ _ _ _ _ _ _ _ _ (l .loop .inv .0) (l .loop .inv .4) (o .offer-at .ensures) (c .if1 .taken) (omega arith)
+
+add-z : tie.Need-add-z Inv-loop μ-loop
+add-z c =
+    let s = c .before .before .before .before .before .before .before .before .before .before .before .before in
+    omega (arith, bounds-of (s .args .grid) (s .pre .0 .0) .on-z .few, s .pre .0 .1 .z-below)
+
+loop-less : tie.Need-loop-less Inv-loop μ-loop
+loop-less c = omega arith
+
+loop-again : tie.Need-loop-again Inv-loop μ-loop
+loop-again c =
+    let o = c .before .before .before .before .before in
+    let l = o .before .before .before .before in (
+      omega arith,
+      inr (omega arith),
+      omega arith,
+      omega arith,
+      between-on _ _ _ _ _ _ _ (l .loop .inv .0) (l .loop .inv .4) (o .offer-at .ensures) (c .if1 .left),
+    )
+
+same-length-3 : tie.Need-same-length-3 Inv-loop μ-loop
+same-length-3 c = omega arith
+
+same-length-4 : tie.Need-same-length-4 Inv-loop μ-loop
+same-length-4 c = omega arith
+
+returns-2 : tie.Need-returns-2 Inv-loop μ-loop
+unfolding alongLine
+returns-2 c =
+    let l = c .before in
+    between-end _ _ _ _ _ _ (l .loop .inv .0) (omega arith) (l .loop .inv .1) (l .loop .inv .4)
+
+pub seed-line-spec : {M : Type 1} → statement M
+seed-line-spec =
+    tie.close
+    (tie.spec
+    Inv-loop
+    μ-loop
+    loop-holds
+    offer-at-requires
+    same-length
+    same-length-2
+    returns
+    add-z
+    loop-less
+    loop-again
+    same-length-3
+    same-length-4
+    returns-2)

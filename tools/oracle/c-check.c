@@ -1,0 +1,67 @@
+/* Asks the oracle's library for document 01's points, from C: the header and the archive belong together.
+ * Built and run by tools/oracle/c-check. */
+#include "mesh_oracle.h"
+#include <math.h>
+#include <stdio.h>
+#include <string.h>
+
+static int wrong;
+
+static void expect(const char *what, int holds) {
+    printf("%s  %s\n", holds ? "holds" : "WRONG", what);
+    wrong += !holds;
+}
+
+int main(void) {
+    const float t[9] = {0, 0, 0, 4, 0, 0, 0, 4, 0}, *a = t, *b = t + 3, *c = t + 6;
+    const float at[3] = {1, 1, 1}, under[3] = {1, 1, -1}, edge[3] = {0, 1, -1}, on[3] = {1, 1, 0};
+    const uint32_t numbers[3] = {0, 1, 2};
+    const oracle_grid grid = {{1, 1, 1}, {1, 1, 2}, {2, 1, 1}};
+    const oracle_mesh mesh = {t, 3, numbers, 3, 0};
+    float field[2], d, near[3], low[3], high[3];
+    uint32_t steps, hit, counts[6], triples[6], inside, cell[3];
+    uint64_t index;
+    size_t triangles;
+    int32_t order;
+    double times[3];
+    oracle_grid made;
+
+    oracle_begin();
+    expect("counts 2 1 1: both cells 1.0, pops 2",
+           oracle_job(&grid, &mesh, field, &steps, times) == 0 && field[0] == 1 && field[1] == 1 && steps == 2);
+    expect("seeding reaches both cells",
+           oracle_seeding(&grid, &mesh, field, triples) == 0 && field[1] == 1 && triples[4] == 1 && triples[5] == 2);
+    expect("no crossing", oracle_crossings(&grid, &mesh, counts) == 0 && counts[0] + counts[2] + counts[5] == 0);
+    expect("one triangle, 0 1 2", oracle_get_triangles(&mesh, triples, 2, &triangles) == 0 && triangles == 1 &&
+                                      memcmp(triples, numbers, sizeof numbers) == 0);
+    expect("(1,1,1) to T: 1.0", oracle_point_triangle_distance(at, a, b, c, &d) == 0 && d == 1);
+    expect("closest point (1,1,0)", oracle_closest_point_triangle(at, a, b, c, near) == 0 && near[0] == 1 && near[2] == 0);
+    expect("closest on a,b: (1,0,0)", oracle_closest_point_segment(at, a, b, near) == 0 && near[0] == 1 && near[1] == 0);
+    expect("box to 4.0001", oracle_triangle_bounding_box(a, b, c, low, high) == 0 && high[0] == 4.0001f && low[2] == -0.0001f);
+    expect("ray from (1,1,-1): hit at 1.0",
+           oracle_ray_triangle_intersection_aligned(under, a, b, c, 2, &hit, &d) == 0 && hit == 1 && d == 1);
+    expect("ray from (0,1,-1): miss", oracle_ray_triangle_intersection_aligned(edge, a, b, c, 2, &hit, &d) == 0 && hit == 0);
+    expect("ray from (1,1,0): miss", oracle_ray_triangle_intersection_aligned(on, a, b, c, 2, &hit, &d) == 0 && hit == 0);
+    expect("compare(+1, -1) is less", oracle_compare_distances(1, -1, &order) == 0 && order < 0);
+    expect("compare(-1, +1) is greater", oracle_compare_distances(-1, 1, &order) == 0 && order > 0);
+
+    const oracle_grid four = {{0.5, 0.5, 0.5}, {1, 1, 1}, {4, 4, 4}};
+    const float zero[3] = {0, 0, 0}, end[3] = {4, 0, 0}, below[3] = {-0.25, 0, 0};
+    const uint32_t some[3] = {1, 2, 3};
+    expect("0.0 is Inside 0", oracle_snap_point_to_grid(&four, zero, &inside, cell) == 0 && inside == 1 && cell[0] == 0);
+    expect("4.0 is Outside 3", oracle_snap_point_to_grid(&four, end, &inside, cell) == 0 && inside == 0 && cell[0] == 3);
+    expect("-0.25 is Outside 0", oracle_snap_point_to_grid(&four, below, &inside, cell) == 0 && inside == 0 && cell[0] == 0);
+    expect("index of (1,2,3) is 27", oracle_get_cell_idx(&four, some, &index) == 0 && index == 27);
+    expect("and back", oracle_get_cell_integer_coordinates(&four, 27, cell) == 0 && memcmp(cell, some, sizeof some) == 0);
+    expect("its centre", oracle_get_cell_center(&four, some, near) == 0 && near[0] == 1.5f && near[2] == 3.5f);
+    expect("the grid's box", oracle_get_bounding_box(&four, low, high) == 0 && low[1] == 0 && high[1] == 4);
+    expect("the last cell, one too far", oracle_get_last_cell(&four, near) == 0 && near[0] == 4.5f);
+    expect("the grid from its box", oracle_from_bounding_box(low, high, four.count, &made) == 0 &&
+                                        memcmp(&made, &four, sizeof four) == 0);
+
+    char words[100];
+    expect("a NaN panics", oracle_compare_distances(NAN, 1, &order) == 1);
+    printf("       in words: %.*s\n", (int)oracle_panic_words(words, sizeof words), words);
+    printf("%d wrong\n", wrong);
+    return wrong != 0;
+}
