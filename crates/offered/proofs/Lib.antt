@@ -1,3 +1,5 @@
 pub mod States
 pub mod Neighbours
 pub mod Values
+pub mod Exact
+pub mod Cells

@@ -47,13 +47,13 @@ module _ (g : Grid) where
   near-reached c d v w n = record { number = t .number; small = t .small; leads = leads }
     where
       sx : Shifts (countOn X g) (d .x) (c .x)
-      sx = shift-to (countOn X g) (d .x) (c .x) (v .x-below) (n X .0) (n X .1)
+      sx = shift-to (countOn X g) (d .x) (c .x) (v .x-below) (omega (arith, n X .0)) (omega (arith, n X .1))
 
       sy : Shifts (countOn Y g) (d .y) (c .y)
-      sy = shift-to (countOn Y g) (d .y) (c .y) (v .y-below) (n Y .0) (n Y .1)
+      sy = shift-to (countOn Y g) (d .y) (c .y) (v .y-below) (omega (arith, n Y .0)) (omega (arith, n Y .1))
 
       sz : Shifts (countOn Z g) (d .z) (c .z)
-      sz = shift-to (countOn Z g) (d .z) (c .z) (v .z-below) (n Z .0) (n Z .1)
+      sz = shift-to (countOn Z g) (d .z) (c .z) (v .z-below) (omega (arith, n Z .0)) (omega (arith, n Z .1))
 
       t : Found (record { x = sx .shift; y = sy .shift; z = sz .shift })
       t = in-table (sx .shift) (sy .shift) (sz .shift)

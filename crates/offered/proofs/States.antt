@@ -3,29 +3,50 @@
 -- an entry or has been offered around, and at the end nothing waits. Assumes nothing but what `Fair` asks of the ground.
 use Prim.Native.Nat.{ℕ, zero, suc, _≤_, _<_}
 use native.Mathlib.Omega.{arith}
-use mathlib.Core.Path.{_≡_, refl, sym, ap, _∙_, subst}
+use mathlib.Core.Path.{_≡_, sym, ap, _∙_, subst}
 use mathlib.Core.Logic.{_⊎_, inl, inr}
-use mathlib.Core.List.{List, [], _∷_}
+use mathlib.Core.List.{List, _∷_}
 use lib.ListN.{length, getD}
-use Rattle.lists.specs.Turns.{Turn, goes, turns}
+use Rattle.lists.specs.Turns.{goes, turns}
 use Rattle.lists.proofs.Made.{goes-same}
 use Rattle.queue.specs.declared.Entry.{Entry}
 use Rattle.run.specs.Run.{Ground, State, named, seeding, queueCell, queueing, taken, spreadAround, spreading, run}
-use Rattle.run.proofs.Values.{Fair, Met}
-use Rattle.run.proofs.Offers.{Spread, over, pops, spreading-went, Popped, spreading-pops, Ran, run-went}
+use Rattle.run.proofs.Values.{Fair}
+use Rattle.run.proofs.Offers.{Spread, over, pops, spreading-went, Popped, spreading-pops, run-went}
 use Rattle.run.proofs.Waiting.{apart-at, Good, good-taken, WaitsFor, waits-for-on, Waits}
 use Rattle.run.proofs.Seeding.{seeding-good, seeding-empty}
 use Rattle.run.proofs.Queueing.{QueuedTo, queued-to, queueing-to}
-use Rattle.run.proofs.Spreading.{Led, Served, first-lead, rest-lead, around-leads, Ends, ends}
+use Rattle.run.proofs.Spreading.{Led, Served, first-lead, rest-lead, around-leads, ends}
 use Rattle.offered.specs.States.{firstOffers, BeforePop, afterQueueing, afterPop, Since, endOfSeeding, inQueueing, beforePop, inPop}
 
 module _ (g : Ground) (F : Fair g) where
+  -- ---- the run's end is one of them
+
+  end-is-one : (left : ℕ) (s t : State) → BeforePop g s → spreading g left s ≡ goes t → BeforePop g t
+  end-is-one zero s t B h = go (spreading-went g 0 s t h)
+    where
+      go : Spread g 0 s t → BeforePop g t
+      go (over q e) = subst (BeforePop g) (sym e) B
+      go (pops e w n u q l a b) = absurd (omega arith)
+  end-is-one (suc left) s t B h = go (λ u. end-is-one left u t) (spreading-went g (suc left) s t h)
+    where
+      go : ((u : State) → BeforePop g u → spreading g left u ≡ goes t → BeforePop g t) → Spread g (suc left) s t → BeforePop g t
+      go later (over q e) = subst (BeforePop g) (sym e) B
+      go later (pops e w n u q l a b) =
+          let same : n ≡ left = omega arith in
+          later u (afterPop B q a) (subst (λ (i : ℕ). spreading g i u ≡ goes t) same b)
+
+  pub end-since : (t : State) → run g ≡ goes t → Since g t
+  end-since t h =
+      let r = run-went g t h in
+      beforePop (end-is-one (g .limit) (r .queued-all) t (afterQueueing (r .by-seeding) (r .by-queueing)) (r .by-spreading))
+
   -- ---- every state is good
 
   pub queueing-good : (s t : State) (i : ℕ) → seeding g ≡ goes s → i ≤ g .cells → turns (queueCell g) i s ≡ goes t → QueuedTo g s i t
   queueing-good s t i p l h = queued-to g F s i t (seeding-good g F s p) (seeding-empty g F s p) l h
 
-  queueing-all : (s t : State) → seeding g ≡ goes s → queueing g s ≡ goes t → QueuedTo g s (g .cells) t
+  pub queueing-all : (s t : State) → seeding g ≡ goes s → queueing g s ≡ goes t → QueuedTo g s (g .cells) t
   queueing-all s t p h = queueing-to g F s t (seeding-good g F s p) (seeding-empty g F s p) h
 
   -- an entry that is taken leads on
@@ -53,27 +74,6 @@ module _ (g : Ground) (F : Fair g) where
   pub never-agree : (s : State) → Since g s → (none : Entry) (i j : ℕ) → i < j → j < length (s .waiting)
       → getD (s .waiting) i none .distance ≡ getD (s .waiting) j none .distance → getD (s .waiting) i none .cell ≡ getD (s .waiting) j none .cell → ⊥
   never-agree s S none i j l m = apart-at (s .waiting) none i j (since-good s S .apart) l m
-
-  -- ---- the run's end is one of them
-
-  end-is-one : (left : ℕ) (s t : State) → BeforePop g s → spreading g left s ≡ goes t → BeforePop g t
-  end-is-one zero s t B h = go (spreading-went g 0 s t h)
-    where
-      go : Spread g 0 s t → BeforePop g t
-      go (over q e) = subst (BeforePop g) (sym e) B
-      go (pops e w n u q l a b) = absurd (omega arith)
-  end-is-one (suc left) s t B h = go (λ u. end-is-one left u t) (spreading-went g (suc left) s t h)
-    where
-      go : ((u : State) → BeforePop g u → spreading g left u ≡ goes t → BeforePop g t) → Spread g (suc left) s t → BeforePop g t
-      go later (over q e) = subst (BeforePop g) (sym e) B
-      go later (pops e w n u q l a b) =
-          let same : n ≡ left = omega arith in
-          later u (afterPop B q a) (subst (λ (i : ℕ). spreading g i u ≡ goes t) same b)
-
-  pub end-since : (t : State) → run g ≡ goes t → Since g t
-  end-since t h =
-      let r = run-went g t h in
-      beforePop (end-is-one (g .limit) (r .queued-all) t (afterQueueing (r .by-seeding) (r .by-queueing)) (r .by-spreading))
 
   -- ---- what a cell names is offered around before the run is Done
 

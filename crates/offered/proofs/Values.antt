@@ -1,39 +1,34 @@
 -- The magnitudes and the names of a run that is Done, over any ground whose steps and indices are those of a grid. A triangle whose
 -- snapped box covers a cell was met there in seeding; one that a neighbour held was offered around before the end; and no value rises.
 -- Assumes nothing but what `FairOn` asks of the ground.
-use Prim.Native.Nat.{ℕ, _+_, _≤_, _<_}
+use Prim.Native.Nat.{ℕ, _≤_, _<_}
 use native.Mathlib.Omega.{arith}
-use mathlib.Core.Path.{_≡_, refl, sym, ap, _∙_, subst}
+use mathlib.Core.Path.{_≡_, refl, sym, _∙_, subst}
 use mathlib.Core.Logic.{_⊎_, inl, inr}
-use mathlib.Core.Bool.{Bool, true, false, true≢false}
+use mathlib.Core.Bool.{true, false, true≢false}
 use mathlib.Core.List.{List}
-use lib.ListN.{getD}
-use lib.Ieee.{Float, nan}
+use lib.Ieee.{Float}
 use borrow.Author.Tests.{le-leb}
-use Rattle.point.specs.declared.Axis.{Axis}
 use Rattle.point.specs.declared.Axis.the-variants.{X, Y, Z}
 use Rattle.float.specs.Arith.{_≦_, _≺_, fMax}
 use Rattle.float.specs.Distance.{Distance}
 use Rattle.float.proofs.Order.{distance-le}
-use Rattle.lists.specs.Turns.{Turn, goes}
+use Rattle.lists.specs.Turns.{goes}
 use Rattle.grid.specs.declared.Grid.{Grid}
 use Rattle.grid.specs.declared.Cell.{Cell}
-use Rattle.grid.specs.Axes.{cellOn}
 use Rattle.grid.specs.Index.{indexOf, total, Inside}
 use Rattle.grid.proofs.Laws.{index-below}
-use Rattle.run.specs.Run.{Ground, State, Box, none, held, named, run}
+use Rattle.run.specs.Run.{Ground, State, none, held, named, run}
 use Rattle.run.specs.Steps.{aroundCell}
 use Rattle.run.proofs.Values.{Fair, bits, Holds, isBare, has, Falls, Met, met-on, max-distance, holds-distance, holds-at-most-max, has-below}
 use Rattle.run.proofs.Offers.{Ran, run-went}
-use Rattle.run.proofs.Waiting.{Good}
 use Rattle.run.proofs.Seeding.{InBox, seeding-good, seeding-empty, seeding-meets}
-use Rattle.run.proofs.Queueing.{QueuedTo, queueing-to}
-use Rattle.run.proofs.Spreading.{Ends, ends}
-use Rattle.offered.specs.States.{Since}
-use Rattle.offered.specs.Offered.{Covers, Held, Near, HeldNear, Offered}
+use Rattle.run.proofs.Queueing.{queueing-to}
+use Rattle.run.proofs.Spreading.{ends}
+use Rattle.offered.specs.Offered.{Covers, Near, HeldNear, Offered}
 use Rattle.offered.specs.Meaning.{Least, Names}
 use Rattle.offered.proofs.States.{since-good, end-since, since-served}
-use Rattle.offered.proofs.Neighbours.{Reached, near-reached}
+use Rattle.offered.proofs.Neighbours.{near-reached}
 
 -- what the run is told is of the grid
 pub record FairOn (grid : Grid) (g : Ground) : Type 0 where
@@ -41,6 +36,7 @@ pub record FairOn (grid : Grid) (g : Ground) : Type 0 where
   pub cells-are : g .cells ≡ total grid
   pub index-is : (x y z : ℕ) → g .index x y z ≡ indexOf grid (record { x = x; y = y; z = z })
   pub around-is : (c j : ℕ) → g .around c j ≡ aroundCell grid c j
+  pub boxes-in : (k : ℕ) → Inside grid (g .box k .high)
 
 near-itself : (c : Cell) → Near c c
 near-itself c a = (omega arith, omega arith)
@@ -68,7 +64,12 @@ module _ (grid : Grid) (g : Ground) (O : FairOn grid g) (f : State) (D : run g �
         (subst (Met g (r .seeded .field) k) (O .index-is (c .x) (c .y) (c .z)) m)
       where
         in-box : InBox (g .box k) (c .x) (c .y) (c .z)
-        in-box = record { x-low = b X .0; x-high = b X .1; y-low = b Y .0; y-high = b Y .1; z-low = b Z .0; z-high = b Z .1 }
+        in-box =
+            record {
+              on-x = record { low = omega (arith, b X .0); high = omega (arith, b X .1) };
+              on-y = record { low = omega (arith, b Y .0); high = omega (arith, b Y .1) };
+              on-z = record { low = omega (arith, b Z .0); high = omega (arith, b Z .1) };
+            }
 
     -- a triangle that the cell or a neighbour held
     held-met : (k : ℕ) → k < g .triangles → HeldNear grid g c k → Met g (f .field) k (indexOf grid c)

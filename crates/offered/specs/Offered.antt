@@ -1,5 +1,6 @@
 -- "A triangle is offered to a cell if its snapped box covers the cell, or if the cell or one of its at most 26 neighbours held it at the
--- end of seeding or later" (document 01, demand 3). Definitions only.
+-- end of seeding or later" (demand 3). Definitions only; proofs/Exact.antt shows that the run offers no other (`pop-offers`,
+-- `seeding-offers`).
 use Prim.Native.Nat.{ℕ, _+_, _≤_, _<_}
 use mathlib.Core.Path.{_≡_}
 use mathlib.Core.Logic.{_⊎_}

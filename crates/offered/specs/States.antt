@@ -1,5 +1,6 @@
--- The states of a run from the end of seeding on: "at the end of seeding or later" (document 01, demand 3). They are read off the
--- definition of the run, step by step. Definitions only.
+-- The states of a run from the end of seeding on, which demand 3 speaks of: "at the end of seeding or later". They are read off the
+-- definition of the run, step by step. The pop limit is not named: it only ends a run, and a run that is Done did not end by it.
+-- Definitions only; proofs/States.antt shows that a run's end is one of them (`end-since`).
 use Prim.Native.Nat.{ℕ, _≤_}
 use mathlib.Core.Path.{_≡_}
 use mathlib.Core.List.{List, _∷_}
@@ -11,7 +12,8 @@ use Rattle.run.specs.Run.{Ground, State, seeding, queueCell, queueing, taken, s
 abbrev pub firstOffers : Ground → Entry → ℕ → State → Turn State
 firstOffers g e j s = turns (λ i. spreadTo g e (g .around (e .cell) i)) j s
 
--- s is a state before a pop, or the last: after queueing, or after an entry was taken and its triangle offered to all the cells around
+-- s is a state before a pop, or the last: after queueing, or after the first entry e was taken, w were left, and its triangle was
+-- offered to all the cells around
 pub data BeforePop (g : Ground) : State → Type 0 where
   afterQueueing : {s t : State} → seeding g ≡ goes s → queueing g s ≡ goes t → BeforePop g t
   afterPop : {s t : State} {e : Entry} {w : List Entry} → BeforePop g s → s .waiting ≡ e ∷ w → spreadAround g e (taken w s) ≡ goes t → BeforePop g t

@@ -32,14 +32,15 @@ use Rattle.run.proofs.Steps.{around-on}
 
 -- ---- a snapped box lies on the grid
 
+-- a number that is raised only where the next is below n
+raised-below : (b t : Bool) (i n : ℕ) → (b ≡ true → i + 1 < n) → i < n → cond (b && t) (i + 1) i < n
+raised-below true true i n h l = h refl
+raised-below true false i n h l = l
+raised-below false t i n h l = l
+
 module _ (g : Grid) (some : (a : Axis) → 0 < countOn a g) where
   raised-on : (a : Axis) (high : Point) (i : ℕ) → i < countOn a g → raised a g high i < countOn a g
-  raised-on a high i l = go (ltb i (countOn a g - 1)) _ refl
-    where
-      go : (b t : Bool) → ltb i (countOn a g - 1) ≡ b → cond (b && t) (i + 1) i < countOn a g
-      go true true e = omega (arith, ltb-true i (countOn a g - 1) e)
-      go true false e = l
-      go false t e = l
+  raised-on a high i l = raised-below (ltb i (countOn a g - 1)) _ i (countOn a g) (λ e. omega (arith, ltb-true)) l
 
   snap-on : (a : Axis) (p : Point) → cellOn a (snapCell g p) < countOn a g
   unfolding snapCell

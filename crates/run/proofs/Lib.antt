@@ -1,10 +1,11 @@
 -- Laws of the run that other crates cite.
-pub mod Grounds
-pub mod Offers
-pub mod Queueing
-pub mod Seeding
-pub mod Spreading
-pub mod Steps
 pub mod Values
+pub mod Offers
 pub mod Waiting
+pub mod Seeding
+pub mod Queueing
+pub mod Spreading
+pub mod Done
+pub mod Steps
 pub mod Ways
+pub mod Grounds

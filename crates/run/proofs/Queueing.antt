@@ -6,15 +6,15 @@ use native.Mathlib.Omega.{arith}
 use mathlib.Core.Path.{_≡_, refl, sym, ap, _∙_, subst}
 use mathlib.Core.Logic.{_⊎_, inl, inr}
 use mathlib.Core.Bool.{true, false, true≢false}
-use mathlib.Core.List.{List, [], List·Memᴰ, List·Memᴰ·not-nil}
-use lib.Ieee.{Float, isNan}
+use mathlib.Core.List.{[], List·Memᴰ, List·Memᴰ·not-nil}
+use lib.Ieee.{isNan}
 use Rattle.float.specs.Arith.{_≺_, fMax}
-use Rattle.lists.specs.Turns.{Turn, goes, turns}
+use Rattle.lists.specs.Turns.{goes, turns}
 use Rattle.lists.proofs.Turns.{turns-keep}
 use Rattle.queue.specs.declared.Entry.{Entry}
 use Rattle.queue.proofs.Meaning.{in-insert, still-in, from-insert}
 use Rattle.run.specs.Run.{Ground, State, held, named, entry, queued, queueCell, queueing}
-use Rattle.run.proofs.Values.{Fair, bits, Holds, has-named, has-below}
+use Rattle.run.proofs.Values.{Fair, bits, has-named, has-below}
 use Rattle.run.proofs.Offers.{Queued, QueuedCell, notBelow, below, queueCell-went}
 use Rattle.run.proofs.Waiting.{Waits, Differ, Good, good-queued, WaitsFor, waits-for-on}
 
@@ -25,6 +25,7 @@ pub record QueuedTo (g : Ground) (s : State) (i : ℕ) (t : State) : Type 0 wher
   pub names-same : t .names ≡ s .names
   pub pops-same : t .pops ≡ s .pops
   pub passed : (x : Entry) → List·Memᴰ x (t .waiting) → x .cell < i
+  pub names-it : (x : Entry) → List·Memᴰ x (t .waiting) → named t (x .cell) ≡ x .triangle
   pub each : (c : ℕ) → c < i → named t c < g .triangles → WaitsFor t c (named t c)
 
 module _ (g : Ground) (F : Fair g) (s : State) where
@@ -53,9 +54,14 @@ module _ (g : Ground) (F : Fair g) (s : State) where
           names-same = P .names-same;
           pops-same = P .pops-same;
           passed = λ x m. passed x (from-insert (g .goesFirst) x (entry (held u i) i (named u i)) (u .waiting) m);
+          names-it = λ x m. names-it x (from-insert (g .goesFirst) x (entry (held u i) i (named u i)) (u .waiting) m);
           each = λ c l k. each c k (eq-or-lt-of-le (le-of-suc-le-suc l));
         })
       where
+        names-it : (x : Entry) → (x ≡ entry (held u i) i (named u i)) ⊎ List·Memᴰ x (u .waiting) → named u (x .cell) ≡ x .triangle
+        names-it x (inl e) = ap (λ (y : Entry). named u (y .cell)) e ∙ sym (ap (λ (y : Entry). y .triangle) e)
+        names-it x (inr m) = P .names-it x m
+
         passed : (x : Entry) → (x ≡ entry (held u i) i (named u i)) ⊎ List·Memᴰ x (u .waiting) → x .cell < suc i
         passed x (inl e) = omega (arith, ap (λ (y : Entry). y .cell) e)
         passed x (inr m) = omega (arith, P .passed x m)
@@ -83,6 +89,7 @@ module _ (g : Ground) (F : Fair g) (s : State) where
         names-same = P .names-same;
         pops-same = P .pops-same;
         passed = λ x m. omega (arith, P .passed x m);
+        names-it = P .names-it;
         each = λ c l k. each c k (eq-or-lt-of-le (le-of-suc-le-suc l));
       })
     where
@@ -110,6 +117,7 @@ module _ (g : Ground) (F : Fair g) (s : State) where
             names-same = refl;
             pops-same = refl;
             passed = λ x m. absurd (List·Memᴰ·not-nil (subst (List·Memᴰ x) e m));
+            names-it = λ x m. absurd (List·Memᴰ·not-nil (subst (List·Memᴰ x) e m));
             each = λ c k. absurd (not-suc-le-zero k);
           }
 

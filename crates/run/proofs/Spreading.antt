@@ -3,17 +3,16 @@
 -- asks of the ground.
 use Prim.Native.Nat.{ℕ, zero, suc, _+_, _≤_, _<_}
 use native.Mathlib.Omega.{arith}
-use mathlib.Core.Path.{_≡_, refl, sym, ap, _∙_, subst}
+use mathlib.Core.Path.{_≡_, refl, sym, subst}
 use mathlib.Core.Logic.{_⊎_, inl, inr}
 use mathlib.Core.List.{List, [], _∷_, List·Memᴰ, List·Memᴰ·cases-cons, List·Memᴰ·not-nil}
-use lib.Ieee.{Float}
 use Rattle.lists.specs.Turns.{Turn, goes, turns}
-use Rattle.lists.proofs.Made.{goes-same, Made, turns-lead, turns-rest, turns-made}
+use Rattle.lists.proofs.Made.{goes-same, turns-lead, turns-rest, turns-made}
 use Rattle.queue.specs.declared.Entry.{Entry}
 use Rattle.run.specs.Run.{Ground, Place, off, at, State, named, taken, spreadTo, spreadAround, spreading}
 use Rattle.run.proofs.Values.{Fair, Falls, Met, met-on}
 use Rattle.run.proofs.Offers.{Spread, over, pops, spreading-went}
-use Rattle.run.proofs.Waiting.{Waits, Good, good-taken, WaitsFor, Onward, onward-stays, onward-on, Offered, offered}
+use Rattle.run.proofs.Waiting.{Waits, Good, good-taken, Onward, onward-stays, onward-on, after-offer}
 
 -- the turns of an entry that is taken
 abbrev pub turnOf : Ground → Entry → ℕ → State → Turn State
@@ -53,13 +52,23 @@ module _ (g : Ground) (F : Fair g) where
         go : (p : Place) → g .around (e .cell) j ≡ p → spreadTo g e p s ≡ goes t → Led g s t
         go off q w = rw (← goes-same w) (stays g s G)
         go (at d) q w =
-            let o = offered g F (e .triangle) d kl (F .steps-on (e .cell) j d cl q) s G t w in
+            let o = after-offer g F (e .triangle) d kl (F .steps-on (e .cell) j d cl q) s G t w in
             record { good = o .good; onward = o .onward }
 
     turn-meets : (j d : ℕ) (s t : State) → g .around (e .cell) j ≡ at d → Good g s → turnOf g e j s ≡ goes t → Met g (t .field) (e .triangle) d
     unfolding spreadTo
     turn-meets j d s t q G h =
-        offered g F (e .triangle) d kl (F .steps-on (e .cell) j d cl q) s G t (subst (λ (p : Place). spreadTo g e p s ≡ goes t) q h) .met
+        after-offer g F (e .triangle) d kl (F .steps-on (e .cell) j d cl q) s G t (subst (λ (p : Place). spreadTo g e p s ≡ goes t) q h) .met
+
+    -- an entry that waits after a turn was there, or its cell names its triangle
+    pub turn-new : (j : ℕ) (s t : State) → Good g s → turnOf g e j s ≡ goes t → (x : Entry) → List·Memᴰ x (t .waiting)
+        → List·Memᴰ x (s .waiting) ⊎ (named t (x .cell) ≡ x .triangle)
+    unfolding spreadTo
+    turn-new j s t G h x m = go (g .around (e .cell) j) refl h
+      where
+        go : (p : Place) → g .around (e .cell) j ≡ p → spreadTo g e p s ≡ goes t → List·Memᴰ x (s .waiting) ⊎ (named t (x .cell) ≡ x .triangle)
+        go off q w = inl (subst (λ (u : State). List·Memᴰ x (u .waiting)) (sym (goes-same w)) m)
+        go (at d) q w = after-offer g F (e .triangle) d kl (F .steps-on (e .cell) j d cl q) s G t w .new x m
 
     pub first-lead : (j : ℕ) (s t : State) → Good g s → turns (turnOf g e) j s ≡ goes t → Led g s t
     first-lead j s t G h = turns-lead (Leads g) (stays g) (on g) (turnOf g e) j s t (λ i u v l. turn-leads i u v) h G
@@ -67,16 +76,16 @@ module _ (g : Ground) (F : Fair g) where
     -- from the state after j of the offers to that after all
     pub rest-lead : (j : ℕ) (s u t : State) → j ≤ 27 → Good g u → turns (turnOf g e) j s ≡ goes u → spreadAround g e s ≡ goes t → Led g u t
     unfolding spreadAround
-    rest-lead j s u t l G p h = turns-rest (Leads g) (stays g) (on g) (turnOf g e) j 27 s u t l (λ i a b m. turn-leads i a b) p h G
+    rest-lead j s u t l G p h = turns-rest (Leads g) (stays g) (on g) (turnOf g e) j _ s u t (omega arith) (λ i a b m. turn-leads i a b) p h G
 
     pub around-leads : (s t : State) → Good g s → spreadAround g e s ≡ goes t → Led g s t
     unfolding spreadAround
-    around-leads s t G h = first-lead 27 s t G h
+    around-leads s t G h = first-lead _ s t G h
 
     pub around-serves : (s t : State) → Good g s → spreadAround g e s ≡ goes t → Served g t (e .cell) (e .triangle)
     unfolding spreadAround
     around-serves s t G h j d l q =
-        let p = turns-made (Leads g) (stays g) (on g) (turnOf g e) j 27 s t l (λ i u v m. turn-leads i u v) h in
+        let p = turns-made (Leads g) (stays g) (on g) (turnOf g e) j _ s t (omega arith) (λ i u v m. turn-leads i u v) h in
         let a = p .led G in
         let b = turn-leads j (p .before) (p .after) (p .turn) (a .good) in
         met-on g (p .after .field) (t .field) (e .triangle) d (F .steps-on (e .cell) j d cl q) (p .leads (b .good) .onward .falls)

@@ -5,7 +5,7 @@ use Prim.Native.Nat.{ℕ, _≤_, _<_}
 use native.Mathlib.Decide.{ℕ-discrete}
 use native.Mathlib.Omega.{arith}
 use mathlib.Core.Path.{_≡_, refl, sym, ap, _∙_, subst}
-use mathlib.Core.Bool.{Bool, true, false, true≢false}
+use mathlib.Core.Bool.{true, false, true≢false}
 use mathlib.Core.List.{List}
 use lib.Dec.{lit≤}
 use lib.ListN.{length, getD, set, replicate, length-set, length-replicate, getD-replicate}
@@ -16,7 +16,7 @@ use Rattle.float.specs.Arith.{_≺_, fMax}
 use Rattle.float.specs.Distance.{Distance}
 use Rattle.float.proofs.Order.{bits-distance, bits-lt, distance-lt}
 use Rattle.lists.proofs.Table.{stored-at}
-use Rattle.run.specs.Run.{Ground, Place, off, at, State, Box, none, bare, held, named, takes}
+use Rattle.run.specs.Run.{Ground, at, none}
 
 -- what the laws of a run ask of what it is told
 pub record Fair (g : Ground) : Type 0 where
@@ -61,6 +61,15 @@ met-on g a b k c l p m = record { number = m .number; least = omega (arith, p c 
 pub record Nearer (g : Ground) (field : List Float) (k c : ℕ) : Type 0 where
   pub number : isNan (g .distance k c) ≡ false
   pub less : (g .distance k c ≺ getD field c nan) ≡ true
+
+-- cell c takes triangle k, in place of what it holds: it holds less, and the other cells' names are kept
+pub record Took (g : Ground) (field : List Float) (names : List ℕ) (k c : ℕ) : Type 0 where
+  pub less : bits (g .distance k c) < bits (getD field c nan)
+  pub sound : Sound g (set field c (g .distance k c)) (set names c k)
+  pub falls : Falls g field (set field c (g .distance k c))
+  pub met : Met g (set field c (g .distance k c)) k c
+  pub name : (i : ℕ) → i ≡ c → getD (set names c k) i 0 ≡ k
+  pub other-names : (i : ℕ) → (i ≡ c → ⊥) → getD (set names c k) i 0 ≡ getD names i 0
 
 -- ---- f32::MAX
 
@@ -119,13 +128,13 @@ module _ (g : Ground) (F : Fair g) where
       ∙ lt-ltb (bits d) (bits fMax) (omega (arith, less-bits d v p q h, less-bits v fMax q max-distance b))
 
   module _ (field : List Float) (names : List ℕ) (k c : ℕ) (S : Sound g field names) (kl : k < g .triangles) (cl : c < g .cells) (N : Nearer g field k c) where
-    pub takes-less : bits (g .distance k c) < bits (getD field c nan)
+    takes-less : bits (g .distance k c) < bits (getD field c nan)
     takes-less = less-bits (g .distance k c) (getD field c nan) (F .distances k c (N .number)) (holds-distance (S .each c cl)) (N .less)
 
     stored : (i : ℕ) → i ≡ c → getD (set field c (g .distance k c)) i nan ≡ g .distance k c
     stored i e = stored-at nan field c i (g .distance k c) (omega (arith, S .field-long)) e
 
-    pub takes-sound : Sound g (set field c (g .distance k c)) (set names c k)
+    takes-sound : Sound g (set field c (g .distance k c)) (set names c k)
     takes-sound =
         record {
           field-long = length-set field c (g .distance k c) ∙ S .field-long;
@@ -139,22 +148,26 @@ module _ (g : Ground) (F : Fair g) where
             rw (stored i e, name, e) (has kl refl (N .number) (below-max (S .each c cl) (g .distance k c) (F .distances k c (N .number)) (N .less)))
         at-cell i l (no n) = rw (getD-set-other field c i (g .distance k c) nan n, getD-set-other names c i k 0 n) (S .each i l)
 
-    pub takes-falls : Falls g field (set field c (g .distance k c))
+    takes-falls : Falls g field (set field c (g .distance k c))
     takes-falls i l = go (ℕ-discrete i c)
       where
         go : Dec (i ≡ c) → bits (getD (set field c (g .distance k c)) i nan) ≤ bits (getD field i nan)
         go (yes e) = rw (stored i e, e) (omega (arith, takes-less))
         go (no n) = rw (getD-set-other field c i (g .distance k c) nan n) (omega arith)
 
-    pub takes-met : Met g (set field c (g .distance k c)) k c
+    takes-met : Met g (set field c (g .distance k c)) k c
     takes-met = record { number = N .number; least = rw (stored c refl) (omega arith) }
 
-    -- the other cells' names are kept
-    pub takes-named : (i : ℕ) → (i ≡ c → ⊥) → getD (set names c k) i 0 ≡ getD names i 0
-    takes-named i n = getD-set-other names c i k 0 n
-
-    pub takes-name : (i : ℕ) → i ≡ c → getD (set names c k) i 0 ≡ k
-    takes-name i e = stored-at 0 names c i k (omega (arith, S .names-long)) e
+    pub took : Took g field names k c
+    took =
+        record {
+          less = takes-less;
+          sound = takes-sound;
+          falls = takes-falls;
+          met = takes-met;
+          name = λ i e. stored-at 0 names c i k (omega (arith, S .names-long)) e;
+          other-names = λ i n. getD-set-other names c i k 0 n;
+        }
 
   -- a cell that does not find a triangle smaller holds no more than its distance
   pub passes-met : (field : List Float) (names : List ℕ) (k c : ℕ) → Sound g field names → c < g .cells → isNan (g .distance k c) ≡ false

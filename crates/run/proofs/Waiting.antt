@@ -1,23 +1,22 @@
 -- What waits in a run. Every waiting entry is of a cell and a triangle of the job, has that triangle's distance, and its cell holds no
 -- more since. A cell queues an entry only when its value falls, so two waiting entries never agree in both distance and cell. The
 -- entries that wait never outgrow the peak, nor the peak the room. Assumes nothing but what `Fair` asks of the ground.
-use Prim.Native.Nat.{ℕ, zero, suc, _+_, _≤_, _<_, max}
+use Prim.Native.Nat.{ℕ, zero, suc, _≤_, _<_}
 use native.Mathlib.Nat.{le-of-suc-le-suc, not-suc-le-zero}
 use native.Mathlib.Decide.{ℕ-discrete}
 use native.Mathlib.Omega.{arith}
 use mathlib.Core.Path.{_≡_, refl, sym, ap, _∙_, subst}
 use mathlib.Core.Logic.{_⊎_, inl, inr}
 use mathlib.Core.Bool.{Bool, true, false, cond}
-use mathlib.Core.List.{List, [], _∷_, List·Memᴰ, List·Memᴰ·head, List·Memᴰ·tail, List·Memᴰ·cases-cons, List·Memᴰ·not-nil}
+use mathlib.Core.List.{List, [], _∷_, List·Memᴰ, List·Memᴰ·head, List·Memᴰ·tail, List·Memᴰ·not-nil}
 use lib.ListN.{length, getD, set}
 use lib.Ieee.{Float, nan, isNan}
-use Rattle.float.specs.Arith.{_≺_}
-use Rattle.lists.specs.Turns.{Turn, goes}
+use Rattle.lists.specs.Turns.{goes}
 use Rattle.queue.specs.declared.Entry.{Entry}
 use Rattle.queue.specs.InOrder.{insert}
 use Rattle.queue.proofs.Meaning.{length-insert, in-insert, still-in, from-insert}
-use Rattle.run.specs.Run.{Ground, State, held, named, entry, takes, offer, queued, queue, taken}
-use Rattle.run.proofs.Values.{Fair, bits, Sound, Falls, Met, Nearer, takes-less, takes-sound, takes-falls, takes-met, takes-named, takes-name, passes-met}
+use Rattle.run.specs.Run.{Ground, State, named, entry, takes, offer, queued, queue, taken}
+use Rattle.run.proofs.Values.{Fair, bits, Sound, Falls, Met, Nearer, Took, took, passes-met}
 use Rattle.run.proofs.Offers.{Offer, passes, takesIt, offer-went, Queued, queue-went}
 
 -- ---- the entries that wait
@@ -154,71 +153,84 @@ onward-on g s t u p q =
     go c (inl e) (inr w) = inr (waits-for-on {s = t} {t = u} (q .keeps) (subst (WaitsFor t c) (sym e) w))
 
 -- what an offer of triangle k to cell c does
-pub record Offered (g : Ground) (k c : ℕ) (s t : State) : Type 0 where
+pub record AfterOffer (g : Ground) (k c : ℕ) (s t : State) : Type 0 where
   pub good : Good g t
   pub onward : Onward g s t
   pub met : Met g (t .field) k c
+  -- an entry that waits was there, or its cell names its triangle
+  pub new : (x : Entry) → List·Memᴰ x (t .waiting) → List·Memᴰ x (s .waiting) ⊎ (named t (x .cell) ≡ x .triangle)
 
 module _ (g : Ground) (F : Fair g) (k c : ℕ) (kl : k < g .triangles) (cl : c < g .cells) (s : State) (G : Good g s) where
+  -- the entry that the cell queues where it takes the triangle, and the state in between
+  abbrev new : Entry
+  new = entry (g .distance k c) c k
+
+  abbrev between : State
+  between = takes c k (g .distance k c) s
+
   module _ (N : Nearer g (s .field) k c) where
-    -- the cell takes the triangle
-    takes-good : Good g (takes c k (g .distance k c) s)
-    takes-good =
+    T : Took g (s .field) (s .names) k c
+    T = took g F (s .field) (s .names) k c (G .sound) kl cl N
+
+    between-good : Good g between
+    between-good =
         record {
-          sound = takes-sound g F (s .field) (s .names) k c (G .sound) kl cl N;
-          waits = λ x m. waits-on g (s .field) (set (s .field) c (g .distance k c)) x (takes-falls g F (s .field) (s .names) k c (G .sound) kl cl N) (G .waits x m);
+          sound = T .sound;
+          waits = λ x m. waits-on g (s .field) (between .field) x (T .falls) (G .waits x m);
           apart = G .apart;
           in-peak = G .in-peak;
           in-room = G .in-room;
         }
 
-    -- its entry is at the new value, and those of the same cell are above the old
-    new-waits : Waits g (set (s .field) c (g .distance k c)) (entry (g .distance k c) c k)
-    new-waits =
-        record {
-          cell-on = cl;
-          triangle-is = kl;
-          number = N .number;
-          far = refl;
-          above = takes-met g F (s .field) (s .names) k c (G .sound) kl cl N .least;
-        }
+    -- the new entry is at the new value, and those of the same cell are above the old
+    new-waits : Waits g (between .field) new
+    new-waits = record { cell-on = cl; triangle-is = kl; number = N .number; far = refl; above = T .met .least }
 
-    new-differs : (z : Entry) → List·Memᴰ z (s .waiting) → Differ (entry (g .distance k c) c k) z
+    new-differs : (z : Entry) → List·Memᴰ z (s .waiting) → Differ new z
     new-differs z m d e =
-        let less = takes-less g F (s .field) (s .names) k c (G .sound) kl cl N in
+        let less = T .less in
         let above : bits (getD (s .field) c nan) ≤ z .distance = rw e (G .waits z m .above) in
         omega arith
 
-    takes-names : (t : State) → t ≡ queued g (entry (g .distance k c) c k) (takes c k (g .distance k c) s) → (i : ℕ) → Dec (i ≡ c)
-        → (named t i ≡ named s i) ⊎ WaitsFor t i (named t i)
-    takes-names t q i (yes e) =
-        inr
-        (rw q
-        (record {
-          waiting-entry = entry (g .distance k c) c k;
-          waits = in-insert (g .goesFirst) (entry (g .distance k c) c k) (s .waiting);
+    takes-names : (i : ℕ) → Dec (i ≡ c) → (named between i ≡ named s i) ⊎ WaitsFor (queued g new between) i (named between i)
+    takes-names i (yes e) =
+        inr (record {
+          waiting-entry = new;
+          waits = in-insert (g .goesFirst) new (s .waiting);
           of-cell = sym e;
-          of-triangle = sym (takes-name g F (s .field) (s .names) k c (G .sound) kl cl N i e);
-        }))
-    takes-names t q i (no n) = inl (ap (λ (u : State). named u i) q ∙ takes-named g F (s .field) (s .names) k c (G .sound) kl cl N i n)
+          of-triangle = sym (T .name i e);
+        })
+    takes-names i (no n) = inl (T .other-names i n)
 
-    takes-offered : (t : State) → Queued g (entry (g .distance k c) c k) (takes c k (g .distance k c) s) t → Offered g k c s t
-    takes-offered t Q =
+    takes-new : (x : Entry) → (x ≡ new) ⊎ List·Memᴰ x (s .waiting) → List·Memᴰ x (s .waiting) ⊎ (named between (x .cell) ≡ x .triangle)
+    takes-new x (inl e) = inr (T .name (x .cell) (ap (λ (y : Entry). y .cell) e) ∙ sym (ap (λ (y : Entry). y .triangle) e))
+    takes-new x (inr m) = inl m
+
+    takes-after : (t : State) → Queued g new between t → AfterOffer g k c s t
+    takes-after t Q =
         rw (Q .is)
         (record {
-          good = good-queued g (entry (g .distance k c) c k) (takes c k (g .distance k c) s) takes-good new-waits new-differs (Q .room);
+          good = good-queued g new between between-good new-waits new-differs (Q .room);
           onward = record {
-            falls = takes-falls g F (s .field) (s .names) k c (G .sound) kl cl N;
-            keeps = λ x m. still-in (g .goesFirst) x (entry (g .distance k c) c k) (s .waiting) m;
-            names = λ i. takes-names (queued g (entry (g .distance k c) c k) (takes c k (g .distance k c) s)) refl i (ℕ-discrete i c);
+            falls = T .falls;
+            keeps = λ x m. still-in (g .goesFirst) x new (s .waiting) m;
+            names = λ i. takes-names i (ℕ-discrete i c);
             pops-same = refl;
           };
-          met = takes-met g F (s .field) (s .names) k c (G .sound) kl cl N;
+          met = T .met;
+          new = λ x m. takes-new x (from-insert (g .goesFirst) x new (s .waiting) m);
         })
 
-  pub offered : (t : State) → offer g (queue g) k c s ≡ goes t → Offered g k c s t
-  offered t h = go (offer-went g (queue g) k c s t h)
+  pub after-offer : (t : State) → offer g (queue g) k c s ≡ goes t → AfterOffer g k c s t
+  after-offer t h = go (offer-went g (queue g) k c s t h)
     where
-      go : Offer (queue g) k c (g .distance k c) s t → Offered g k c s t
-      go (passes n l e) = rw e (record { good = G; onward = onward-stays g s; met = passes-met g F (s .field) (s .names) k c (G .sound) cl n l })
-      go (takesIt n l w) = takes-offered (record { number = n; less = l }) t (queue-went g (entry (g .distance k c) c k) (takes c k (g .distance k c) s) t w)
+      go : Offer (queue g) k c (g .distance k c) s t → AfterOffer g k c s t
+      go (passes n l e) =
+          rw e
+          (record {
+            good = G;
+            onward = onward-stays g s;
+            met = passes-met g F (s .field) (s .names) k c (G .sound) cl n l;
+            new = λ x m. inl m;
+          })
+      go (takesIt n l w) = takes-after (record { number = n; less = l }) t (queue-went g new between t w)
