@@ -4,14 +4,15 @@ use mathlib.Core.Bool.{true, false}
 use mathlib.Core.List.{[], _∷_}
 use Prim.Native.Nat.{ℕ}
 use lib.Ieee.{binary32, eq, le, lt, sub, ofBits, toBits, round}
+use Rattle.float.specs.Case.{allHold}
 use Rattle.distances.specs.declared.Order.{Order}
 use Rattle.distances.specs.declared.Order.the-variants.{Less, Greater}
 use Rattle.distances.specs.Compare.{margin, alike, order}
-use Rattle.distances.specs.Cases.{rows}
+use Rattle.distances.specs.Cases.{compareCases}
 
-pub marked : rows ≡ true ∷ true ∷ []
-unfolding order alike eq le lt sub ofBits toBits
-marked = refl
+pub compare-cases : allHold compareCases ≡ true
+unfolding compareCases
+compare-cases = refl
 
 -- the margin is the binary32 nearest to 1 / 1,000,000
 pub margin-nearest : margin ≡ round binary32 false 1 1000000

@@ -1,9 +1,10 @@
--- "compare(+1, −1) is less; compare(−1, +1) is greater." (document 01, the marked cases): a test for each. Definitions only.
-use mathlib.Core.Bool.{Bool, true, false}
+-- "compare(+1, −1) is less; compare(−1, +1) is greater." (document 01, the marked cases). The rows of the comparison. Definitions only.
 use mathlib.Core.List.{List, [], _∷_}
-use lib.Ieee.{Float, binary32, ofBits}
+use Prim.Native.Nat.{ℕ}
+use lib.Ieee.{Float, binary32, eq, le, lt, sub, ofBits, toBits}
 use Rattle.float.specs.Arith.{f1}
-use Rattle.distances.specs.Compare.{order}
+use Rattle.float.specs.Case.{Case, _gives_}
+use Rattle.distances.specs.Compare.{alike, order}
 use Rattle.distances.specs.declared.Order.{Order}
 use Rattle.distances.specs.declared.Order.the-variants.{Less, Equal, Greater}
 
@@ -11,15 +12,12 @@ use Rattle.distances.specs.declared.Order.the-variants.{Less, Equal, Gre
 abbrev pub minusOne : Float
 minusOne = ofBits binary32 0xbf80_0000
 
-abbrev pub isLess : Order → Bool
-isLess Less = true
-isLess Equal = false
-isLess Greater = false
+-- less, equal and greater as numbers
+abbrev pub orderNumber : Order → ℕ
+orderNumber Less = 0
+orderNumber Equal = 1
+orderNumber Greater = 2
 
-abbrev pub isGreater : Order → Bool
-isGreater Less = false
-isGreater Equal = false
-isGreater Greater = true
-
-abbrev pub rows : List Bool
-rows = isLess (order f1 minusOne) ∷ isGreater (order minusOne f1) ∷ []
+unfoldable pub compareCases : List Case
+unfolding order alike eq le lt sub ofBits toBits
+compareCases = (orderNumber (order f1 minusOne) gives 0) ∷ (orderNumber (order minusOne f1) gives 2) ∷ []
