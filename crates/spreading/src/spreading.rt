@@ -177,7 +177,7 @@ fn pop(
     topology: Topology,
     given: Indices,
     indices: &[u32],
-    steps: &[u8],
+    steps: &[u16],
     field: &mut [f32],
     names: &mut [u32],
     distances: &mut [u32],
