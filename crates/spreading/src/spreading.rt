@@ -260,12 +260,12 @@ pub fn spread(
     ensures { λ r. ⌜ Told grid (meshOf (now (vertices .entry)) topology given (now (indices .entry))) (λ g. spreading g limit) (now (field .entry)) (now (names .entry)) (now (distances .entry)) (now (cells .entry)) (now (triangles .entry)) at (now (field .exit)) (now (names .exit)) (now (distances .exit)) (now (cells .exit)) (now (triangles .exit)) r ⌝ }
 {
     let steps = around::STEPS;
-    let mut reached = at;
-    while 0 < reached.waiting {
-        if reached.pops == limit {
-            return reached.refused(8);
+    let mut run = at;
+    while 0 < run.waiting {
+        if run.pops == limit {
+            return run.refused(8);
         }
-        reached = pop(
+        run = pop(
             grid,
             vertices,
             topology,
@@ -277,11 +277,11 @@ pub fn spread(
             distances,
             cells,
             triangles,
-            reached,
+            run,
         );
-        if reached.number != 0 {
-            return reached;
+        if run.number != 0 {
+            return run;
         }
     }
-    reached
+    run
 }

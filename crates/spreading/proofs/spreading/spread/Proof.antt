@@ -13,13 +13,13 @@ use Rattle.spreading.proofs.spreading.spread.Statement.{statement}
 use Rattle.spreading.proofs.spreading.spread.Tie as tie
 
 abbrev Inv-loop : tie.InvT-loop
-Inv-loop grid vertices topology given indices field₀ names₀ distances₀ cells₀ triangles₀ limit steps reached₀ field names distances cells triangles reached =
-    Spreads grid (meshOf vertices topology given indices) limit field₀ names₀ distances₀ cells₀ triangles₀ reached₀ field names distances cells triangles reached
+Inv-loop grid vertices topology given indices field₀ names₀ distances₀ cells₀ triangles₀ limit steps run₀ field names distances cells triangles run =
+    Spreads grid (meshOf vertices topology given indices) limit field₀ names₀ distances₀ cells₀ triangles₀ run₀ field names distances cells triangles run
     × (steps ≡ codes Steps.steps)
 
 abbrev μ-loop : tie.MeasureT-loop
-μ-loop grid vertices topology given indices field₀ names₀ distances₀ cells₀ triangles₀ limit steps reached₀ field names distances cells triangles reached =
-    limit - reached .pops
+μ-loop grid vertices topology given indices field₀ names₀ distances₀ cells₀ triangles₀ limit steps run₀ field names distances cells triangles run =
+    limit - run .pops
 
 loop-holds : tie.Need-loop-holds Inv-loop μ-loop
 loop-holds c = let s = c .before .before .before .before .before .before .before in (spread-begins (s .pre .1 .1 .0) (s .pre .1 .1 .1) (s .pre .1 .0), refl)
