@@ -5,3 +5,5 @@ mod Offers
 mod Counts
 mod Pops
 mod Steps
+-- what crates above cite
+pub mod Uses

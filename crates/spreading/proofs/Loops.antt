@@ -10,61 +10,10 @@ use Rattle.lists.specs.Turns.{Turn, goes, told, turns}
 use Rattle.lists.proofs.Turns.{told-goes, turns-none, turns-on, turns-stop}
 use Rattle.grid.specs.declared.Grid.{Grid}
 use Rattle.mesh.specs.Mesh.{Mesh}
-use Rattle.run.specs.Run.{State}
+use Rattle.run.specs.Run.{Ground, State}
+use Rattle.run.specs.Ground.{groundOf}
 use Rattle.spreading.specs.declared.Progress.{Progress}
 use Rattle.spreading.specs.Told.{orderIn, stateOf, Holds, Told}
-
--- The slices hold what k turns from the state s leave. `f room any` are the turns over a queue of that room.
-module _ (g : Grid) (m : Mesh) (f : ℕ → ℕ → ℕ → State → Turn State) where
-  pub record After (room : ℕ) (s : State) (k : ℕ) (field : List Float) (names ds cs ts : List ℕ) (r : Progress) : Type 0 where
-    pub fine : r .number ≡ 0
-    pub long : length ds ≡ room
-    pub holds : Holds g m field names ds cs ts (r .waiting)
-    pub is : (any : ℕ) → turns (f room any) k s ≡ goes (stateOf (orderIn m) field names ds cs ts r)
-
-module _ {g : Grid} {m : Mesh} (f : ℕ → ℕ → ℕ → State → Turn State) where
-  pub begins : {field : List Float} {names ds cs ts : List ℕ} {r : Progress} → r .number ≡ 0 → Holds g m field names ds cs ts (r .waiting)
-      → After g m f (length ds) (stateOf (orderIn m) field names ds cs ts r) 0 field names ds cs ts r
-  begins {field} {names} {ds} {cs} {ts} {r} z h =
-      record { fine = z; long = refl; holds = h; is = λ any. turns-none (f (length ds) any) (stateOf (orderIn m) field names ds cs ts r) }
-
-  module _ {room k : ℕ} {s : State} {field field′ : List Float} {names ds cs ts names′ ds′ cs′ ts′ : List ℕ} {r r′ : Progress} where
-    -- a turn, over the room of the loop
-    turn : After g m f room s k field names ds cs ts r
-        → Told g m (λ any. f (length ds) any k (stateOf (orderIn m) field names ds cs ts r)) field′ names′ ds′ cs′ ts′ r′
-        → (any : ℕ) → f room any k (stateOf (orderIn m) field names ds cs ts r) ≡ told (r′ .number) (stateOf (orderIn m) field′ names′ ds′ cs′ ts′ r′)
-    turn a t any =
-        subst (λ (n : ℕ). f n any k (stateOf (orderIn m) field names ds cs ts r) ≡ told (r′ .number) (stateOf (orderIn m) field′ names′ ds′ cs′ ts′ r′)) (a .long) (t .is any)
-
-    pub goes-on : After g m f room s k field names ds cs ts r
-        → Told g m (λ any. f (length ds) any k (stateOf (orderIn m) field names ds cs ts r)) field′ names′ ds′ cs′ ts′ r′
-        → length ds′ ≡ length ds → r′ .number ≡ 0 → After g m f room s (k + 1) field′ names′ ds′ cs′ ts′ r′
-    goes-on a t l z =
-        record {
-          fine = z;
-          long = l ∙ a .long;
-          holds = t .holds;
-          is = λ any. turns-on (f room any) k s (stateOf (orderIn m) field names ds cs ts r) (stateOf (orderIn m) field′ names′ ds′ cs′ ts′ r′) (r′ .number) (a .is any) (turn a t any) z;
-        }
-
-    pub stops : (end : ℕ) → After g m f room s k field names ds cs ts r
-        → Told g m (λ any. f (length ds) any k (stateOf (orderIn m) field names ds cs ts r)) field′ names′ ds′ cs′ ts′ r′
-        → (r′ .number ≡ 0 → ⊥) → k < end → Told g m (λ any. turns (f room any) end s) field′ names′ ds′ cs′ ts′ r′
-    stops end a t z l =
-        let u = stateOf (orderIn m) field′ names′ ds′ cs′ ts′ r′ in
-        record {
-          holds = t .holds;
-          is = λ any. turns-stop (f room any) k end s (stateOf (orderIn m) field names ds cs ts r) u u (r′ .number) (a .is any) (turn a t any) z l;
-        }
-
-  pub ends : {room k : ℕ} {s : State} {field : List Float} {names ds cs ts : List ℕ} {r : Progress} (end : ℕ) → After g m f room s k field names ds cs ts r → k ≡ end
-      → Told g m (λ any. turns (f room any) end s) field names ds cs ts r
-  ends {room} {k} {s} {field} {names} {ds} {cs} {ts} {r} end a e =
-      let u = stateOf (orderIn m) field names ds cs ts r in
-      record {
-        holds = a .holds;
-        is = λ any. subst (λ (n : ℕ). turns (f room any) n s ≡ goes u) e (a .is any) ∙ sym (told-goes (r .number) u (a .fine));
-      }
 
 -- ---- the lengths stay
 
@@ -85,6 +34,72 @@ alike l h h₀ =
       cells-same = h .held .even .cells ∙ l ∙ sym (h₀ .held .even .cells);
       triangles-same = h .held .even .triangles ∙ l ∙ sym (h₀ .held .even .triangles);
     }
+
+-- ---- what is told of a turn is told of another that is the same over every ground of a job
+
+pub told-as : {g : Grid} {m : Mesh} {f h : Ground → State → Turn State} {field field′ : List Float} {names ds cs ts names′ ds′ cs′ ts′ : List ℕ} {p r : Progress}
+    → ((room any : ℕ) (s : State) → h (groundOf g m room any) s ≡ f (groundOf g m room any) s)
+    → Told g m f field names ds cs ts p field′ names′ ds′ cs′ ts′ r → Told g m h field names ds cs ts p field′ names′ ds′ cs′ ts′ r
+told-as {m = m} {field = field} {names = names} {ds} {cs} {ts} {p = p} e t =
+    record { holds = t .holds; is = λ any. e (length ds) any (stateOf (orderIn m) field names ds cs ts p) ∙ t .is any }
+
+-- ---- a loop
+
+-- the slices, which held field₀ to ts₀ and r₀, hold what k turns by `f 0`, `f 1` .. leave
+module _ (g : Grid) (m : Mesh) (f : Ground → ℕ → State → Turn State) where
+  pub record After (field₀ : List Float) (names₀ ds₀ cs₀ ts₀ : List ℕ) (r₀ : Progress) (k : ℕ) (field : List Float) (names ds cs ts : List ℕ) (r : Progress) : Type 0 where
+    pub fine : r .number ≡ 0
+    pub long : length ds ≡ length ds₀
+    pub holds : Holds g m field names ds cs ts (r .waiting)
+    pub is : (any : ℕ) → turns (f (groundOf g m (length ds₀) any)) k (stateOf (orderIn m) field₀ names₀ ds₀ cs₀ ts₀ r₀) ≡ goes (stateOf (orderIn m) field names ds cs ts r)
+
+module _ {g : Grid} {m : Mesh} (f : Ground → ℕ → State → Turn State) where
+  pub begins : {field : List Float} {names ds cs ts : List ℕ} {r : Progress} → r .number ≡ 0 → Holds g m field names ds cs ts (r .waiting)
+      → After g m f field names ds cs ts r 0 field names ds cs ts r
+  begins {field} {names} {ds} {cs} {ts} {r} z h =
+      record { fine = z; long = refl; holds = h; is = λ any. turns-none (f (groundOf g m (length ds) any)) (stateOf (orderIn m) field names ds cs ts r) }
+
+  module _ {k : ℕ} {field₀ field field′ : List Float} {names₀ ds₀ cs₀ ts₀ names ds cs ts names′ ds′ cs′ ts′ : List ℕ} {r₀ r r′ : Progress} where
+    -- a turn, over the room of the loop
+    turn : After g m f field₀ names₀ ds₀ cs₀ ts₀ r₀ k field names ds cs ts r → Told g m (λ G. f G k) field names ds cs ts r field′ names′ ds′ cs′ ts′ r′
+        → (any : ℕ) → f (groundOf g m (length ds₀) any) k (stateOf (orderIn m) field names ds cs ts r) ≡ told (r′ .number) (stateOf (orderIn m) field′ names′ ds′ cs′ ts′ r′)
+    turn a t any =
+        subst (λ (n : ℕ). f (groundOf g m n any) k (stateOf (orderIn m) field names ds cs ts r) ≡ told (r′ .number) (stateOf (orderIn m) field′ names′ ds′ cs′ ts′ r′)) (a .long) (t .is any)
+
+    pub goes-on : After g m f field₀ names₀ ds₀ cs₀ ts₀ r₀ k field names ds cs ts r → Told g m (λ G. f G k) field names ds cs ts r field′ names′ ds′ cs′ ts′ r′
+        → length ds′ ≡ length ds → r′ .number ≡ 0 → After g m f field₀ names₀ ds₀ cs₀ ts₀ r₀ (k + 1) field′ names′ ds′ cs′ ts′ r′
+    goes-on a t l z =
+        record {
+          fine = z;
+          long = l ∙ a .long;
+          holds = t .holds;
+          is = λ any.
+              turns-on (f (groundOf g m (length ds₀) any)) k (stateOf (orderIn m) field₀ names₀ ds₀ cs₀ ts₀ r₀)
+              (stateOf (orderIn m) field names ds cs ts r) (stateOf (orderIn m) field′ names′ ds′ cs′ ts′ r′) (r′ .number) (a .is any) (turn a t any) z;
+        }
+
+    pub stops : (end : ℕ) → After g m f field₀ names₀ ds₀ cs₀ ts₀ r₀ k field names ds cs ts r → Told g m (λ G. f G k) field names ds cs ts r field′ names′ ds′ cs′ ts′ r′
+        → (r′ .number ≡ 0 → ⊥) → k < end → Told g m (λ G. turns (f G) end) field₀ names₀ ds₀ cs₀ ts₀ r₀ field′ names′ ds′ cs′ ts′ r′
+    stops end a t z l =
+        let u = stateOf (orderIn m) field′ names′ ds′ cs′ ts′ r′ in
+        record {
+          holds = t .holds;
+          is = λ any.
+              turns-stop (f (groundOf g m (length ds₀) any)) k end (stateOf (orderIn m) field₀ names₀ ds₀ cs₀ ts₀ r₀)
+              (stateOf (orderIn m) field names ds cs ts r) u u (r′ .number) (a .is any) (turn a t any) z l;
+        }
+
+  pub ends : {k : ℕ} {field₀ field : List Float} {names₀ ds₀ cs₀ ts₀ names ds cs ts : List ℕ} {r₀ r : Progress} (end : ℕ)
+      → After g m f field₀ names₀ ds₀ cs₀ ts₀ r₀ k field names ds cs ts r → k ≡ end
+      → Told g m (λ G. turns (f G) end) field₀ names₀ ds₀ cs₀ ts₀ r₀ field names ds cs ts r
+  ends {k} {field₀} {field} {names₀} {ds₀} {cs₀} {ts₀} {names} {ds} {cs} {ts} {r₀} {r} end a e =
+      let u = stateOf (orderIn m) field names ds cs ts r in
+      record {
+        holds = a .holds;
+        is = λ any.
+            subst (λ (n : ℕ). turns (f (groundOf g m (length ds₀) any)) n (stateOf (orderIn m) field₀ names₀ ds₀ cs₀ ts₀ r₀) ≡ goes u) e (a .is any)
+            ∙ sym (told-goes (r .number) u (a .fine));
+      }
 
 -- a loop over the cells is at its end
 pub at-end : (c n t : ℕ) → n ≡ t → c ≤ n → n ≤ c → c ≡ t

@@ -11,14 +11,15 @@ use lib.Ieee.Compare.{differs-from-itself}
 use borrow.Author.Tests.{eq-eqb, ne-eqb}
 use Rattle.float.specs.Arith.{_≺_, if_then_else_}
 use Rattle.float.specs.RootOf.{rootOf}
-use Rattle.lists.specs.Turns.{Turn, goes, refuses, told}
+use Rattle.lists.specs.Turns.{Turn, goes, refuses, told, turns}
 use Rattle.lists.proofs.Turns.{told-goes}
 use Rattle.grid.specs.declared.Grid.{Grid}
-use Rattle.grid.specs.Index.{total, cellAt}
-use Rattle.mesh.specs.Mesh.{Mesh, trianglesIn, cornersAt}
+use Rattle.grid.specs.Index.{total}
+use Rattle.mesh.specs.Mesh.{Mesh, trianglesIn}
 use Rattle.queue.specs.declared.Entry.{Entry}
-use Rattle.run.specs.Run.{State, Place, off, at, none, held, entry, takes, queue, offerAt, offer, spreadTo}
-use Rattle.run.specs.Ground.{groundOf, distanceFrom}
+use Rattle.run.specs.Run.{State, Place, off, at, none, held, entry, takes, queue, offerAt, offer, spreadTo, spreadAround}
+use Rattle.run.specs.Ground.{groundOf}
+use Rattle.run.specs.Steps.{aroundCell}
 use Rattle.spreading.specs.declared.Progress.{Progress}
 use Rattle.spreading.specs.Told.{refusedBy, orderIn, stateOf, Known, Holds, Told, Queued}
 use Rattle.spreading.specs.Around.{placeOf, Near}
@@ -67,7 +68,7 @@ module _ (also : Entry → State → Turn State) (k c : ℕ) (d : Float) (s : St
 
 module _ {g : Grid} {m : Mesh} {field : List Float} {names ds cs ts : List ℕ} (p : Progress) (k c : ℕ) (q : Float) where
   pub offered-nan : Holds g m field names ds cs ts (p .waiting) → isNan (rootOf q) ≡ isNan q → ne q q ≡ true
-      → Told g m (λ any. offerAt (queue (groundOf g m (length ds) any)) k c (rootOf q) (stateOf (orderIn m) field names ds cs ts p)) field names ds cs ts (refusedBy 6 p)
+      → Told g m (λ G. offerAt (queue G) k c (rootOf q)) field names ds cs ts p field names ds cs ts (refusedBy 6 p)
   unfolding told
   offered-nan h a t =
       record {
@@ -76,8 +77,7 @@ module _ {g : Grid} {m : Mesh} {field : List Float} {names ds cs ts : List ℕ} 
       }
 
   pub offered-passed : Holds g m field names ds cs ts (p .waiting) → p .number ≡ 0 → isNan (rootOf q) ≡ isNan q → ne q q ≡ false
-      → (rootOf q ≺ getD field c nan) ≡ false
-      → Told g m (λ any. offerAt (queue (groundOf g m (length ds) any)) k c (rootOf q) (stateOf (orderIn m) field names ds cs ts p)) field names ds cs ts p
+      → (rootOf q ≺ getD field c nan) ≡ false → Told g m (λ G. offerAt (queue G) k c (rootOf q)) field names ds cs ts p field names ds cs ts p
   offered-passed h z a t l =
       let s = stateOf (orderIn m) field names ds cs ts p in
       record {
@@ -87,8 +87,8 @@ module _ {g : Grid} {m : Mesh} {field : List Float} {names ds cs ts : List ℕ} 
 
   pub offered-taken : {d : Float} {ds′ cs′ ts′ : List ℕ} {r : Progress} → Holds g m field names ds cs ts (p .waiting) → c < total g → k < length (trianglesIn m)
       → isNan (rootOf q) ≡ isNan q → ne q q ≡ false → d ≡ rootOf q → (d ≺ getD field c nan) ≡ true
-      → Queued (orderIn m) (entry d c k) ds cs ts ds′ cs′ ts′ p r
-      → Told g m (λ any. offerAt (queue (groundOf g m (length ds) any)) k c (rootOf q) (stateOf (orderIn m) field names ds cs ts p)) (set field c d) (set names c k) ds′ cs′ ts′ r
+      → Queued (orderIn m) (entry d c k) ds cs ts p ds′ cs′ ts′ r
+      → Told g m (λ G. offerAt (queue G) k c (rootOf q)) field names ds cs ts p (set field c d) (set names c k) ds′ cs′ ts′ r
   unfolding groundOf
   offered-taken {d} h b l a t e w j =
       let s = stateOf (orderIn m) field names ds cs ts p in
@@ -108,10 +108,10 @@ place-off n e = ap (λ (t : Bool). if t then off else at n) (eq-eqb n none e)
 place-at : (n : ℕ) → (n ≡ none → ⊥) → placeOf n ≡ at n
 place-at n e = ap (λ (t : Bool). if t then off else at n) (ne-eqb n none e)
 
-pub step-off : {g : Grid} {m : Mesh} {field : List Float} {names ds cs ts : List ℕ} {to : ℕ} (p : Progress) (e : Entry) → Holds g m field names ds cs ts (p .waiting) → p .number ≡ 0 → to ≡ none
-    → Told g m (λ any. spreadTo (groundOf g m (length ds) any) e (placeOf to) (stateOf (orderIn m) field names ds cs ts p)) field names ds cs ts p
+pub step-off : {g : Grid} {m : Mesh} {field : List Float} {names ds cs ts : List ℕ} {to : ℕ} {p : Progress} (e : Entry) → Holds g m field names ds cs ts (p .waiting) → p .number ≡ 0
+    → to ≡ none → Told g m (λ G. spreadTo G e (placeOf to)) field names ds cs ts p field names ds cs ts p
 unfolding spreadTo
-step-off {g} {m} {field} {names} {ds} {cs} {ts} {to} p e h z n =
+step-off {g} {m} {field} {names} {ds} {cs} {ts} {to} {p} e h z n =
     let s = stateOf (orderIn m) field names ds cs ts p in
     record {
       holds = h;
@@ -122,28 +122,33 @@ step-off {g} {m} {field} {names} {ds} {cs} {ts} {to} p e h z n =
 pub step-below : {g : Grid} {m : Mesh} {k to : ℕ} {q : Float} → Near g m k to q → (to ≡ none → ⊥) → to < total g
 step-below {to = to} n z = n .below to (place-at to z)
 
-pub step-at : {g : Grid} {m : Mesh} {to : ℕ} {q : Float} {field′ : List Float} {names′ ds′ cs′ ts′ : List ℕ} {r : Progress}
-    (field : List Float) (names ds cs ts : List ℕ) (p : Progress) (e : Entry) → Near g m (e .triangle) to q → (to ≡ none → ⊥)
-    → Told g m (λ any. offerAt (queue (groundOf g m (length ds) any)) (e .triangle) to (rootOf q) (stateOf (orderIn m) field names ds cs ts p)) field′ names′ ds′ cs′ ts′ r
-    → Told g m (λ any. spreadTo (groundOf g m (length ds) any) e (placeOf to) (stateOf (orderIn m) field names ds cs ts p)) field′ names′ ds′ cs′ ts′ r
-unfolding spreadTo offer groundOf
-step-at {g} {m} {to} field names ds cs ts p e n z t =
-    let s = stateOf (orderIn m) field names ds cs ts p in
-    record {
-      holds = t .holds;
-      is = λ any.
-          ap (λ (l : Place). spreadTo (groundOf g m (length ds) any) e l s) (place-at to z)
-          ∙ ap (λ (v : Float). offerAt (queue (groundOf g m (length ds) any)) (e .triangle) to v s) (sym (n .root to (place-at to z)))
-          ∙ t .is any;
-    }
+module _ {g : Grid} {m : Mesh} {field field′ : List Float} {names ds cs ts names′ ds′ cs′ ts′ : List ℕ} {p r : Progress} (e : Entry) where
+  pub step-at : {to : ℕ} {q : Float} → Near g m (e .triangle) to q → (to ≡ none → ⊥)
+      → Told g m (λ G. offerAt (queue G) (e .triangle) to (rootOf q)) field names ds cs ts p field′ names′ ds′ cs′ ts′ r
+      → Told g m (λ G. spreadTo G e (placeOf to)) field names ds cs ts p field′ names′ ds′ cs′ ts′ r
+  unfolding spreadTo offer groundOf
+  step-at {to} n z t =
+      let s = stateOf (orderIn m) field names ds cs ts p in
+      record {
+        holds = t .holds;
+        is = λ any.
+            ap (λ (l : Place). spreadTo (groundOf g m (length ds) any) e l s) (place-at to z)
+            ∙ ap (λ (v : Float). offerAt (queue (groundOf g m (length ds) any)) (e .triangle) to v s) (sym (n .root to (place-at to z)))
+            ∙ t .is any;
+      }
 
--- the place is where step j leads
-pub step-around : {g : Grid} {m : Mesh} {field′ : List Float} {names′ ds′ cs′ ts′ : List ℕ} {r : Progress} {p q : Place}
-    (e : Entry) (field : List Float) (names ds cs ts : List ℕ) (r₀ : Progress) → p ≡ q
-    → Told g m (λ any. spreadTo (groundOf g m (length ds) any) e p (stateOf (orderIn m) field names ds cs ts r₀)) field′ names′ ds′ cs′ ts′ r
-    → Told g m (λ any. spreadTo (groundOf g m (length ds) any) e q (stateOf (orderIn m) field names ds cs ts r₀)) field′ names′ ds′ cs′ ts′ r
-step-around {g} {m} e field names ds cs ts r₀ w t =
-    record {
-      holds = t .holds;
-      is = λ any. ap (λ (l : Place). spreadTo (groundOf g m (length ds) any) e l (stateOf (orderIn m) field names ds cs ts r₀)) (sym w) ∙ t .is any;
-    }
+  -- the place is another's
+  pub step-around : {l l′ : Place} → l ≡ l′ → Told g m (λ G. spreadTo G e l) field names ds cs ts p field′ names′ ds′ cs′ ts′ r
+      → Told g m (λ G. spreadTo G e l′) field names ds cs ts p field′ names′ ds′ cs′ ts′ r
+  step-around w t =
+      record {
+        holds = t .holds;
+        is = λ any. ap (λ (l : Place). spreadTo (groundOf g m (length ds) any) e l (stateOf (orderIn m) field names ds cs ts p)) (sym w) ∙ t .is any;
+      }
+
+-- ---- all steps
+
+pub all-steps : (g : Grid) (m : Mesh) (e : Entry) (room any : ℕ) (s : State)
+    → spreadAround (groundOf g m room any) e s ≡ turns (λ j. spreadTo (groundOf g m room any) e (aroundCell g (e .cell) j)) 27 s
+unfolding spreadAround groundOf
+all-steps g m e room any s = refl

@@ -44,23 +44,23 @@ module _ {g : Grid} {m : Mesh} {field : List Float} {names ds cs ts ds₁ cs₁ 
         known = λ x i. h .known x (subst (List·Memᴰ x) (sym (t .waits)) (List·Memᴰ·tail i));
       }
 
-module _ {g : Grid} {m : Mesh} {field′ : List Float} {ds cs ts ds₁ cs₁ ts₁ names′ ds′ cs′ ts′ : List ℕ} {r : Progress} {e : Entry} (field : List Float) (names : List ℕ) (at : Progress) where
-  -- an entry is taken, and then spreads
-  pub popped : Taken (orderIn m) e ds cs ts ds₁ cs₁ ts₁ (at .waiting) → length ds₁ ≡ length ds
-      → Told g m (λ any. spreadAround (groundOf g m (length ds₁) any) e (stateOf (orderIn m) field names ds₁ cs₁ ts₁ (record { number = 0; waiting = at .waiting - 1; pops = at .pops + 1; peak = at .peak }))) field′ names′ ds′ cs′ ts′ r
-      → Told g m (λ any. takeFirst (groundOf g m (length ds) any) goes (waiting (orderIn m) ds cs ts (at .waiting)) (stateOf (orderIn m) field names ds cs ts at)) field′ names′ ds′ cs′ ts′ r
-  unfolding takeFirst
-  popped t l o =
-      let s = stateOf (orderIn m) field names ds cs ts at in
-      let w = waiting (orderIn m) ds₁ cs₁ ts₁ (at .waiting - 1) in
-      record {
-        holds = o .holds;
-        is = λ any.
-            ap (λ (v : List Entry). takeFirst (groundOf g m (length ds) any) goes v s) (t .waits)
-            ∙ then-all (spreadAround (groundOf g m (length ds) any) e (taken w s))
-            ∙ ap (λ (k : ℕ). spreadAround (groundOf g m k any) e (taken w s)) (sym l)
-            ∙ o .is any;
-      }
+-- an entry is taken, and then spreads
+pub popped : {g : Grid} {m : Mesh} {field field′ : List Float} {names ds cs ts ds₁ cs₁ ts₁ names′ ds′ cs′ ts′ : List ℕ} {r : Progress} {e : Entry} (at : Progress)
+    → Taken (orderIn m) e ds cs ts ds₁ cs₁ ts₁ (at .waiting) → length ds₁ ≡ length ds
+    → Told g m (λ G. spreadAround G e) field names ds₁ cs₁ ts₁ (record { number = 0; waiting = at .waiting - 1; pops = at .pops + 1; peak = at .peak }) field′ names′ ds′ cs′ ts′ r
+    → Told g m (λ G s. takeFirst G goes (s .waiting) s) field names ds cs ts at field′ names′ ds′ cs′ ts′ r
+unfolding takeFirst
+popped {g} {m} {field} {names = names} {ds} {cs} {ts} {ds₁} {cs₁} {ts₁} {e = e} at t l o =
+    let s = stateOf (orderIn m) field names ds cs ts at in
+    let w = waiting (orderIn m) ds₁ cs₁ ts₁ (at .waiting - 1) in
+    record {
+      holds = o .holds;
+      is = λ any.
+          ap (λ (v : List Entry). takeFirst (groundOf g m (length ds) any) goes v s) (t .waits)
+          ∙ then-all (spreadAround (groundOf g m (length ds) any) e (taken w s))
+          ∙ ap (λ (k : ℕ). spreadAround (groundOf g m k any) e (taken w s)) (sym l)
+          ∙ o .is any;
+    }
 
 -- ---- the loop of pops
 
@@ -81,35 +81,37 @@ unfolding spreading mayStop takeFirst
 none-left g zero s h = ap (λ (w : List Entry). mayStop w s) h
 none-left g (suc left) s h = ap (λ (w : List Entry). takeFirst g (spreading g left) w s) h
 
--- The slices hold a state after some pops, and what is left to spread comes to `whole`. `any` is the ground's limit, `limit` the
--- caller's.
-module _ (g : Grid) (m : Mesh) where
-  pub record Spreads (room limit : ℕ) (whole : ℕ → Turn State) (field : List Float) (names ds cs ts : List ℕ) (r : Progress) : Type 0 where
+-- The slices, which held field₀ to ts₀ and r₀, hold a state after some pops, and what is left to spread comes to all of it. `any` is
+-- the ground's limit, `limit` the caller's.
+module _ (g : Grid) (m : Mesh) (limit : ℕ) where
+  pub record Spreads (field₀ : List Float) (names₀ ds₀ cs₀ ts₀ : List ℕ) (r₀ : Progress) (field : List Float) (names ds cs ts : List ℕ) (r : Progress) : Type 0 where
     pub fine : r .number ≡ 0
-    pub long : length ds ≡ room
+    pub long : length ds ≡ length ds₀
     pub within : r .pops ≤ limit
     pub holds : Holds g m field names ds cs ts (r .waiting)
-    pub is : (any : ℕ) → spreading (groundOf g m room any) (limit - r .pops) (stateOf (orderIn m) field names ds cs ts r) ≡ whole any
+    pub is : (any : ℕ)
+        → spreading (groundOf g m (length ds₀) any) (limit - r .pops) (stateOf (orderIn m) field names ds cs ts r)
+        ≡ spreading (groundOf g m (length ds₀) any) limit (stateOf (orderIn m) field₀ names₀ ds₀ cs₀ ts₀ r₀)
 
-module _ {g : Grid} {m : Mesh} {limit : ℕ} {field : List Float} {names ds cs ts : List ℕ} {r : Progress} where
-  -- no pops, at first
-  pub spread-begins : r .number ≡ 0 → r .pops ≡ 0 → Holds g m field names ds cs ts (r .waiting)
-      → Spreads g m (length ds) limit (λ any. spreading (groundOf g m (length ds) any) limit (stateOf (orderIn m) field names ds cs ts r)) field names ds cs ts r
-  spread-begins z p h =
-      record {
-        fine = z;
-        long = refl;
-        within = omega arith;
-        holds = h;
-        is = λ any. ap (λ (k : ℕ). spreading (groundOf g m (length ds) any) k (stateOf (orderIn m) field names ds cs ts r)) all;
-      }
-    where
-      all : limit - r .pops ≡ limit
-      all = omega (arith, p)
+-- no pops, at first
+pub spread-begins : {g : Grid} {m : Mesh} {limit : ℕ} {field : List Float} {names ds cs ts : List ℕ} {r : Progress} → r .number ≡ 0 → r .pops ≡ 0
+    → Holds g m field names ds cs ts (r .waiting) → Spreads g m limit field names ds cs ts r field names ds cs ts r
+spread-begins {g} {m} {limit} {field} {names} {ds} {cs} {ts} {r} z p h =
+    record {
+      fine = z;
+      long = refl;
+      within = omega arith;
+      holds = h;
+      is = λ any. ap (λ (k : ℕ). spreading (groundOf g m (length ds) any) k (stateOf (orderIn m) field names ds cs ts r)) all;
+    }
+  where
+    all : limit - r .pops ≡ limit
+    all = omega (arith, p)
 
-module _ {g : Grid} {m : Mesh} {room limit : ℕ} {whole : ℕ → Turn State} {field : List Float} {names ds cs ts : List ℕ} {r : Progress} where
+module _ {g : Grid} {m : Mesh} {limit : ℕ} {field₀ field : List Float} {names₀ ds₀ cs₀ ts₀ names ds cs ts : List ℕ} {r₀ r : Progress} where
   -- nothing waits
-  pub spread-ends : Spreads g m room limit whole field names ds cs ts r → r .waiting ≤ 0 → Told g m whole field names ds cs ts r
+  pub spread-ends : Spreads g m limit field₀ names₀ ds₀ cs₀ ts₀ r₀ field names ds cs ts r → r .waiting ≤ 0
+      → Told g m (λ G. spreading G limit) field₀ names₀ ds₀ cs₀ ts₀ r₀ field names ds cs ts r
   spread-ends a z =
       let s = stateOf (orderIn m) field names ds cs ts r in
       let n : r .waiting ≡ 0 = omega arith in
@@ -117,37 +119,44 @@ module _ {g : Grid} {m : Mesh} {room limit : ℕ} {whole : ℕ → Turn State} {
         holds = a .holds;
         is = λ any.
             sym (a .is any)
-            ∙ none-left (groundOf g m room any) (limit - r .pops) s (ap (waiting (orderIn m) ds cs ts) n ∙ none-waits (orderIn m) ds cs ts)
+            ∙ none-left (groundOf g m (length ds₀) any) (limit - r .pops) s (ap (waiting (orderIn m) ds cs ts) n ∙ none-waits (orderIn m) ds cs ts)
             ∙ sym (told-goes (r .number) s (a .fine));
       }
 
   -- some wait
-  some : Spreads g m room limit whole field names ds cs ts r → 0 < r .waiting → 0 < length (waiting (orderIn m) ds cs ts (r .waiting))
+  some : Spreads g m limit field₀ names₀ ds₀ cs₀ ts₀ r₀ field names ds cs ts r → 0 < r .waiting → 0 < length (waiting (orderIn m) ds cs ts (r .waiting))
   some a l = subst (λ (k : ℕ). 0 < k) (sym (how-many ds cs ts (r .waiting) (a .holds .held))) l
 
   -- the pops are spent
-  pub spread-spent : Spreads g m room limit whole field names ds cs ts r → 0 < r .waiting → r .pops ≡ limit → Told g m whole field names ds cs ts (refusedBy 8 r)
+  pub spread-spent : Spreads g m limit field₀ names₀ ds₀ cs₀ ts₀ r₀ field names ds cs ts r → 0 < r .waiting → r .pops ≡ limit
+      → Told g m (λ G. spreading G limit) field₀ names₀ ds₀ cs₀ ts₀ r₀ field names ds cs ts (refusedBy 8 r)
   unfolding spreading told
   spread-spent a l e =
       let s = stateOf (orderIn m) field names ds cs ts r in
       let n : limit - r .pops ≡ 0 = omega arith in
       record {
         holds = a .holds;
-        is = λ any.
-            sym (a .is any)
-            ∙ ap (λ (k : ℕ). spreading (groundOf g m room any) k s) n
-            ∙ must-stop (s .waiting) s (some a l);
+        is = λ any. sym (a .is any) ∙ ap (λ (k : ℕ). spreading (groundOf g m (length ds₀) any) k s) n ∙ must-stop (s .waiting) s (some a l);
       }
 
-  module _ {field′ : List Float} {names′ ds′ cs′ ts′ : List ℕ} {r′ : Progress} where
-    -- one pop more, over the room of the loop
-    one : Spreads g m room limit whole field names ds cs ts r → 0 < r .waiting → r .pops < limit
-        → Told g m (λ any. takeFirst (groundOf g m (length ds) any) goes (waiting (orderIn m) ds cs ts (r .waiting)) (stateOf (orderIn m) field names ds cs ts r)) field′ names′ ds′ cs′ ts′ r′
-        → (any : ℕ) → whole any ≡ andThen (told (r′ .number) (stateOf (orderIn m) field′ names′ ds′ cs′ ts′ r′)) (spreading (groundOf g m room any) (limit - (r .pops + 1)))
-    unfolding spreading
-    one a l b t any =
+  module _ {field′ : List Float} {names′ ds′ cs′ ts′ : List ℕ} {r′ : Progress}
+      (a : Spreads g m limit field₀ names₀ ds₀ cs₀ ts₀ r₀ field names ds cs ts r) (l : 0 < r .waiting)
+      (t : Told g m (λ G s. takeFirst G goes (s .waiting) s) field names ds cs ts r field′ names′ ds′ cs′ ts′ r′) where
+    -- it is one pop
+    pub counted : r′ .number ≡ 0 → r′ .pops ≡ r .pops + 1
+    counted z =
         let s = stateOf (orderIn m) field names ds cs ts r in
-        let G = groundOf g m room any in
+        let s′ = stateOf (orderIn m) field′ names′ ds′ cs′ ts′ r′ in
+        pop-counts (groundOf g m (length ds) 0) (s .waiting) s (some a l) s′ (t .is 0 ∙ told-goes (r′ .number) s′ z)
+
+    -- one pop, and then the others
+    one : (any : ℕ) → r .pops < limit
+        → spreading (groundOf g m (length ds₀) any) limit (stateOf (orderIn m) field₀ names₀ ds₀ cs₀ ts₀ r₀)
+        ≡ andThen (told (r′ .number) (stateOf (orderIn m) field′ names′ ds′ cs′ ts′ r′)) (spreading (groundOf g m (length ds₀) any) (limit - (r .pops + 1)))
+    unfolding spreading
+    one any b =
+        let s = stateOf (orderIn m) field names ds cs ts r in
+        let G = groundOf g m (length ds₀) any in
         let left : limit - r .pops ≡ suc (limit - (r .pops + 1)) = omega arith in
         sym (a .is any)
         ∙ ap (λ (k : ℕ). spreading G k s) left
@@ -155,41 +164,27 @@ module _ {g : Grid} {m : Mesh} {room limit : ℕ} {whole : ℕ → Turn State} {
         ∙ ap (λ (k : ℕ). andThen (takeFirst (groundOf g m k any) goes (s .waiting) s) (spreading G (limit - (r .pops + 1)))) (sym (a .long))
         ∙ ap (λ o. andThen o (spreading G (limit - (r .pops + 1)))) (t .is any)
 
-    -- it is one pop
-    pub counted : Spreads g m room limit whole field names ds cs ts r → 0 < r .waiting
-        → Told g m (λ any. takeFirst (groundOf g m (length ds) any) goes (waiting (orderIn m) ds cs ts (r .waiting)) (stateOf (orderIn m) field names ds cs ts r)) field′ names′ ds′ cs′ ts′ r′
-        → r′ .number ≡ 0 → r′ .pops ≡ r .pops + 1
-    counted a l t z =
-        let s = stateOf (orderIn m) field names ds cs ts r in
+    pub spread-on : r .pops < limit → length ds′ ≡ length ds → r′ .number ≡ 0 → Spreads g m limit field₀ names₀ ds₀ cs₀ ts₀ r₀ field′ names′ ds′ cs′ ts′ r′
+    spread-on b k z =
         let s′ = stateOf (orderIn m) field′ names′ ds′ cs′ ts′ r′ in
-        pop-counts (groundOf g m (length ds) 0) (s .waiting) s (some a l) s′ (t .is 0 ∙ told-goes (r′ .number) s′ z)
-
-    pub spread-on : Spreads g m room limit whole field names ds cs ts r → 0 < r .waiting → r .pops < limit
-        → Told g m (λ any. takeFirst (groundOf g m (length ds) any) goes (waiting (orderIn m) ds cs ts (r .waiting)) (stateOf (orderIn m) field names ds cs ts r)) field′ names′ ds′ cs′ ts′ r′
-        → length ds′ ≡ length ds → r′ .number ≡ 0
-        → Spreads g m room limit whole field′ names′ ds′ cs′ ts′ r′
-    spread-on a l b t k z =
-        let s′ = stateOf (orderIn m) field′ names′ ds′ cs′ ts′ r′ in
-        let p : r′ .pops ≡ r .pops + 1 = counted a l t z in
+        let p : r′ .pops ≡ r .pops + 1 = counted z in
         record {
           fine = z;
           long = k ∙ a .long;
           within = omega arith;
           holds = t .holds;
           is = λ any.
-              ap (λ (j : ℕ). spreading (groundOf g m room any) (limit - j) s′) p
-              ∙ sym (one a l b t any ∙ then-goes (spreading (groundOf g m room any) (limit - (r .pops + 1))) (told-goes (r′ .number) s′ z));
+              ap (λ (j : ℕ). spreading (groundOf g m (length ds₀) any) (limit - j) s′) p
+              ∙ sym (one any b ∙ then-goes (spreading (groundOf g m (length ds₀) any) (limit - (r .pops + 1))) (told-goes (r′ .number) s′ z));
         }
 
-    pub spread-stops : Spreads g m room limit whole field names ds cs ts r → 0 < r .waiting → r .pops < limit
-        → Told g m (λ any. takeFirst (groundOf g m (length ds) any) goes (waiting (orderIn m) ds cs ts (r .waiting)) (stateOf (orderIn m) field names ds cs ts r)) field′ names′ ds′ cs′ ts′ r′
-        → (r′ .number ≡ 0 → ⊥) → Told g m whole field′ names′ ds′ cs′ ts′ r′
-    spread-stops a l b t z =
+    pub spread-stops : r .pops < limit → (r′ .number ≡ 0 → ⊥) → Told g m (λ G. spreading G limit) field₀ names₀ ds₀ cs₀ ts₀ r₀ field′ names′ ds′ cs′ ts′ r′
+    spread-stops b z =
         let s′ = stateOf (orderIn m) field′ names′ ds′ cs′ ts′ r′ in
         record {
           holds = t .holds;
           is = λ any.
-              one a l b t any
-              ∙ then-refuses (spreading (groundOf g m room any) (limit - (r .pops + 1))) (told-refuses (r′ .number) s′ z)
+              one any b
+              ∙ then-refuses (spreading (groundOf g m (length ds₀) any) (limit - (r .pops + 1))) (told-refuses (r′ .number) s′ z)
               ∙ sym (told-refuses (r′ .number) s′ z);
         }

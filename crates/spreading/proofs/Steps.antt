@@ -42,34 +42,49 @@ use Rattle.spreading.specs.Around.{codeOf, shiftOf, stepOf, codes, place
 
 -- ---- the table's rule
 
-shift-code : (s : Shift) → shiftOf (codeOf s) ≡ s
-shift-code back = refl
-shift-code stay = refl
-shift-code ahead = refl
+-- a step in numbers, and back
+step-code : (s : Step) → stepOf (codeOf s) ≡ s
+step-code s = go (s .x) (s .y) (s .z)
+  where
+    go : (x y z : Shift) → stepOf (codeOf (record { x = x; y = y; z = z })) ≡ record { x = x; y = y; z = z }
+    go back back back = refl
+    go back back stay = refl
+    go back back ahead = refl
+    go back stay back = refl
+    go back stay stay = refl
+    go back stay ahead = refl
+    go back ahead back = refl
+    go back ahead stay = refl
+    go back ahead ahead = refl
+    go stay back back = refl
+    go stay back stay = refl
+    go stay back ahead = refl
+    go stay stay back = refl
+    go stay stay stay = refl
+    go stay stay ahead = refl
+    go stay ahead back = refl
+    go stay ahead stay = refl
+    go stay ahead ahead = refl
+    go ahead back back = refl
+    go ahead back stay = refl
+    go ahead back ahead = refl
+    go ahead stay back = refl
+    go ahead stay stay = refl
+    go ahead stay ahead = refl
+    go ahead ahead back = refl
+    go ahead ahead stay = refl
+    go ahead ahead ahead = refl
 
--- three numbers of a table, from 3 * j on, are the step
-abbrev pub readAt : List ℕ → ℕ → Step
-readAt l j = stepOf (getD l (3 * j) 0) (getD l (3 * j + 1) 0) (getD l (3 * j + 2) 0)
-
-read-next : (a b c : ℕ) (l : List ℕ) (j : ℕ) → readAt (a ∷ b ∷ c ∷ l) (suc j) ≡ readAt l j
-read-next a b c l j =
-    let x : 3 * suc j ≡ suc (suc (suc (3 * j))) = omega arith in
-    let y : 3 * suc j + 1 ≡ suc (suc (suc (3 * j + 1))) = omega arith in
-    let z : 3 * suc j + 2 ≡ suc (suc (suc (3 * j + 2))) = omega arith in
-    let q = a ∷ b ∷ c ∷ l in
-    λ i. stepOf (getD q (x i) 0) (getD q (y i) 0) (getD q (z i) 0)
-
-pub read-codes : (l : List Step) (d : Step) (j : ℕ) → j < length l → readAt (codes l) j ≡ getD l j d
+read-codes : (l : List Step) (d : Step) (j : ℕ) → j < length l → stepOf (getD (codes l) j 0) ≡ getD l j d
 read-codes [] d j h = absurd (not-suc-le-zero h)
-read-codes (s ∷ l) d zero h = λ i. record { x = shift-code (s .x) i; y = shift-code (s .y) i; z = shift-code (s .z) i }
-read-codes (s ∷ l) d (suc j) h =
-    read-next (codeOf (s .x)) (codeOf (s .y)) (codeOf (s .z)) (codes l) j ∙ read-codes l d j (le-of-suc-le-suc h)
+read-codes (s ∷ l) d zero h = step-code s
+read-codes (s ∷ l) d (suc j) h = read-codes l d j (le-of-suc-le-suc h)
 
 -- of the table as it is lent
-pub table-step : (t : List ℕ) (j : ℕ) → t ≡ codes steps → j < 27 → readAt t j ≡ stepAt j
-table-step t j e h = ap (λ (l : List ℕ). readAt l j) e ∙ read-codes steps (record { x = stay; y = stay; z = stay }) j h
+pub table-step : (t : List ℕ) (j : ℕ) → t ≡ codes steps → j < 27 → stepOf (getD t j 0) ≡ stepAt j
+table-step t j e h = ap (λ (l : List ℕ). stepOf (getD l j 0)) e ∙ read-codes steps (record { x = stay; y = stay; z = stay }) j h
 
-pub table-long : (t : List ℕ) → t ≡ codes steps → length t ≡ 81
+pub table-long : (t : List ℕ) → t ≡ codes steps → length t ≡ 27
 table-long t e = ap length e
 
 -- a number that is neither 0 nor 1

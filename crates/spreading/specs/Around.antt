@@ -1,9 +1,9 @@
 -- "offered to the cells around, itself included, by a fixed table of 27 steps" (document 01, "The run", 3): the table in numbers, where
 -- its steps lead, and the squared distances there. Definitions only.
-use Prim.Native.Nat.{ℕ, zero, suc, _<_}
+use Prim.Native.Nat.{ℕ, zero, suc, _+_, _*_, _/_, _%_, _<_}
 use mathlib.Core.Path.{_≡_}
 use mathlib.Core.Bool.{Bool}
-use mathlib.Core.List.{List, [], _∷_}
+use mathlib.Core.List.{List, map}
 use lib.Dec.{eqb}
 use lib.ListN.{length, getD}
 use lib.Ieee.{Float, nan, isNan}
@@ -22,25 +22,28 @@ use Rattle.run.specs.Ground.{distanceFrom}
 use Rattle.run.specs.Steps.{Shift, back, stay, ahead, Step, shiftOn, stepAt, shifted, staysOn, aroundCell}
 use Rattle.spreading.specs.declared.around.Spot.{Spot}
 
--- ---- the table in numbers: 0, 1 and 2 for −1, 0 and 1
+-- ---- the table in numbers: a hexadecimal digit for each of x, y and z, with 0, 1 and 2 for −1, 0 and 1
 
-abbrev pub codeOf : Shift → ℕ
-codeOf back = 0
-codeOf stay = 1
-codeOf ahead = 2
+abbrev pub digitOf : Shift → ℕ
+digitOf back = 0
+digitOf stay = 1
+digitOf ahead = 2
 
+abbrev pub codeOf : Step → ℕ
+codeOf s = digitOf (s .x) * 256 + digitOf (s .y) * 16 + digitOf (s .z)
+
+-- the steps in numbers
+abbrev pub codes : List Step → List ℕ
+codes l = map codeOf l
+
+-- and back
 abbrev pub shiftOf : ℕ → Shift
 shiftOf zero = back
 shiftOf (suc zero) = stay
 shiftOf (suc (suc n)) = ahead
 
-abbrev pub stepOf : ℕ → ℕ → ℕ → Step
-stepOf x y z = record { x = shiftOf x; y = shiftOf y; z = shiftOf z }
-
--- x, y and z of each step in turn
-abbrev pub codes : List Step → List ℕ
-codes [] = []
-codes (s ∷ l) = codeOf (s .x) ∷ codeOf (s .y) ∷ codeOf (s .z) ∷ codes l
+abbrev pub stepOf : ℕ → Step
+stepOf n = record { x = shiftOf (n / 256); y = shiftOf (n / 16 % 16); z = shiftOf (n % 16) }
 
 -- ---- where the steps lead
 

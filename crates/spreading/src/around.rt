@@ -16,89 +16,35 @@ ghost use Rattle.run.specs.Steps as Steps;
 ghost use Rattle.spreading.specs.Around.{shiftOf, codes, stepOf, spotOf, Gathered, Around};
 ghost use Rattle.spreading.specs.Told.{Ready, Known};
 
-// The table: x, y and z of each step in turn, with 0, 1 and 2 for -1, 0 and 1.
-pub const STEPS: [u8; 81] = [
-    0,
-    0,
-    0,
-    0,
-    0,
-    1,
-    0,
-    0,
-    2,
-    0,
-    1,
-    0,
-    0,
-    1,
-    1,
-    0,
-    1,
-    2,
-    0,
-    2,
-    0,
-    0,
-    2,
-    1,
-    0,
-    2,
-    2,
-    1,
-    0,
-    0,
-    1,
-    0,
-    1,
-    1,
-    0,
-    2,
-    1,
-    1,
-    0,
-    1,
-    1,
-    1,
-    1,
-    1,
-    2,
-    1,
-    2,
-    0,
-    1,
-    2,
-    1,
-    1,
-    2,
-    2,
-    2,
-    0,
-    0,
-    2,
-    0,
-    1,
-    2,
-    0,
-    2,
-    2,
-    1,
-    0,
-    2,
-    1,
-    1,
-    2,
-    1,
-    2,
-    2,
-    2,
-    0,
-    2,
-    2,
-    1,
-    2,
-    2,
-    2,
+// The table of steps: a hexadecimal digit for each of x, y and z, with 0, 1 and 2 for -1, 0 and 1.
+pub const STEPS: [u16; 27] = [
+    0x000,
+    0x001,
+    0x002,
+    0x010,
+    0x011,
+    0x012,
+    0x020,
+    0x021,
+    0x022,
+    0x100,
+    0x101,
+    0x102,
+    0x110,
+    0x111,
+    0x112,
+    0x120,
+    0x121,
+    0x122,
+    0x200,
+    0x201,
+    0x202,
+    0x210,
+    0x211,
+    0x212,
+    0x220,
+    0x221,
+    0x222,
 ];
 
 // What stands for the index of a cell off the grid.
@@ -111,7 +57,7 @@ struct Spot {
 }
 
 // Whether a shift from cell i of an axis stays on the grid.
-fn stays_on(count: u32, shift: u8, i: u32) -> bool
+fn stays_on(count: u32, shift: u16, i: u32) -> bool
     requires { ⌜ i < count ⌝ }
     ensures { λ r. ⌜ r ≡ Steps.staysOn count (shiftOf shift) i ⌝ }
 {
@@ -125,7 +71,7 @@ fn stays_on(count: u32, shift: u8, i: u32) -> bool
 }
 
 // The number of the cell that a shift leads to on an axis.
-fn shifted(count: u32, shift: u8, i: u32) -> u32
+fn shifted(count: u32, shift: u16, i: u32) -> u32
     requires { ⌜ (i < count) × (Steps.staysOn count (shiftOf shift) i ≡ true) ⌝ }
     ensures { λ r. ⌜ r ≡ Steps.shifted (shiftOf shift) i ⌝ }
 {
@@ -138,10 +84,14 @@ fn shifted(count: u32, shift: u8, i: u32) -> u32
     i + 1
 }
 
-fn step_from(grid: Grid, cell: Cell, x: u8, y: u8, z: u8) -> Spot
+// Where a step of the table leads from a cell.
+fn step_from(grid: Grid, cell: Cell, step: u16) -> Spot
     requires { ⌜ (inBounds grid ≡ true) × Inside grid cell ⌝ }
-    ensures { λ r. ⌜ r ≡ spotOf grid cell (stepOf x y z) ⌝ }
+    ensures { λ r. ⌜ r ≡ spotOf grid cell (stepOf step) ⌝ }
 {
+    let x = step / 256;
+    let y = step / 16 % 16;
+    let z = step % 16;
     let on_x = stays_on(grid.count_x, x, cell.x);
     let on_y = stays_on(grid.count_y, y, cell.y);
     let on_z = stays_on(grid.count_z, z, cell.z);
@@ -168,7 +118,7 @@ fn step_from(grid: Grid, cell: Cell, x: u8, y: u8, z: u8) -> Spot
 fn gather(
     grid: Grid,
     cell: Cell,
-    steps: &[u8],
+    steps: &[u16],
     to: &mut [u32],
     xs: &mut [f32],
     ys: &mut [f32],
@@ -180,10 +130,7 @@ fn gather(
 {
     let mut j = 0;
     while j < 27 {
-        let x = steps[3 * j];
-        let y = steps[3 * j + 1];
-        let z = steps[3 * j + 2];
-        let spot = step_from(grid, cell, x, y, z);
+        let spot = step_from(grid, cell, steps[j]);
         let centre = grid.get_cell_center(spot.cell);
         to[j] = spot.index;
         xs[j] = centre.x;
@@ -200,7 +147,7 @@ pub fn look_around(
     topology: Topology,
     given: Indices,
     indices: &[u32],
-    steps: &[u8],
+    steps: &[u16],
     e: Entry,
     to: &mut [u32],
     squares: &mut [f32],

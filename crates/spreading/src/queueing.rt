@@ -11,8 +11,7 @@ ghost use Rattle.mesh.specs.Mesh.{meshOf};
 ghost use Rattle.queue.specs.Order.{orderOf};
 ghost use Rattle.queue.specs.Queue.{Held};
 ghost use Rattle.run.specs.Run.{queueCell, queueing};
-ghost use Rattle.run.specs.Ground.{groundOf};
-ghost use Rattle.spreading.specs.Told.{Ready, Holds, Told, Queued, Named, stateOf, orderIn};
+ghost use Rattle.spreading.specs.Told.{Ready, Holds, Told, Queued, Named};
 
 fn higher(a: usize, b: usize) -> usize
     ensures { λ r. ⌜ r ≡ max a b ⌝ }
@@ -34,7 +33,7 @@ pub fn enqueue(
 ) -> Progress
     requires { ⌜ vertices < 2 ^ 32 ⌝ }
     requires { ⌜ Held (orderOf topology given (now indices) vertices) (now distances) (now cells) (now triangles) (at .waiting) ⌝ }
-    ensures { λ r. ⌜ Queued (orderOf topology given (now (indices .entry)) vertices) e (now (distances .entry)) (now (cells .entry)) (now (triangles .entry)) (now (distances .exit)) (now (cells .exit)) (now (triangles .exit)) at r ⌝ }
+    ensures { λ r. ⌜ Queued (orderOf topology given (now (indices .entry)) vertices) e (now (distances .entry)) (now (cells .entry)) (now (triangles .entry)) at (now (distances .exit)) (now (cells .exit)) (now (triangles .exit)) r ⌝ }
 {
     let n = at.waiting;
     if distances.len() <= n {
@@ -79,7 +78,7 @@ fn queue_cell(
     requires { ⌜ Holds grid (meshOf (now vertices) topology given (now indices)) (now field) (now names) (now distances) (now cells) (now triangles) (at .waiting) ⌝ }
     requires { ⌜ Named grid (meshOf (now vertices) topology given (now indices)) (now field) (now names) ⌝ }
     requires { ⌜ (at .number ≡ 0) × (c < length (now field)) ⌝ }
-    ensures { λ r. ⌜ Told grid (meshOf (now (vertices .entry)) topology given (now (indices .entry))) (λ any. queueCell (groundOf grid (meshOf (now (vertices .entry)) topology given (now (indices .entry))) (length (now (distances .entry))) any) c (stateOf (orderIn (meshOf (now (vertices .entry)) topology given (now (indices .entry)))) (now (field .entry)) (now (names .entry)) (now (distances .entry)) (now (cells .entry)) (now (triangles .entry)) at)) (now (field .entry)) (now (names .entry)) (now (distances .exit)) (now (cells .exit)) (now (triangles .exit)) r ⌝ }
+    ensures { λ r. ⌜ Told grid (meshOf (now (vertices .entry)) topology given (now (indices .entry))) (λ g. queueCell g c) (now (field .entry)) (now (names .entry)) (now (distances .entry)) (now (cells .entry)) (now (triangles .entry)) at (now (field .entry)) (now (names .entry)) (now (distances .exit)) (now (cells .exit)) (now (triangles .exit)) r ⌝ }
 {
     let d = field[c];
     if d < 3.4028235e38 {
@@ -124,7 +123,7 @@ pub fn queue_cells(
     requires { ⌜ Holds grid (meshOf (now vertices) topology given (now indices)) (now field) (now names) (now distances) (now cells) (now triangles) (at .waiting) ⌝ }
     requires { ⌜ Named grid (meshOf (now vertices) topology given (now indices)) (now field) (now names) ⌝ }
     requires { ⌜ at .number ≡ 0 ⌝ }
-    ensures { λ r. ⌜ Told grid (meshOf (now (vertices .entry)) topology given (now (indices .entry))) (λ any. queueing (groundOf grid (meshOf (now (vertices .entry)) topology given (now (indices .entry))) (length (now (distances .entry))) any) (stateOf (orderIn (meshOf (now (vertices .entry)) topology given (now (indices .entry)))) (now (field .entry)) (now (names .entry)) (now (distances .entry)) (now (cells .entry)) (now (triangles .entry)) at)) (now (field .entry)) (now (names .entry)) (now (distances .exit)) (now (cells .exit)) (now (triangles .exit)) r ⌝ }
+    ensures { λ r. ⌜ Told grid (meshOf (now (vertices .entry)) topology given (now (indices .entry))) queueing (now (field .entry)) (now (names .entry)) (now (distances .entry)) (now (cells .entry)) (now (triangles .entry)) at (now (field .entry)) (now (names .entry)) (now (distances .exit)) (now (cells .exit)) (now (triangles .exit)) r ⌝ }
 {
     let mut reached = at;
     let mut c = 0;

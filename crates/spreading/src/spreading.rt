@@ -17,10 +17,9 @@ ghost use Rattle.lists.specs.Turns.{goes};
 ghost use Rattle.grid.specs.Index.{total};
 ghost use Rattle.mesh.specs.Mesh.{meshOf, trianglesIn};
 ghost use Rattle.run.specs.Run.{queue, offerAt, spreadTo, spreadAround, takeFirst, spreading};
-ghost use Rattle.run.specs.Ground.{groundOf};
 ghost use Rattle.run.specs.Steps as Steps;
 ghost use Rattle.spreading.specs.Around.{placeOf, codes, Near, Around};
-ghost use Rattle.spreading.specs.Told.{Ready, Known, Holds, Told, stateOf, orderIn};
+ghost use Rattle.spreading.specs.Told.{Ready, Holds, Told};
 
 // Offers triangle k, whose squared distance is q, to cell c. Where q shows that the distance is not below
 // what the cell holds, no root is worked out.
@@ -43,7 +42,7 @@ fn offer(
     requires { ⌜ Ready grid (meshOf (now vertices) topology given (now indices)) ⌝ }
     requires { ⌜ Holds grid (meshOf (now vertices) topology given (now indices)) (now field) (now names) (now distances) (now cells) (now triangles) (at .waiting) ⌝ }
     requires { ⌜ (at .number ≡ 0) × (c < total grid) × (k < length (trianglesIn (meshOf (now vertices) topology given (now indices)))) × (isNan (rootOf q) ≡ isNan q) ⌝ }
-    ensures { λ r. ⌜ Told grid (meshOf (now (vertices .entry)) topology given (now (indices .entry))) (λ any. offerAt (queue (groundOf grid (meshOf (now (vertices .entry)) topology given (now (indices .entry))) (length (now (distances .entry))) any)) k c (rootOf q) (stateOf (orderIn (meshOf (now (vertices .entry)) topology given (now (indices .entry)))) (now (field .entry)) (now (names .entry)) (now (distances .entry)) (now (cells .entry)) (now (triangles .entry)) at)) (now (field .exit)) (now (names .exit)) (now (distances .exit)) (now (cells .exit)) (now (triangles .exit)) r ⌝ }
+    ensures { λ r. ⌜ Told grid (meshOf (now (vertices .entry)) topology given (now (indices .entry))) (λ g. offerAt (queue g) k c (rootOf q)) (now (field .entry)) (now (names .entry)) (now (distances .entry)) (now (cells .entry)) (now (triangles .entry)) at (now (field .exit)) (now (names .exit)) (now (distances .exit)) (now (cells .exit)) (now (triangles .exit)) r ⌝ }
 {
     if q != q {
         return at.refused(6);
@@ -98,7 +97,7 @@ fn offer_to(
     requires { ⌜ Ready grid (meshOf (now vertices) topology given (now indices)) ⌝ }
     requires { ⌜ Holds grid (meshOf (now vertices) topology given (now indices)) (now field) (now names) (now distances) (now cells) (now triangles) (at .waiting) ⌝ }
     requires { ⌜ (at .number ≡ 0) × (e .triangle < length (trianglesIn (meshOf (now vertices) topology given (now indices)))) × Near grid (meshOf (now vertices) topology given (now indices)) (e .triangle) to q ⌝ }
-    ensures { λ r. ⌜ Told grid (meshOf (now (vertices .entry)) topology given (now (indices .entry))) (λ any. spreadTo (groundOf grid (meshOf (now (vertices .entry)) topology given (now (indices .entry))) (length (now (distances .entry))) any) e (placeOf to) (stateOf (orderIn (meshOf (now (vertices .entry)) topology given (now (indices .entry)))) (now (field .entry)) (now (names .entry)) (now (distances .entry)) (now (cells .entry)) (now (triangles .entry)) at)) (now (field .exit)) (now (names .exit)) (now (distances .exit)) (now (cells .exit)) (now (triangles .exit)) r ⌝ }
+    ensures { λ r. ⌜ Told grid (meshOf (now (vertices .entry)) topology given (now (indices .entry))) (λ g. spreadTo g e (placeOf to)) (now (field .entry)) (now (names .entry)) (now (distances .entry)) (now (cells .entry)) (now (triangles .entry)) at (now (field .exit)) (now (names .exit)) (now (distances .exit)) (now (cells .exit)) (now (triangles .exit)) r ⌝ }
 {
     if to == around::NOWHERE {
         return at;
@@ -141,7 +140,7 @@ fn offer_around(
     requires { ⌜ Ready grid (meshOf (now vertices) topology given (now indices)) ⌝ }
     requires { ⌜ Holds grid (meshOf (now vertices) topology given (now indices)) (now field) (now names) (now distances) (now cells) (now triangles) (at .waiting) ⌝ }
     requires { ⌜ (at .number ≡ 0) × (e .triangle < length (trianglesIn (meshOf (now vertices) topology given (now indices)))) × Around grid (meshOf (now vertices) topology given (now indices)) e (now to) (now squares) ⌝ }
-    ensures { λ r. ⌜ Told grid (meshOf (now (vertices .entry)) topology given (now (indices .entry))) (λ any. spreadAround (groundOf grid (meshOf (now (vertices .entry)) topology given (now (indices .entry))) (length (now (distances .entry))) any) e (stateOf (orderIn (meshOf (now (vertices .entry)) topology given (now (indices .entry)))) (now (field .entry)) (now (names .entry)) (now (distances .entry)) (now (cells .entry)) (now (triangles .entry)) at)) (now (field .exit)) (now (names .exit)) (now (distances .exit)) (now (cells .exit)) (now (triangles .exit)) r ⌝ }
+    ensures { λ r. ⌜ Told grid (meshOf (now (vertices .entry)) topology given (now (indices .entry))) (λ g. spreadAround g e) (now (field .entry)) (now (names .entry)) (now (distances .entry)) (now (cells .entry)) (now (triangles .entry)) at (now (field .exit)) (now (names .exit)) (now (distances .exit)) (now (cells .exit)) (now (triangles .exit)) r ⌝ }
 {
     let mut reached = at;
     let mut j = 0;
@@ -177,7 +176,7 @@ fn pop(
     topology: Topology,
     given: Indices,
     indices: &[u32],
-    steps: &[u8],
+    steps: &[u16],
     field: &mut [f32],
     names: &mut [u32],
     distances: &mut [u32],
@@ -188,7 +187,7 @@ fn pop(
     requires { ⌜ Ready grid (meshOf (now vertices) topology given (now indices)) ⌝ }
     requires { ⌜ Holds grid (meshOf (now vertices) topology given (now indices)) (now field) (now names) (now distances) (now cells) (now triangles) (at .waiting) ⌝ }
     requires { ⌜ (now steps ≡ codes Steps.steps) × (0 < at .waiting) × (at .pops < 4294967295) ⌝ }
-    ensures { λ r. ⌜ Told grid (meshOf (now (vertices .entry)) topology given (now (indices .entry))) (λ any. takeFirst (groundOf grid (meshOf (now (vertices .entry)) topology given (now (indices .entry))) (length (now (distances .entry))) any) goes ((stateOf (orderIn (meshOf (now (vertices .entry)) topology given (now (indices .entry)))) (now (field .entry)) (now (names .entry)) (now (distances .entry)) (now (cells .entry)) (now (triangles .entry)) at) .waiting) (stateOf (orderIn (meshOf (now (vertices .entry)) topology given (now (indices .entry)))) (now (field .entry)) (now (names .entry)) (now (distances .entry)) (now (cells .entry)) (now (triangles .entry)) at)) (now (field .exit)) (now (names .exit)) (now (distances .exit)) (now (cells .exit)) (now (triangles .exit)) r ⌝ }
+    ensures { λ r. ⌜ Told grid (meshOf (now (vertices .entry)) topology given (now (indices .entry))) (λ g s. takeFirst g goes (s .waiting) s) (now (field .entry)) (now (names .entry)) (now (distances .entry)) (now (cells .entry)) (now (triangles .entry)) at (now (field .exit)) (now (names .exit)) (now (distances .exit)) (now (cells .exit)) (now (triangles .exit)) r ⌝ }
 {
     let n = at.waiting;
     let e = queue::take(
@@ -258,15 +257,15 @@ pub fn spread(
     requires { ⌜ Ready grid (meshOf (now vertices) topology given (now indices)) ⌝ }
     requires { ⌜ Holds grid (meshOf (now vertices) topology given (now indices)) (now field) (now names) (now distances) (now cells) (now triangles) (at .waiting) ⌝ }
     requires { ⌜ (at .number ≡ 0) × (at .pops ≡ 0) ⌝ }
-    ensures { λ r. ⌜ Told grid (meshOf (now (vertices .entry)) topology given (now (indices .entry))) (λ any. spreading (groundOf grid (meshOf (now (vertices .entry)) topology given (now (indices .entry))) (length (now (distances .entry))) any) limit (stateOf (orderIn (meshOf (now (vertices .entry)) topology given (now (indices .entry)))) (now (field .entry)) (now (names .entry)) (now (distances .entry)) (now (cells .entry)) (now (triangles .entry)) at)) (now (field .exit)) (now (names .exit)) (now (distances .exit)) (now (cells .exit)) (now (triangles .exit)) r ⌝ }
+    ensures { λ r. ⌜ Told grid (meshOf (now (vertices .entry)) topology given (now (indices .entry))) (λ g. spreading g limit) (now (field .entry)) (now (names .entry)) (now (distances .entry)) (now (cells .entry)) (now (triangles .entry)) at (now (field .exit)) (now (names .exit)) (now (distances .exit)) (now (cells .exit)) (now (triangles .exit)) r ⌝ }
 {
     let steps = around::STEPS;
-    let mut reached = at;
-    while 0 < reached.waiting {
-        if reached.pops == limit {
-            return reached.refused(8);
+    let mut run = at;
+    while 0 < run.waiting {
+        if run.pops == limit {
+            return run.refused(8);
         }
-        reached = pop(
+        run = pop(
             grid,
             vertices,
             topology,
@@ -278,11 +277,11 @@ pub fn spread(
             distances,
             cells,
             triangles,
-            reached,
+            run,
         );
-        if reached.number != 0 {
-            return reached;
+        if run.number != 0 {
+            return run;
         }
     }
-    reached
+    run
 }

@@ -38,33 +38,27 @@ abbrev μ-loop : tie.MeasureT-loop
 loop-holds : tie.Need-loop-holds Inv-loop μ-loop
 loop-holds c = (omega arith, filled-none 0 _ _, filled-none nan _ _, filled-none nan _ _, filled-none nan _ _)
 
-shared-slice-read-x : tie.Need-shared-slice-read-x Inv-loop μ-loop
-shared-slice-read-x c = omega (arith, table-long _ (c .before .before .before .before .before .before .before .before .pre .0 .2))
-
-shared-slice-read-y : tie.Need-shared-slice-read-y Inv-loop μ-loop
-shared-slice-read-y c = omega (arith, table-long _ (c .before .before .before .before .before .before .before .before .before .pre .0 .2))
-
-shared-slice-read-z : tie.Need-shared-slice-read-z Inv-loop μ-loop
-shared-slice-read-z c = omega (arith, table-long _ (c .before .before .before .before .before .before .before .before .before .before .pre .0 .2))
+shared-slice-read-step-from : tie.Need-shared-slice-read-step-from Inv-loop μ-loop
+shared-slice-read-step-from c = omega (arith, table-long _ (c .before .before .before .before .before .before .before .before .pre .0 .2))
 
 get-cell-center-requires : tie.Need-get-cell-center-requires Inv-loop μ-loop
 get-cell-center-requires c κs =
-    let s = c .before .before .before .before .before .before .before .before .before .before .before in
+    let s = c .before .before .before .before .before .before .before .before .before in
     rw (c .step-from .ensures) (near-enough (s .args .grid) _ (s .pre .0 .0) (spot-inside (s .args .grid) (s .args .cell) _ (s .pre .0 .1)))
 
 -- what the call found is the spot of step j
-spot-is : (c : tie.After-get-cell-center Inv-loop μ-loop) → c .before .step-from .result ≡ spot (c .before .before .before .before .before .before .before .before .before .before .before .before .args .grid) (c .before .before .before .before .before .before .before .before .before .before .before .before .args .cell) (c .before .before .before .before .before .before .loop .j)
+spot-is : (c : tie.After-get-cell-center Inv-loop μ-loop) → c .before .step-from .result ≡ spot (c .before .before .before .before .before .before .before .before .before .before .args .grid) (c .before .before .before .before .before .before .before .before .before .before .args .cell) (c .before .before .before .before .loop .j)
 spot-is c =
-    let s = c .before .before .before .before .before .before .before .before .before .before .before .before in
-    c .before .step-from .ensures ∙ ap (spotOf (s .args .grid) (s .args .cell)) (table-step _ (c .before .before .before .before .before .before .loop .j) (s .pre .0 .2) (c .before .before .before .before .before .loop-test .taken))
+    let s = c .before .before .before .before .before .before .before .before .before .before in
+    c .before .step-from .ensures ∙ ap (spotOf (s .args .grid) (s .args .cell)) (table-step _ (c .before .before .before .before .loop .j) (s .pre .0 .2) (c .before .before .before .loop-test .taken))
 
-centre-is : (c : tie.After-get-cell-center Inv-loop μ-loop) → c .get-cell-center .result ≡ centre (c .before .before .before .before .before .before .before .before .before .before .before .before .args .grid) (c .before .before .before .before .before .before .before .before .before .before .before .before .args .cell) (c .before .before .before .before .before .before .loop .j)
-centre-is c = c .get-cell-center .ensures ∙ ap (λ (v : Spot). centreOf (c .before .before .before .before .before .before .before .before .before .before .before .before .args .grid) (v .cell)) (spot-is c)
+centre-is : (c : tie.After-get-cell-center Inv-loop μ-loop) → c .get-cell-center .result ≡ centre (c .before .before .before .before .before .before .before .before .before .before .args .grid) (c .before .before .before .before .before .before .before .before .before .before .args .cell) (c .before .before .before .before .loop .j)
+centre-is c = c .get-cell-center .ensures ∙ ap (λ (v : Spot). centreOf (c .before .before .before .before .before .before .before .before .before .before .args .grid) (v .cell)) (spot-is c)
 
 loop-again : tie.Need-loop-again Inv-loop μ-loop
 loop-again c =
-    let s = c .before .before .before .before .before .before .before .before .before .before .before .before in
-    let l = c .before .before .before .before .before .before .loop .inv in (
+    let s = c .before .before .before .before .before .before .before .before .before .before in
+    let l = c .before .before .before .before .loop .inv in (
       omega arith,
       filled-more 0 _ _ _ _ _ (omega (arith, s .pre .1 .0)) (ap (λ (v : Spot). v .index) (spot-is c)) (l .1),
       filled-more nan _ _ _ _ _ (omega (arith, s .pre .1 .1)) (ap (λ (p : Point). p .x) (centre-is c)) (l .2),
@@ -91,23 +85,17 @@ gather-spec =
     μ-loop
     loop-holds
     (λ c. omega arith)
-    shared-slice-read-x
-    (λ c. omega arith)
-    (λ c. omega arith)
-    shared-slice-read-y
-    (λ c. omega arith)
-    (λ c. omega arith)
-    shared-slice-read-z
-    (λ c κs. (c .before .before .before .before .before .before .before .before .before .before .pre .0 .0, c .before .before .before .before .before .before .before .before .before .before .pre .0 .1))
+    shared-slice-read-step-from
+    (λ c κs. (c .before .before .before .before .before .before .before .before .pre .0 .0, c .before .before .before .before .before .before .before .before .pre .0 .1))
     get-cell-center-requires
     (λ c. omega arith)
-    (λ c. omega (arith, c .before .before .before .before .before .before .before .before .before .before .before .before .pre .1 .0, c .before .before .before .before .before .before .loop .inv .1 .long))
+    (λ c. omega (arith, c .before .before .before .before .before .before .before .before .before .before .pre .1 .0, c .before .before .before .before .loop .inv .1 .long))
     (λ c. omega arith)
-    (λ c. omega (arith, c .before .before .before .before .before .before .before .before .before .before .before .before .pre .1 .1, c .before .before .before .before .before .before .loop .inv .2 .long))
+    (λ c. omega (arith, c .before .before .before .before .before .before .before .before .before .before .pre .1 .1, c .before .before .before .before .loop .inv .2 .long))
     (λ c. omega arith)
-    (λ c. omega (arith, c .before .before .before .before .before .before .before .before .before .before .before .before .pre .1 .2, c .before .before .before .before .before .before .loop .inv .3 .long))
+    (λ c. omega (arith, c .before .before .before .before .before .before .before .before .before .before .pre .1 .2, c .before .before .before .before .loop .inv .3 .long))
     (λ c. omega arith)
-    (λ c. omega (arith, c .before .before .before .before .before .before .before .before .before .before .before .before .pre .1 .3, c .before .before .before .before .before .before .loop .inv .4 .long))
+    (λ c. omega (arith, c .before .before .before .before .before .before .before .before .before .before .pre .1 .3, c .before .before .before .before .loop .inv .4 .long))
     (λ c. omega arith)
     (λ c. omega arith)
     loop-again

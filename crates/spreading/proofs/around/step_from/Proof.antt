@@ -14,7 +14,7 @@ use Rattle.spreading.proofs.around.step_from.Statement.{statement}
 use Rattle.spreading.proofs.around.step_from.Tie as tie
 
 abbrev step : tie.Start → Step
-step s = stepOf (s .args .x) (s .args .y) (s .args .z)
+step s = stepOf (s .args .step)
 
 -- what the tests found is what the step's test says
 on : (c : tie.Then1) → stays (c .before .before .before .before .args .grid) (c .before .before .before .before .args .cell) (step (c .before .before .before .before)) ≡ true

@@ -5,32 +5,27 @@ use mathlib.Core.Path.{_≡_, refl}
 use lib.ListN.{length}
 use Rattle.lists.specs.Turns.{Turn}
 use Rattle.grid.specs.declared.Grid.{Grid}
-use Rattle.mesh.specs.Mesh.{Mesh, meshOf}
+use Rattle.mesh.specs.Mesh.{meshOf}
 use Rattle.queue.specs.declared.Entry.{Entry}
-use Rattle.run.specs.Run.{State, spreadTo, spreadAround}
-use Rattle.run.specs.Ground.{groundOf}
+use Rattle.run.specs.Run.{Ground, State, spreadTo}
 use Rattle.run.specs.Steps.{aroundCell}
-use Rattle.spreading.specs.Told.{orderIn, stateOf, Told}
-use Rattle.spreading.proofs.Loops.{After, begins, goes-on, stops, ends, alike}
-use Rattle.spreading.proofs.Offers.{step-around}
+use Rattle.spreading.proofs.Loops.{told-as, After, begins, goes-on, stops, ends, alike}
+use Rattle.spreading.proofs.Offers.{step-around, all-steps}
 use Rattle.spreading.proofs.spreading.offer_around.Statement.{statement}
 use Rattle.spreading.proofs.spreading.offer_around.Tie as tie
 
-abbrev turn : Grid → Mesh → Entry → ℕ → ℕ → ℕ → State → Turn State
-turn g m e room any j = spreadTo (groundOf g m room any) e (aroundCell g (e .cell) j)
+-- turn j
+abbrev turn : Grid → Entry → Ground → ℕ → State → Turn State
+turn g e G j = spreadTo G e (aroundCell g (e .cell) j)
 
 abbrev Inv-loop : tie.InvT-loop
 Inv-loop grid vertices topology given indices field₀ names₀ distances₀ cells₀ triangles₀ e to squares reached₀ j₀ field names distances cells triangles reached j =
-    let m = meshOf vertices topology given indices in
-    After grid m (turn grid m e) (length distances₀) (stateOf (orderIn m) field₀ names₀ distances₀ cells₀ triangles₀ reached₀) j field names distances cells triangles reached
+    After grid (meshOf vertices topology given indices) (turn grid e) field₀ names₀ distances₀ cells₀ triangles₀ reached₀ j field names distances cells triangles reached
     × (j ≤ 27)
 
 abbrev μ-loop : tie.MeasureT-loop
 μ-loop grid vertices topology given indices field₀ names₀ distances₀ cells₀ triangles₀ e to squares reached₀ j₀ field names distances cells triangles reached j =
     27 - j
-
-abbrev mesh : tie.Start Inv-loop μ-loop → Mesh
-mesh s = meshOf (s .args .vertices .now) (s .args .topology) (s .args .given) (s .args .indices .now)
 
 loop-holds : tie.Need-loop-holds Inv-loop μ-loop
 loop-holds c = (begins _ (c .before .before .before .before .before .before .before .before .before .pre .1 .1 .0) (c .before .before .before .before .before .before .before .before .before .pre .1 .0), omega arith)
@@ -43,23 +38,24 @@ offer-to-requires c κs =
 
 -- the turn that the call made
 returns : tie.Need-returns Inv-loop μ-loop
-unfolding spreadAround groundOf
 returns c =
     let s = c .before .before .before .before .before .before .before .before .before .before .before .before .before .before .before .before .before .before .before .before .before .before .before .before .before .before .before .before .before .before .before in
     let l = c .before .before .before .before .before .before .before .before .before .before .before .before .before .before .before .before .before .before .before .before .before .loop in
-    stops (turn (s .args .grid) (mesh s) (s .args .e)) 27 (l .inv .0) (step-around (s .args .e) (l .field) (l .names) (l .distances) (l .cells) (l .triangles) (l .reached) (s .pre .1 .1 .2 .leads (l .j) (c .before .before .before .before .before .before .before .before .before .before .before .before .before .before .before .before .before .before .before .before .loop-test .taken)) (c .before .before .before .before .before .before .before .before .before .before .before .before .offer-to .ensures)) (c .if1 .taken) (c .before .before .before .before .before .before .before .before .before .before .before .before .before .before .before .before .before .before .before .before .loop-test .taken)
+    told-as (all-steps (s .args .grid) _ (s .args .e))
+    (stops (turn (s .args .grid) (s .args .e)) 27 (l .inv .0) (step-around (s .args .e) (s .pre .1 .1 .2 .leads (l .j) (c .before .before .before .before .before .before .before .before .before .before .before .before .before .before .before .before .before .before .before .before .loop-test .taken)) (c .before .before .before .before .before .before .before .before .before .before .before .before .offer-to .ensures)) (c .if1 .taken) (c .before .before .before .before .before .before .before .before .before .before .before .before .before .before .before .before .before .before .before .before .loop-test .taken))
 
 loop-again : tie.Need-loop-again Inv-loop μ-loop
 loop-again c =
     let s = c .before .before .before .before .before .before .before .before .before .before .before .before .before .before .before .before .before .before .before .before .before .before .before .before .before .before .before .before .before .before .before in
     let l = c .before .before .before .before .before .before .before .before .before .before .before .before .before .before .before .before .before .before .before .before .before .loop in (
-      goes-on (turn (s .args .grid) (mesh s) (s .args .e)) (l .inv .0) (step-around (s .args .e) (l .field) (l .names) (l .distances) (l .cells) (l .triangles) (l .reached) (s .pre .1 .1 .2 .leads (l .j) (c .before .before .before .before .before .before .before .before .before .before .before .before .before .before .before .before .before .before .before .before .loop-test .taken)) (c .before .before .before .before .before .before .before .before .before .before .before .before .offer-to .ensures)) (c .before .before .before .before .before .before .before .before .before .before .before .before .offer-to .kept .1 .1 .1 .1 .1 .1 .1 .0) (c .if1 .left),
+      goes-on (turn (s .args .grid) (s .args .e)) (l .inv .0) (step-around (s .args .e) (s .pre .1 .1 .2 .leads (l .j) (c .before .before .before .before .before .before .before .before .before .before .before .before .before .before .before .before .before .before .before .before .loop-test .taken)) (c .before .before .before .before .before .before .before .before .before .before .before .before .offer-to .ensures)) (c .before .before .before .before .before .before .before .before .before .before .before .before .offer-to .kept .1 .1 .1 .1 .1 .1 .1 .0) (c .if1 .left),
       omega (arith, c .before .before .before .before .before .before .before .before .before .before .before .before .before .before .before .before .before .before .before .before .loop-test .taken),
     )
 
 returns-2 : tie.Need-returns-2 Inv-loop μ-loop
-unfolding spreadAround groundOf
-returns-2 c = let l = c .before .loop in let s = c .before .before .before .before .before .before .before .before .before .before .before in ends (turn (s .args .grid) (mesh s) (s .args .e)) 27 (l .inv .0) (omega (arith, l .inv .1, c .loop-test .left))
+returns-2 c = let l = c .before .loop in
+    let s = c .before .before .before .before .before .before .before .before .before .before .before in
+    told-as (all-steps (s .args .grid) _ (s .args .e)) (ends (turn (s .args .grid) (s .args .e)) 27 (l .inv .0) (omega (arith, l .inv .1, c .loop-test .left)))
 
 pub offer-around-spec : {M : Type 1} → statement M
 offer-around-spec =

@@ -7,7 +7,7 @@ use Rattle.spreading.proofs.spreading.offer_to.Statement.{statement}
 use Rattle.spreading.proofs.spreading.offer_to.Tie as tie
 
 returns : tie.Need-returns
-returns c = let s = c .before .before .before .before .before .before .before .before in step-off (s .args .at) (s .args .e) (s .pre .1 .0) (s .pre .1 .1 .0) (c .if1 .taken)
+returns c = let s = c .before .before .before .before .before .before .before .before in step-off (s .args .e) (s .pre .1 .0) (s .pre .1 .1 .0) (c .if1 .taken)
 
 offer-requires : tie.Need-offer-requires
 offer-requires c κs =
@@ -18,7 +18,7 @@ offer-requires c κs =
 returns-2 : tie.Need-returns-2
 returns-2 c =
     let s = c .before .before .before .before .before .before .before .before .before .before .before .before .before .before .before .before .before .before .before .before .before .before .before .before in
-    step-at (s .args .field .now) (s .args .names .now) (s .args .distances .now) (s .args .cells .now) (s .args .triangles .now) (s .args .at) (s .args .e) (s .pre .1 .1 .2) (c .before .before .before .before .before .before .before .before .before .before .before .before .before .before .before .before .if1 .left) (c .before .before .before .before .before .before .before .before .before .before .offer .ensures)
+    step-at (s .args .e) (s .pre .1 .1 .2) (c .before .before .before .before .before .before .before .before .before .before .before .before .before .before .before .before .if1 .left) (c .before .before .before .before .before .before .before .before .before .before .offer .ensures)
 
 pub offer-to-spec : {M : Type 1} → statement M
 offer-to-spec =

@@ -4,26 +4,22 @@ use borrow.Author.Needs.{needs}
 use native.Mathlib.Omega.{arith}
 use mathlib.Core.Path.{_≡_, refl}
 use lib.ListN.{length}
-use Rattle.mesh.specs.Mesh.{Mesh, meshOf}
-use Rattle.run.specs.Run.{spreading}
-use Rattle.run.specs.Ground.{groundOf}
+use Rattle.mesh.specs.Mesh.{meshOf}
 use Rattle.run.specs.Steps as Steps
 use Rattle.spreading.specs.Around.{codes}
-use Rattle.spreading.specs.Told.{orderIn, stateOf}
 use Rattle.spreading.proofs.Loops.{alike}
 use Rattle.spreading.proofs.Pops.{Spreads, spread-begins, spread-ends, spread-spent, spread-on, spread-stops, counted}
 use Rattle.spreading.proofs.spreading.spread.Statement.{statement}
 use Rattle.spreading.proofs.spreading.spread.Tie as tie
 
 abbrev Inv-loop : tie.InvT-loop
-Inv-loop grid vertices topology given indices field₀ names₀ distances₀ cells₀ triangles₀ limit steps reached₀ field names distances cells triangles reached =
-    let m = meshOf vertices topology given indices in
-    Spreads grid m (length distances₀) limit (λ any. spreading (groundOf grid m (length distances₀) any) limit (stateOf (orderIn m) field₀ names₀ distances₀ cells₀ triangles₀ reached₀)) field names distances cells triangles reached
+Inv-loop grid vertices topology given indices field₀ names₀ distances₀ cells₀ triangles₀ limit steps run₀ field names distances cells triangles run =
+    Spreads grid (meshOf vertices topology given indices) limit field₀ names₀ distances₀ cells₀ triangles₀ run₀ field names distances cells triangles run
     × (steps ≡ codes Steps.steps)
 
 abbrev μ-loop : tie.MeasureT-loop
-μ-loop grid vertices topology given indices field₀ names₀ distances₀ cells₀ triangles₀ limit steps reached₀ field names distances cells triangles reached =
-    limit - reached .pops
+μ-loop grid vertices topology given indices field₀ names₀ distances₀ cells₀ triangles₀ limit steps run₀ field names distances cells triangles run =
+    limit - run .pops
 
 loop-holds : tie.Need-loop-holds Inv-loop μ-loop
 loop-holds c = let s = c .before .before .before .before .before .before .before in (spread-begins (s .pre .1 .1 .0) (s .pre .1 .1 .1) (s .pre .1 .0), refl)
@@ -44,7 +40,7 @@ pop-requires c κs =
 returns-2 : tie.Need-returns-2 Inv-loop μ-loop
 returns-2 c =
     let a = c .before .before .before .before .before .before .before .before .before .before .before .before .before .before .before .before .before .before .before .before .before .before .before .loop .inv .0 in
-    spread-stops a (c .before .before .before .before .before .before .before .before .before .before .before .before .before .before .before .before .before .before .before .before .before .if1 .taken) (fewer _ _ (a .within) (c .before .before .before .before .before .before .before .before .before .before .before .before .before .before .before .before .before .before .before .if2 .left)) (c .before .before .before .before .before .before .before .before .before .before .before .before .pop .ensures) (c .if3 .taken)
+    spread-stops a (c .before .before .before .before .before .before .before .before .before .before .before .before .before .before .before .before .before .before .before .before .before .if1 .taken) (c .before .before .before .before .before .before .before .before .before .before .before .before .pop .ensures) (fewer _ _ (a .within) (c .before .before .before .before .before .before .before .before .before .before .before .before .before .before .before .before .before .before .before .if2 .left)) (c .if3 .taken)
 
 loop-less : tie.Need-loop-less Inv-loop μ-loop
 loop-less c =
@@ -54,7 +50,7 @@ loop-less c =
 loop-again : tie.Need-loop-again Inv-loop μ-loop
 loop-again c =
     let a = c .before .before .before .before .before .before .before .before .before .before .before .before .before .before .before .before .before .before .before .before .before .before .before .loop .inv .0 in
-    (spread-on a (c .before .before .before .before .before .before .before .before .before .before .before .before .before .before .before .before .before .before .before .before .before .if1 .taken) (fewer _ _ (a .within) (c .before .before .before .before .before .before .before .before .before .before .before .before .before .before .before .before .before .before .before .if2 .left)) (c .before .before .before .before .before .before .before .before .before .before .before .before .pop .ensures) (c .before .before .before .before .before .before .before .before .before .before .before .before .pop .kept .1 .1 .1 .1 .1 .1 .1 .1 .0) (c .if3 .left), c .before .before .before .before .before .before .before .before .before .before .before .before .before .before .before .before .before .before .before .before .before .before .before .loop .inv .1)
+    (spread-on a (c .before .before .before .before .before .before .before .before .before .before .before .before .before .before .before .before .before .before .before .before .before .if1 .taken) (c .before .before .before .before .before .before .before .before .before .before .before .before .pop .ensures) (fewer _ _ (a .within) (c .before .before .before .before .before .before .before .before .before .before .before .before .before .before .before .before .before .before .before .if2 .left)) (c .before .before .before .before .before .before .before .before .before .before .before .before .pop .kept .1 .1 .1 .1 .1 .1 .1 .1 .0) (c .if3 .left), c .before .before .before .before .before .before .before .before .before .before .before .before .before .before .before .before .before .before .before .before .before .before .before .loop .inv .1)
 
 returns-3 : tie.Need-returns-3 Inv-loop μ-loop
 returns-3 c = spread-ends (c .before .before .loop .inv .0) (c .if1 .left)
