@@ -2,10 +2,9 @@
 use Prim.Native.Nat.{ℕ, zero, suc, _+_, _*_, _%_, _^_, _≤_, _<_}
 use native.Mathlib.Nat.{add-zero, zero-mul, mul-add-mod-self-right, mod-eq-of-lt}
 use native.Mathlib.Decide.{decLt, ℕ-discrete}
-use native.Mathlib.Numerals.{add-one}
 use native.Mathlib.Omega.{arith}
-use mathlib.Core.Path.{_≡_, refl, sym, ap, ap₂, _∙_, subst}
-use mathlib.Core.Bool.{Bool, true, false, cond, _&&_}
+use mathlib.Core.Path.{_≡_, sym, ap, ap₂, _∙_}
+use mathlib.Core.Bool.{Bool, cond, _&&_}
 use mathlib.Core.List.{List}
 use lib.Dec.{ltb, eqb}
 use lib.ListN.{length, getD, replicate, length-replicate, getD-replicate, List·getD-eq-default}
@@ -14,12 +13,12 @@ use borrow.Author.Tests.{lt-ltb, le-ltb, eq-eqb, ne-eqb}
 use Rattle.point.specs.declared.Axis.the-variants.{X, Y, Z}
 use Rattle.grid.specs.declared.Grid.{Grid}
 use Rattle.grid.specs.Axes.{countOn}
-use Rattle.grid.specs.Index.{coordinates, cellAt, total}
+use Rattle.grid.specs.Index.{coordinates, total}
 use Rattle.lists.specs.Range.{countBelow}
 use Rattle.lists.proofs.Range.{count-none, count-more, count-le}
 use Rattle.lists.proofs.Table.{is-table}
 use Rattle.run.specs.Signs.{counted, rowBelow, rows}
-use Rattle.crossing.specs.Words.{Room}
+use Rattle.crossing.specs.Counts.{Room}
 use Rattle.crossing.specs.Sign.{ColumnAdded}
 
 -- of n numbers in a row from `base` on, where number j is of layer j, those of layer z that pass the test p

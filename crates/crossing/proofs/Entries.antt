@@ -1,9 +1,9 @@
 -- Every cell is one number of one line along each axis, and every entry is that of one cell and one axis. So an entry is found by
 -- its axis, its line and its number on the line, and only so. Once over the three axes. Assumes nothing.
-use Prim.Native.Nat.{ℕ, zero, suc, _+_, _*_, _/_, _%_, _≤_, _<_}
+use Prim.Native.Nat.{ℕ, zero, suc, _+_, _*_, _/_, _%_, _<_}
 use native.Mathlib.Nat.{mod-lt, mul-pos}
 use native.Mathlib.Omega.{arith}
-use mathlib.Core.Path.{_≡_, refl, sym, ap, ap₂, _∙_, subst}
+use mathlib.Core.Path.{_≡_, refl}
 use mathlib.Core.Bool.{true}
 use lib.Dec.{eqb, lit<}
 use Rattle.point.specs.declared.Axis.{Axis}
@@ -11,7 +11,7 @@ use Rattle.point.specs.declared.Axis.the-variants.{X, Y, Z}
 use Rattle.grid.specs.declared.Grid.{Grid}
 use Rattle.grid.specs.declared.Cell.{Cell}
 use Rattle.grid.specs.Axes.{countOn, cellOn, cell}
-use Rattle.grid.specs.Index.{Within, Inside, index, indexOf, cellAt, total}
+use Rattle.grid.specs.Index.{Inside, indexOf, cellAt, total}
 use Rattle.grid.specs.Bounds.{inBounds}
 use Rattle.grid.proofs.Facts.{bounds-of}
 use Rattle.grid.proofs.Laws.{index-below, index-of-cell, index-injective, index-along, cell-within}

@@ -5,11 +5,10 @@ use native.Mathlib.Decide.{decLt, ℕ-discrete}
 use native.Mathlib.Omega.{arith}
 use mathlib.Core.Path.{_≡_, refl, sym, ap, ap₂, _∙_, subst}
 use mathlib.Core.Bool.{Bool, true, false, cond, _&&_, and-false, true≢false}
-use mathlib.Core.Logic.{_⊎_, inl, inr, ⊎-elim}
 use mathlib.Core.List.{List}
 use lib.Dec.{leb, ltb, eqb}
 use lib.ListN.{length, getD, List·getD-eq-default}
-use borrow.Author.Tests.{ltb-true, eqb-true, leb-true, lt-ltb, le-ltb, le-leb, eq-eqb, ne-eqb}
+use borrow.Author.Tests.{eqb-true, leb-true, lt-ltb, le-ltb, le-leb, eq-eqb, ne-eqb}
 use Rattle.point.specs.declared.Axis.{Axis}
 use Rattle.point.specs.declared.Axis.the-variants.{X, Y, Z}
 use Rattle.grid.specs.declared.Grid.{Grid}
@@ -17,10 +16,10 @@ use Rattle.grid.specs.declared.Cell.{Cell}
 use Rattle.grid.specs.Axes.{countOn, sizeOn, cellOn}
 use Rattle.grid.specs.Index.{Inside, cellAt, total}
 use Rattle.geo.specs.declared.ray.RayHit.{RayHit}
-use Rattle.geo.specs.declared.ray.RayHit.the-variants.{Miss, Hit}
+use Rattle.geo.specs.declared.ray.RayHit.the-variants.{Miss}
 use Rattle.mesh.specs.declared.Corners.{Corners}
 use Rattle.run.specs.Signs.{axisAt, reaches}
-use Rattle.crossing.specs.Words.{Room, Within, Stepped}
+use Rattle.crossing.specs.Counts.{Room, Within, Stepped}
 use Rattle.crossing.specs.Lines.{next, uOf, vOf, cellFrom, placeOf, entryOf, strideOn}
 use Rattle.crossing.specs.Pass.{Grown, same, onLine, lineCrossed, rowCrossed, axisCrossed, hitOn, crossedBy}
 use Rattle.crossing.proofs.Entries.{on-its-line, line-number, line-u, line-v, inside-line, inside-on, same-place, entry-below, one-axis, one-cell, entry-along, inside-at, entry-at}

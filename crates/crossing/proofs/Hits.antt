@@ -20,7 +20,6 @@ use Rattle.grid.specs.Bounds.{inBounds}
 use Rattle.grid.specs.Place.{centreOf}
 use Rattle.grid.proofs.Facts.{bounds-of, on-axis}
 use Rattle.geo.specs.declared.ray.Three.{Three}
-use Rattle.geo.specs.declared.ray.RayHit.{RayHit}
 use Rattle.geo.specs.declared.ray.RayHit.the-variants.{Miss, Hit}
 use Rattle.geo.specs.Ray.{allBelow, allAbove, reach, castOf, acrossZ, acrossY, alongX, rayOf}
 use Rattle.geo.proofs.Rays.{in-parts}
@@ -29,12 +28,12 @@ use Rattle.lists.proofs.Range.{count-none, count-more, count-le}
 use Rattle.lists.proofs.Table.{is-table}
 use Rattle.mesh.specs.declared.Corners.{Corners}
 use Rattle.mesh.specs.Mesh.{Mesh, trianglesIn, cornersAt}
-use Rattle.run.specs.Signs.{axisAt, rayFrom, reaches, crosses, crossings, crossingsAt, allCrossings}
-use Rattle.crossing.specs.Words.{Room}
+use Rattle.run.specs.Signs.{axisAt, rayFrom, crosses, crossings, crossingsAt, allCrossings}
+use Rattle.crossing.specs.Counts.{Room}
 use Rattle.crossing.specs.Lines.{next, uOf, vOf, centreAlong, cellFrom, entryOf}
-use Rattle.crossing.specs.Pass.{Grown, same, onLine, lineCrossed, hitOn, crossedBy, mayHit, ahead, threeAt, Across, rowHit, castHit}
+use Rattle.crossing.specs.Pass.{Grown, same, onLine, lineCrossed, hitOn, crossedBy, mayHit, ahead, Across, castHit}
 use Rattle.crossing.proofs.Entries.{inside-on, entry-below, inside-at, entry-at}
-use Rattle.crossing.proofs.Grown.{grown-as, axis-as}
+use Rattle.crossing.proofs.Grown.{grown-as}
 use Rattle.crossing.proofs.Reach.{reached}
 
 -- ---- the answer

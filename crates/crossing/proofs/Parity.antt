@@ -2,19 +2,16 @@
 -- and 3c + 2. Assumes nothing.
 use Prim.Native.Nat.{ℕ, _+_, _*_, _/_, _%_, _<_}
 use native.Mathlib.Omega.{arith}
-use mathlib.Core.Path.{_≡_, refl, sym, ap, _∙_}
-use mathlib.Core.Bool.{cond}
+use mathlib.Core.Path.{_≡_, _∙_}
 use mathlib.Core.List.{List}
 use lib.ListN.{length, getD}
-use lib.Ieee.{Float, nan, neg}
-use Rattle.float.specs.Arith.{if_then_else_}
-use Rattle.point.specs.declared.Axis.{Axis}
+use lib.Ieee.{Float}
 use Rattle.point.specs.declared.Axis.the-variants.{X, Y, Z}
 use Rattle.grid.specs.declared.Grid.{Grid}
 use Rattle.grid.specs.Index.{cellAt, total}
 use Rattle.lists.proofs.Table.{table-at, table-same}
 use Rattle.mesh.specs.Mesh.{Mesh}
-use Rattle.run.specs.Signs.{axisAt, crossings, crossingsAt, allCrossings, twoOdd, inside, signed, signedField}
+use Rattle.run.specs.Signs.{crossings, crossingsAt, allCrossings, inside, signed, signedField}
 use Rattle.crossing.specs.Sign.{signedAt, signedBy}
 
 -- the count of cell c for each axis

@@ -1,11 +1,11 @@
 -- How far a hit reaches. A hit lies ahead and a cell has a size, so the quotient is no NaN and has no sign, and its floor is a number
 -- from 0 on. On a line of `count` cells the cell of the quotient is then the last that is at most the floor. Assumes nothing.
-use Prim.Native.Nat.{ℕ, zero, suc, _+_, _-_, _*_, _/_, _^_, _≤_, _<_, min}
+use Prim.Native.Nat.{ℕ, zero, suc, _+_, _-_, _*_, _^_, _<_, min}
 use native.Mathlib.Omega.{arith}
 use mathlib.Core.Path.{_≡_, refl, sym, ap, _∙_, subst}
-use mathlib.Core.Bool.{Bool, true, false, cond, not, _&&_, true≢false}
+use mathlib.Core.Bool.{Bool, true, false, cond, _&&_, true≢false}
 use lib.Dec.{T, leb, ltb, eqb, ltb→lt}
-use lib.IntN.{ℤ, pos, negsuc}
+use lib.IntN.{pos}
 use lib.Ieee.{Float, nan, inf, fin, binary32, ofBits, up, down, lt, le, div, round, units, odd}
 use lib.Ieee.Fits.{round-is}
 use lib.Ieee.Positive.{positive, between}

@@ -1,5 +1,5 @@
 -- A loop that adds one at places a step apart: no turn, and one turn more. The places differ, since the step is not 0. Assumes nothing.
-use Prim.Native.Nat.{ℕ, _+_, _*_, _≤_, _<_}
+use Prim.Native.Nat.{ℕ, _+_, _*_, _<_}
 use native.Mathlib.Nat.{not-suc-le-zero, mul-lt-mul-of-pos-right, eq-or-lt-of-le}
 use native.Mathlib.Decide.{ℕ-discrete}
 use native.Mathlib.Omega.{arith}
@@ -8,8 +8,7 @@ use mathlib.Core.List.{List}
 use mathlib.Core.Logic.{_⊎_, ⊎-elim}
 use lib.ListN.{length, getD, set, length-set}
 use lib.Seq.{getD-set-same, getD-set-other}
-use Rattle.lists.proofs.Table.{stored-at}
-use Rattle.crossing.specs.Words.{Within, Stepped}
+use Rattle.crossing.specs.Counts.{Stepped}
 
 pub stepped-none : (start step : ℕ) (l : List ℕ) → Stepped start step 0 l l
 stepped-none start step l = record { long = refl; on = λ j h. absurd (not-suc-le-zero h); off = λ i h. refl }

@@ -1,4 +1,4 @@
-pub mod Words
+pub mod Counts
 pub mod Lines
 pub mod Pass
 pub mod Sign

@@ -2,8 +2,8 @@
 // triangle is outside and the lines are inside, so that what depends on the triangle alone, or on the
 // triangle and one of a line's two numbers, is worked out once. The innermost loop runs over the lines of
 // a row and only tells which may be hit. It has no branch, so that it is compiled to vector code.
+use crate::counts;
 use crate::lines;
-use crate::words;
 use geo::ray;
 use geo::ray::Cast;
 use geo::ray::RayHit;
@@ -15,14 +15,14 @@ use topology::Indices;
 use topology::Topology;
 ghost use mathlib.Core.Path.{_≡_};
 ghost use mathlib.Core.Bool.{true, false};
-ghost use Prim.Native.Nat.{ℕ, _*_, _^_, _<_, _≤_};
+ghost use Prim.Native.Nat.{ℕ, _*_, _<_, _≤_};
 ghost use lib.ListN.{length, replicate};
 ghost use Rattle.grid.specs.Axes.{countOn};
 ghost use Rattle.grid.specs.Index.{total};
 ghost use Rattle.grid.specs.Bounds.{inBounds};
 ghost use Rattle.mesh.specs.Mesh.{meshOf, trianglesIn, Sound};
 ghost use Rattle.run.specs.Signs.{allCrossings};
-ghost use Rattle.crossing.specs.Words.{Room};
+ghost use Rattle.crossing.specs.Counts.{Room};
 ghost use Rattle.crossing.specs.Lines as Lines;
 ghost use Rattle.crossing.specs.Pass.{Grown, onLine, lineCrossed, rowCrossed, axisCrossed, hitOn, crossedBy, threeAt, mayHit, ahead, Across, Marked, rowHit, castHit};
 
@@ -94,7 +94,7 @@ fn add_line(grid: Grid, axis: Axis, u: u32, v: u32, last: u32, crossings: &mut [
 {
     let start = lines::entry(grid, axis, lines::cell_on(axis, 0, u, v));
     let step = lines::step(grid, axis);
-    words::add_each(crossings, start, step, last as usize + 1);
+    counts::add_each(crossings, start, step, last as usize + 1);
 }
 
 // "A hit at t adds one to that axis's count at each cell of the line whose number is at most
@@ -291,7 +291,7 @@ pub fn cross(
     requires { ⌜ length (now crossings) ≡ 3 * total grid ⌝ }
     ensures { λ _. ⌜ now (crossings .exit) ≡ allCrossings grid (meshOf (now (vertices .entry)) topology given (now (indices .entry))) ⌝ }
 {
-    words::clear(crossings);
+    counts::clear(crossings);
     let mut z0 = [0.0f32; 1024];
     let mut z1 = [0.0f32; 1024];
     let mut z2 = [0.0f32; 1024];

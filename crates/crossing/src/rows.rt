@@ -1,5 +1,5 @@
 // "Row z: how many cells of layer z have a distance less than zero" (document 01).
-use crate::words;
+use crate::counts;
 use grid::Grid;
 use point::Axis;
 ghost use mathlib.Core.Path.{_≡_};
@@ -11,7 +11,7 @@ ghost use Rattle.grid.specs.Axes.{countOn};
 ghost use Rattle.grid.specs.Index.{total};
 ghost use Rattle.grid.specs.Bounds.{inBounds};
 ghost use Rattle.run.specs.Signs as Signs;
-ghost use Rattle.crossing.specs.Words.{Room};
+ghost use Rattle.crossing.specs.Counts.{Room};
 ghost use Rattle.crossing.specs.Sign.{ColumnAdded};
 
 // What counts in a row.
@@ -29,7 +29,7 @@ fn add_column(field: &[f32], base: usize, rows: &mut [u32])
 {
     let mut z = 0;
     while z < rows.len() {
-        rows[z] += words::one_if(counted(field[base + z]));
+        rows[z] += counts::one_if(counted(field[base + z]));
         z += 1;
     }
 }
@@ -42,7 +42,7 @@ pub fn count_rows(grid: Grid, field: &[f32], rows: &mut [u32])
     requires { ⌜ length (now rows) ≡ countOn Z grid ⌝ }
     ensures { λ _. ⌜ now (rows .exit) ≡ Signs.rows grid (now (field .entry)) ⌝ }
 {
-    words::clear(rows);
+    counts::clear(rows);
     let height = grid.count_z as usize;
     let columns = (grid.count_x * grid.count_y) as usize;
     let mut k = 0;

@@ -1,7 +1,7 @@
 -- `pass::cross_marked`: the lines before v are crossed. A line that is not marked is missed, so that nothing is to be added there
 -- (`proofs/Grown.antt`, `proofs/Hits.antt`). Assumes nothing.
 use borrow.Author.Needs.{needs}
-use Prim.Native.Nat.{ℕ, _+_, _-_, _≤_, _<_}
+use Prim.Native.Nat.{ℕ, _-_, _≤_, _<_}
 use native.Mathlib.Omega.{arith}
 use mathlib.Core.Path.{_≡_, refl, sym, ap, _∙_}
 use mathlib.Core.Bool.{_&&_}

@@ -1,12 +1,12 @@
 -- `pass::cross_row`: where no line is marked every line is missed, and nothing is to be added. Assumes nothing.
 use borrow.Author.Needs.{needs}
-use Prim.Native.Nat.{ℕ, _≤_, _<_}
+use Prim.Native.Nat.{_≤_}
 use native.Mathlib.Omega.{arith}
-use mathlib.Core.Path.{_≡_, ap, _∙_, subst}
+use mathlib.Core.Path.{_≡_, ap, _∙_}
 use Rattle.grid.specs.Axes.{countOn}
 use Rattle.grid.proofs.Facts.{bounds-of, on-axis}
 use Rattle.crossing.specs.Lines.{next}
-use Rattle.crossing.specs.Pass.{Marked, threeAt, rowHit}
+use Rattle.crossing.specs.Pass.{threeAt, rowHit}
 use Rattle.crossing.proofs.Grown.{row-missed}
 use Rattle.crossing.proofs.Hits.{must-miss}
 use Rattle.crossing.proofs.pass.cross_row.Statement.{statement}

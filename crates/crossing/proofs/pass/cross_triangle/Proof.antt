@@ -1,7 +1,7 @@
 -- `pass::cross_triangle`: three growths, each of its own axis's entries (`proofs/Grown.antt`). Assumes nothing.
 use borrow.Author.Needs.{needs}
 use native.Mathlib.Omega.{arith}
-use mathlib.Core.Path.{_≡_, refl, _∙_}
+use mathlib.Core.Path.{refl, _∙_}
 use Rattle.crossing.proofs.Grown.{room-less, room-after, triangle-grown}
 use Rattle.crossing.proofs.pass.cross_triangle.Statement.{statement}
 use Rattle.crossing.proofs.pass.cross_triangle.Tie as tie

@@ -3,8 +3,8 @@ use borrow.Author.Needs.{needs}
 use Prim.Native.Nat.{ℕ, _+_, _*_, _-_, _^_, _≤_, _<_}
 use native.Mathlib.Nat.{mul-le-mul-right}
 use native.Mathlib.Omega.{arith}
-use mathlib.Core.Path.{_≡_, refl, sym, ap, _∙_, subst}
-use lib.ListN.{length, replicate}
+use mathlib.Core.Path.{_≡_, sym, ap, _∙_}
+use lib.ListN.{replicate}
 use Rattle.grid.specs.Index.{total}
 use Rattle.grid.proofs.Facts.{bounds-of, counts-fit}
 use Rattle.crossing.proofs.Columns.{Rowed, rowed-none, rowed-more, rowed-room, rowed-all}

@@ -1,15 +1,15 @@
 -- `signs::sign`: the loop fills the field from the front with the signed distances. Assumes nothing.
 use borrow.Author.Needs.{needs}
-use Prim.Native.Nat.{ℕ, _+_, _*_, _-_, _≤_, _<_}
+use Prim.Native.Nat.{_-_, _≤_}
 use native.Mathlib.Omega.{arith}
-use mathlib.Core.Path.{_≡_, refl, ap, ap₂, _∙_}
+use mathlib.Core.Path.{_≡_, refl, ap₂, _∙_}
 use mathlib.Core.Bool.{Bool}
-use lib.ListN.{length, getD}
+use lib.ListN.{length}
 use lib.Ieee.{Float, nan, neg}
 use Rattle.float.specs.Arith.{if_then_else_}
 use Rattle.lists.specs.Table.{Filled}
 use Rattle.lists.proofs.Table.{filled-none, filled-more, filled-all}
-use Rattle.crossing.specs.Sign.{insideAt, signedAt, signedBy}
+use Rattle.crossing.specs.Sign.{signedAt, signedBy}
 use Rattle.crossing.proofs.signs.sign.Statement.{statement}
 use Rattle.crossing.proofs.signs.sign.Tie as tie
 

@@ -1,12 +1,12 @@
--- `words::clear`: the loop fills the slice with 0 from the front. Assumes nothing.
+-- `counts::clear`: the loop fills the slice with 0 from the front. Assumes nothing.
 use Prim.Native.Nat.{ℕ, _-_, _≤_}
 use native.Mathlib.Omega.{arith}
 use mathlib.Core.Path.{_≡_, refl, _∙_}
 use lib.ListN.{length}
 use Rattle.lists.specs.Table.{Filled}
 use Rattle.lists.proofs.Table.{filled-none, filled-more, filled-all, table-replicate}
-use Rattle.crossing.proofs.words.clear.Statement.{statement}
-use Rattle.crossing.proofs.words.clear.Tie as tie
+use Rattle.crossing.proofs.counts.clear.Statement.{statement}
+use Rattle.crossing.proofs.counts.clear.Tie as tie
 
 abbrev zero-at : ℕ → ℕ
 zero-at k = 0

@@ -1,9 +1,9 @@
 // Small steps on lent numbers that the passes share.
 ghost use mathlib.Core.Path.{_≡_};
 ghost use mathlib.Core.Bool.{cond};
-ghost use Prim.Native.Nat.{_+_, _*_, _^_, _<_};
+ghost use Prim.Native.Nat.{_+_, _*_, _<_};
 ghost use lib.ListN.{length, replicate};
-ghost use Rattle.crossing.specs.Words.{Room, Within, Stepped};
+ghost use Rattle.crossing.specs.Counts.{Room, Within, Stepped};
 
 // Every number becomes 0.
 pub fn clear(s: &mut [u32])

@@ -1,13 +1,12 @@
--- `words::add_each`: after i turns one was added at each of the first i places (`proofs/Steps.antt`). Assumes nothing.
-use borrow.Author.Needs.{needs}
+-- `counts::add_each`: after i turns one was added at each of the first i places (`proofs/Steps.antt`). Assumes nothing.
 use Prim.Native.Nat.{ℕ, _+_, _*_, _-_, _≤_, _<_}
 use native.Mathlib.Omega.{arith}
 use mathlib.Core.Path.{_≡_, refl, subst}
 use lib.ListN.{length}
-use Rattle.crossing.specs.Words.{Stepped}
+use Rattle.crossing.specs.Counts.{Stepped}
 use Rattle.crossing.proofs.Steps.{stepped-none, stepped-more, stepped-fresh}
-use Rattle.crossing.proofs.words.add_each.Statement.{statement}
-use Rattle.crossing.proofs.words.add_each.Tie as tie
+use Rattle.crossing.proofs.counts.add_each.Statement.{statement}
+use Rattle.crossing.proofs.counts.add_each.Tie as tie
 
 abbrev Inv-loop : tie.InvT-loop
 Inv-loop s₀ start step count i₀ s i = (i ≤ count) × (length s ≡ length s₀) × Stepped start step i s₀ s
