@@ -1,0 +1,3 @@
+pub mod Job
+pub mod Refusals
+pub mod Outcome

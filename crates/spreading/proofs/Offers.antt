@@ -1,0 +1,149 @@
+-- An offer: a NaN is refused by 6, a triangle that is no nearer leaves all as it is, and a nearer one is taken and queued. The square
+-- tells a NaN, and a square that shows that no root is needed tells that the triangle is no nearer. Assumes nothing.
+use Prim.Native.Nat.{ℕ, _<_}
+use mathlib.Core.Path.{_≡_, refl, sym, ap, _∙_, subst}
+use mathlib.Core.Bool.{Bool, true, false, not}
+use mathlib.Core.List.{List}
+use lib.Dec.{T}
+use lib.ListN.{length, getD, set, length-set}
+use lib.Ieee.{Float, nan, inf, fin, isNan, ne, lt}
+use lib.Ieee.Compare.{differs-from-itself}
+use borrow.Author.Tests.{eq-eqb, ne-eqb}
+use Rattle.float.specs.Arith.{_≺_, if_then_else_}
+use Rattle.float.specs.RootOf.{rootOf}
+use Rattle.lists.specs.Turns.{Turn, goes, refuses, told}
+use Rattle.lists.proofs.Turns.{told-goes}
+use Rattle.grid.specs.declared.Grid.{Grid}
+use Rattle.grid.specs.Index.{total, cellAt}
+use Rattle.mesh.specs.Mesh.{Mesh, trianglesIn, cornersAt}
+use Rattle.queue.specs.declared.Entry.{Entry}
+use Rattle.run.specs.Run.{State, Place, off, at, none, held, entry, takes, queue, offerAt, offer, spreadTo}
+use Rattle.run.specs.Ground.{groundOf, distanceFrom}
+use Rattle.spreading.specs.declared.Progress.{Progress}
+use Rattle.spreading.specs.Told.{refusedBy, orderIn, stateOf, Known, Holds, Told, Queued}
+use Rattle.spreading.specs.Around.{placeOf, Near}
+use Rattle.spreading.proofs.Queues.{still-holds}
+
+-- ---- the test `x != x`
+
+pub is-nan : (x : Float) → ne x x ≡ true → isNan x ≡ true
+unfolding isNan
+is-nan x h = ap isNan (differs-from-itself x (subst T (sym h) tt))
+
+pub is-number : (x : Float) → ne x x ≡ false → isNan x ≡ false
+unfolding ne isNan
+is-number nan h = h
+is-number (inf s) h = refl
+is-number (fin s m e) h = refl
+
+pub no-nan : (x : Float) → isNan x ≡ false → T (not (isNan x))
+no-nan x h = subst (λ (t : Bool). T (not t)) (sym h) tt
+
+-- what is smaller than something is no NaN
+pub less-no-nan : (x y : Float) → (x ≺ y) ≡ true → T (not (isNan x))
+unfolding isNan lt
+less-no-nan nan y h = absurd (subst T (sym h) tt)
+less-no-nan (inf s) y h = tt
+less-no-nan (fin s m e) y h = tt
+
+-- a test on a value that is another
+pub not-below : {d x : Float} (h : Float) → d ≡ x → (d ≺ h) ≡ false → (x ≺ h) ≡ false
+not-below h e t = ap (λ (v : Float). v ≺ h) (sym e) ∙ t
+
+-- ---- the three ways of an offer
+
+module _ (also : Entry → State → Turn State) (k c : ℕ) (d : Float) (s : State) where
+  offer-nan : isNan d ≡ true → offerAt also k c d s ≡ refuses 6
+  unfolding offerAt
+  offer-nan n = rw n
+
+  offer-passed : isNan d ≡ false → (d ≺ held s c) ≡ false → offerAt also k c d s ≡ goes s
+  unfolding offerAt
+  offer-passed n h = rw (n, h)
+
+  offer-taken : isNan d ≡ false → (d ≺ held s c) ≡ true → offerAt also k c d s ≡ also (entry d c k) (takes c k d s)
+  unfolding offerAt
+  offer-taken n h = rw (n, h)
+
+module _ {g : Grid} {m : Mesh} {field : List Float} {names ds cs ts : List ℕ} (p : Progress) (k c : ℕ) (q : Float) where
+  pub offered-nan : Holds g m field names ds cs ts (p .waiting) → isNan (rootOf q) ≡ isNan q → ne q q ≡ true
+      → Told g m (λ any. offerAt (queue (groundOf g m (length ds) any)) k c (rootOf q) (stateOf (orderIn m) field names ds cs ts p)) field names ds cs ts (refusedBy 6 p)
+  unfolding told
+  offered-nan h a t =
+      record {
+        holds = h;
+        is = λ any. offer-nan (queue (groundOf g m (length ds) any)) k c (rootOf q) (stateOf (orderIn m) field names ds cs ts p) (a ∙ is-nan q t);
+      }
+
+  pub offered-passed : Holds g m field names ds cs ts (p .waiting) → p .number ≡ 0 → isNan (rootOf q) ≡ isNan q → ne q q ≡ false
+      → (rootOf q ≺ getD field c nan) ≡ false
+      → Told g m (λ any. offerAt (queue (groundOf g m (length ds) any)) k c (rootOf q) (stateOf (orderIn m) field names ds cs ts p)) field names ds cs ts p
+  offered-passed h z a t l =
+      let s = stateOf (orderIn m) field names ds cs ts p in
+      record {
+        holds = h;
+        is = λ any. offer-passed (queue (groundOf g m (length ds) any)) k c (rootOf q) s (a ∙ is-number q t) l ∙ sym (told-goes (p .number) s z);
+      }
+
+  pub offered-taken : {d : Float} {ds′ cs′ ts′ : List ℕ} {r : Progress} → Holds g m field names ds cs ts (p .waiting) → c < total g → k < length (trianglesIn m)
+      → isNan (rootOf q) ≡ isNan q → ne q q ≡ false → d ≡ rootOf q → (d ≺ getD field c nan) ≡ true
+      → Queued (orderIn m) (entry d c k) ds cs ts ds′ cs′ ts′ p r
+      → Told g m (λ any. offerAt (queue (groundOf g m (length ds) any)) k c (rootOf q) (stateOf (orderIn m) field names ds cs ts p)) (set field c d) (set names c k) ds′ cs′ ts′ r
+  unfolding groundOf
+  offered-taken {d} h b l a t e w j =
+      let s = stateOf (orderIn m) field names ds cs ts p in
+      record {
+        holds = still-holds h (length-set field c d) (length-set names c k) (record { cell-below = b; triangle-below = l }) j;
+        is = λ any.
+            ap (λ (v : Float). offerAt (queue (groundOf g m (length ds) any)) k c v s) (sym e)
+            ∙ offer-taken (queue (groundOf g m (length ds) any)) k c d s (ap isNan e ∙ a ∙ is-number q t) w
+            ∙ j .is (groundOf g m (length ds) any) (set field c d) (set names c k) refl refl;
+      }
+
+-- ---- the place of a step
+
+place-off : (n : ℕ) → n ≡ none → placeOf n ≡ off
+place-off n e = ap (λ (t : Bool). if t then off else at n) (eq-eqb n none e)
+
+place-at : (n : ℕ) → (n ≡ none → ⊥) → placeOf n ≡ at n
+place-at n e = ap (λ (t : Bool). if t then off else at n) (ne-eqb n none e)
+
+pub step-off : {g : Grid} {m : Mesh} {field : List Float} {names ds cs ts : List ℕ} {to : ℕ} (p : Progress) (e : Entry) → Holds g m field names ds cs ts (p .waiting) → p .number ≡ 0 → to ≡ none
+    → Told g m (λ any. spreadTo (groundOf g m (length ds) any) e (placeOf to) (stateOf (orderIn m) field names ds cs ts p)) field names ds cs ts p
+unfolding spreadTo
+step-off {g} {m} {field} {names} {ds} {cs} {ts} {to} p e h z n =
+    let s = stateOf (orderIn m) field names ds cs ts p in
+    record {
+      holds = h;
+      is = λ any. ap (λ (l : Place). spreadTo (groundOf g m (length ds) any) e l s) (place-off to n) ∙ sym (told-goes (p .number) s z);
+    }
+
+-- the cell is on the grid
+pub step-below : {g : Grid} {m : Mesh} {k to : ℕ} {q : Float} → Near g m k to q → (to ≡ none → ⊥) → to < total g
+step-below {to = to} n z = n .below to (place-at to z)
+
+pub step-at : {g : Grid} {m : Mesh} {to : ℕ} {q : Float} {field′ : List Float} {names′ ds′ cs′ ts′ : List ℕ} {r : Progress}
+    (field : List Float) (names ds cs ts : List ℕ) (p : Progress) (e : Entry) → Near g m (e .triangle) to q → (to ≡ none → ⊥)
+    → Told g m (λ any. offerAt (queue (groundOf g m (length ds) any)) (e .triangle) to (rootOf q) (stateOf (orderIn m) field names ds cs ts p)) field′ names′ ds′ cs′ ts′ r
+    → Told g m (λ any. spreadTo (groundOf g m (length ds) any) e (placeOf to) (stateOf (orderIn m) field names ds cs ts p)) field′ names′ ds′ cs′ ts′ r
+unfolding spreadTo offer groundOf
+step-at {g} {m} {to} field names ds cs ts p e n z t =
+    let s = stateOf (orderIn m) field names ds cs ts p in
+    record {
+      holds = t .holds;
+      is = λ any.
+          ap (λ (l : Place). spreadTo (groundOf g m (length ds) any) e l s) (place-at to z)
+          ∙ ap (λ (v : Float). offerAt (queue (groundOf g m (length ds) any)) (e .triangle) to v s) (sym (n .root to (place-at to z)))
+          ∙ t .is any;
+    }
+
+-- the place is where step j leads
+pub step-around : {g : Grid} {m : Mesh} {field′ : List Float} {names′ ds′ cs′ ts′ : List ℕ} {r : Progress} {p q : Place}
+    (e : Entry) (field : List Float) (names ds cs ts : List ℕ) (r₀ : Progress) → p ≡ q
+    → Told g m (λ any. spreadTo (groundOf g m (length ds) any) e p (stateOf (orderIn m) field names ds cs ts r₀)) field′ names′ ds′ cs′ ts′ r
+    → Told g m (λ any. spreadTo (groundOf g m (length ds) any) e q (stateOf (orderIn m) field names ds cs ts r₀)) field′ names′ ds′ cs′ ts′ r
+step-around {g} {m} e field names ds cs ts r₀ w t =
+    record {
+      holds = t .holds;
+      is = λ any. ap (λ (l : Place). spreadTo (groundOf g m (length ds) any) e l (stateOf (orderIn m) field names ds cs ts r₀)) (sym w) ∙ t .is any;
+    }
