@@ -3,3 +3,4 @@ pub mod Neighbours
 pub mod Values
 pub mod Exact
 pub mod Cells
+pub mod Theorem

@@ -1,3 +1,4 @@
 pub mod States
 pub mod Offered
 pub mod Meaning
+pub mod Demand3

@@ -1,0 +1,72 @@
+-- Demand 3. Where a job is answered Done the five checks before the run have passed, so what the run is told is fair, and the run has
+-- gone to its end; the buffers are then filled from its last state, and Cells.antt says what they hold. Assumes nothing.
+use Prim.Native.Nat.{ℕ, zero, suc, _≤_, _<_}
+use native.Mathlib.Omega.{arith}
+use mathlib.Core.Path.{_≡_, refl}
+use mathlib.Core.Bool.{Bool, true, false, cond}
+use lib.ListN.{length}
+use borrow.Author.Tests.{ltb-false, not-false}
+use Rattle.lists.specs.Turns.{Turn, goes, refuses}
+use Rattle.point.specs.declared.Axis.{Axis}
+use Rattle.grid.specs.Axes.{countOn}
+use Rattle.grid.proofs.Facts.{bounds-of, on-axis}
+use Rattle.mesh.specs.Mesh.{trianglesIn}
+use Rattle.run.specs.Run.{State, none}
+use Rattle.generate.specs.declared.Answer.the-variants.{Refused, Done}
+use Rattle.generate.specs.Job.{Job, Lent}
+use Rattle.generate.specs.Refusals.{wrongGrid, wrongVertices, wrongTriangles, refusal, refusalBy}
+use Rattle.generate.specs.Outcome.{filled, ended, runOf, unlessRefused, outcome}
+use Rattle.offered.specs.Demand3.{Demand3}
+use Rattle.offered.proofs.Cells.{run-means}
+
+-- ---- a job answered Done
+
+pub record Ended (j : Job) (b : Lent) : Type 0 where
+  pub last : State
+  pub passed : refusal j b ≡ 0
+  pub ran : runOf j b ≡ goes last
+  pub fills : outcome j b .left ≡ filled j last b
+
+refused-done : (n pops peak : ℕ) → Refused n ≡ Done pops peak → ⊥
+refused-done n pops peak e = let z : _≡_ {A = ℕ} 0 1 = cc in omega arith
+
+done-ended : (j : Job) (b : Lent) (pops peak : ℕ) → outcome j b .answer ≡ Done pops peak → Ended j b
+unfolding outcome unlessRefused ended
+done-ended j b pops peak h = check (refusal j b) refl h
+  where
+    turn : (o : Turn State) → refusal j b ≡ 0 → runOf j b ≡ o → ended j b o .answer ≡ Done pops peak → Ended j b
+    turn (goes s) r e w = record { last = s; passed = r; ran = e; fills = rw (r, e) }
+    turn (refuses n) r e w = absurd (refused-done n pops peak w)
+
+    check : (n : ℕ) → refusal j b ≡ n → unlessRefused n b (ended j b (runOf j b)) .answer ≡ Done pops peak → Ended j b
+    check zero e w = turn (runOf j b) e refl w
+    check (suc n) e w = absurd (refused-done (suc n) pops peak w)
+
+-- ---- what the checks have shown
+
+first-passed : (t : Bool) (n rest : ℕ) → cond t (suc n) rest ≡ 0 → (t ≡ false) × (rest ≡ 0)
+first-passed true n rest e = absurd (omega arith)
+first-passed false n rest e = (refl, e)
+
+pub record Passed (j : Job) : Type 0 where
+  pub some : (a : Axis) → 0 < countOn a (j .grid)
+  pub few : length (trianglesIn (j .mesh)) ≤ none
+
+checks-passed : (j : Job) (b : Lent) → refusal j b ≡ 0 → Passed j
+unfolding refusalBy
+checks-passed j b h =
+    let one = first-passed (wrongGrid (j .grid)) 0 _ h in
+    let two = first-passed (wrongVertices (j .mesh .vertices)) 1 _ (one .1) in
+    let three = first-passed (wrongTriangles (j .mesh)) 2 _ (two .1) in
+    record {
+      some = λ a. on-axis (bounds-of (j .grid) (not-false _ (one .0))) a .some;
+      few = omega (arith, ltb-false 131072 (length (trianglesIn (j .mesh))) (three .0));
+    }
+
+-- ---- the theorem
+
+pub demand-3 : (j : Job) (b : Lent) → Demand3 j b
+demand-3 j b pops peak h c v =
+    let E = done-ended j b pops peak h in
+    let p = checks-passed j b (E .passed) in
+    rw (E .fills) (run-means (j .grid) (j .mesh) (length (b .distances)) (j .limit) (p .some) (p .few) (E .last) (E .ran) c v)

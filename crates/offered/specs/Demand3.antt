@@ -1,0 +1,22 @@
+-- Demand 3, of the outcome that the public job's contract names: for every job answered Done, with no other condition, and for each
+-- cell of its grid. Definitions only; proofs/Theorem.antt shows that it holds.
+use Prim.Native.Nat.{ℕ}
+use mathlib.Core.Path.{_≡_}
+use lib.ListN.{length}
+use Rattle.grid.specs.declared.Cell.{Cell}
+use Rattle.grid.specs.Index.{Inside}
+use Rattle.run.specs.Run.{Ground}
+use Rattle.run.specs.Ground.{groundOf}
+use Rattle.generate.specs.declared.Answer.the-variants.{Done}
+use Rattle.generate.specs.Job.{Job, Lent}
+use Rattle.generate.specs.Outcome.{outcome}
+use Rattle.offered.specs.Meaning.{CellMeans}
+
+-- what the run of a job is told: the queue's room is the length of the lent queue
+abbrev pub groundFor : Job → Lent → Ground
+groundFor j b = groundOf (j .grid) (j .mesh) (length (b .distances)) (j .limit)
+
+abbrev pub Demand3 : Job → Lent → Type 0
+Demand3 j b =
+    (pops peak : ℕ) → outcome j b .answer ≡ Done pops peak → (c : Cell) → Inside (j .grid) c
+    → CellMeans (j .grid) (j .mesh) (groundFor j b) (outcome j b .left .field) (outcome j b .left .names) (outcome j b .left .crossings) c
