@@ -1,0 +1,17 @@
+-- `c::distance_answer`: by the answer's case. Assumes nothing.
+use borrow.Author.Needs.{needs}
+use Rattle.sdf.specs.C.{distance}
+use Rattle.sdf.proofs.c.distance_answer.Statement.{statement}
+use Rattle.sdf.proofs.c.distance_answer.Tie as tie
+
+pub distance-answer-spec : {M : Type 1} → statement M
+unfolding distance
+distance-answer-spec =
+    tie.close
+    (tie.spec
+    (λ c. search needs)
+    (λ c. search needs)
+    (λ c. search needs)
+    (λ c. cc)
+    (λ c. cc)
+    (λ c. cc))

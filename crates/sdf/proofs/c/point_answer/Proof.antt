@@ -1,0 +1,17 @@
+-- `c::point_answer`: by the answer's case. Assumes nothing.
+use borrow.Author.Needs.{needs}
+use Rattle.sdf.specs.C.{point}
+use Rattle.sdf.proofs.c.point_answer.Statement.{statement}
+use Rattle.sdf.proofs.c.point_answer.Tie as tie
+
+pub point-answer-spec : {M : Type 1} → statement M
+unfolding point
+point-answer-spec =
+    tie.close
+    (tie.spec
+    (λ c. search needs)
+    (λ c κs. tt)
+    (λ c. search needs)
+    (λ c κs. tt)
+    (λ c. cc)
+    (λ c. rw (c .before .before .a2 .given .1, c .point-out .ensures)))

@@ -1,0 +1,56 @@
+// The public face of the port: this is what users call. No function of it has a `requires`: what is out
+// of bounds is refused, by a number of document 01. The crates below it are its parts.
+//
+//   questions              the grid, the geometry, the comparison and the root asked by themselves
+//   c, c_grid, c_geometry  the same for C: functions `sdf_..` and the records that they hand over
+mod c;
+mod c_geometry;
+mod c_grid;
+mod questions;
+
+// ---- what is asked about, and answered with
+
+pub use distances::Comparison;
+pub use distances::Order;
+pub use geo::RayHit;
+pub use geo::TriangleBox;
+pub use geo::asked::BoxAnswer as TriangleBoxAnswer;
+pub use geo::asked::DistanceAnswer;
+pub use geo::asked::PointAnswer as ClosestPointAnswer;
+pub use geo::asked::RayAnswer;
+pub use grid::BoundingBox;
+pub use grid::Cell;
+pub use grid::Counts;
+pub use grid::Grid;
+pub use grid::SnapResult;
+pub use grid::asked::BoxAnswer as GridBoxAnswer;
+pub use grid::asked::CellAnswer;
+pub use grid::asked::CountsAnswer;
+pub use grid::asked::GridAnswer;
+pub use grid::asked::NumberAnswer;
+pub use grid::asked::PointAnswer as GridPointAnswer;
+pub use grid::asked::SnapAnswer;
+pub use point::Axis;
+pub use point::Point;
+
+// ---- the questions
+
+pub use questions::closest_point_segment;
+pub use questions::closest_point_triangle;
+pub use questions::compare;
+pub use questions::from_bounding_box;
+pub use questions::get_bounding_box;
+pub use questions::get_cell_center;
+pub use questions::get_cell_count;
+pub use questions::get_cell_idx;
+pub use questions::get_cell_integer_coordinates;
+pub use questions::get_cell_size;
+pub use questions::get_first_cell;
+pub use questions::get_last_cell;
+pub use questions::get_total_cell_count;
+pub use questions::point_triangle_distance;
+pub use questions::ray_triangle_intersection_aligned;
+pub use questions::snap_point_to_grid;
+pub use questions::sqrt;
+pub use questions::sqrt_bits;
+pub use questions::triangle_bounding_box;

@@ -1,0 +1,156 @@
+//! compare-steps N SEED: each step of the port held to the unmodified Rust, bit for bit, on N inputs of each kind.
+//! Prints what was met and the first difference of each step and kind; ends with 1 if there was any. Then the time of
+//! a distance and of a ray test, the port's and the Rust's.
+
+mod inputs;
+mod port;
+#[path = "../generator/random.rs"]
+#[allow(dead_code)]
+mod random;
+mod steps;
+
+use inputs::{kinds, Kind};
+use port::PORT;
+use random::Random;
+use std::hint::black_box;
+use std::time::Instant;
+use steps::{bare_distance, bare_ray, number, Step, IN, OUT, STEPS};
+
+/// The answers met, by document 01's number.
+#[derive(Default)]
+struct Met {
+    given: u64,
+    /// Of these, the hits of a ray and the points inside a grid.
+    hits: u64,
+    refused: [u64; 7],
+    differences: u64,
+}
+
+impl Met {
+    fn add(&mut self, other: &Met) {
+        self.given += other.given;
+        self.hits += other.hits;
+        self.differences += other.differences;
+        for (sum, x) in self.refused.iter_mut().zip(other.refused) {
+            *sum += x;
+        }
+    }
+}
+
+fn hex(words: &[u32]) -> String {
+    words.iter().map(|w| format!("{w:08x}")).collect::<Vec<_>>().join(" ")
+}
+
+/// A NaN has one pattern in the port's text, and any in a float that it returns.
+fn settled(step: &Step, mut out: [u32; OUT]) -> [u32; OUT] {
+    if step.name == "sqrt" && f32::from_bits(out[0]).is_nan() {
+        out[0] = 0x7fc0_0000;
+    }
+    out
+}
+
+fn hold(step: &Step, kind: &Kind, n: u64, r: &mut Random) -> Met {
+    let ask = PORT[number(step.name)];
+    let mut met = Met::default();
+    let mut words = [0; IN];
+    for _ in 0..n {
+        (kind.fill)(r, &mut words);
+        let (mut owed, mut got) = ([0; OUT], [0; OUT]);
+        (step.owed)(&words, &mut owed);
+        ask(&words, &mut got);
+        let got = settled(step, got);
+        if owed != got {
+            if met.differences == 0 {
+                let given = hex(&words[..step.takes]);
+                println!("difference {} {}: {given}", step.name, kind.name);
+                println!("  owed {}", hex(&owed[..step.gives]));
+                println!("  got  {}", hex(&got[..step.gives]));
+            }
+            met.differences += 1;
+        }
+        match owed[0] {
+            k @ 1..=6 if step.gives > 1 => met.refused[k as usize] += 1,
+            _ => met.given += 1,
+        }
+        met.hits += u64::from(owed[1] == 1 && ["ray", "grid_snap"].contains(&step.name));
+    }
+    met
+}
+
+fn line(step: &str, kind: &str, n: u64, met: &Met) {
+    let [a, b, c, d] = [1, 2, 4, 6].map(|k| met.refused[k]);
+    let (given, hits, differ) = (met.given, met.hits, met.differences);
+    println!("{step:16} {kind:20} {n:>10} {given:>10} {hits:>9} {a:>9} {b:>9} {c:>9} {d:>9} {differ:>6}");
+}
+
+fn compare(n: u64, seed: u64) -> u64 {
+    println!("step             kind                     inputs      given  hit/in. refused 1         2         4         6 differ");
+    let mut differences = 0;
+    for (s, step) in STEPS.iter().enumerate() {
+        let mut all = Met::default();
+        let of = kinds(step.name);
+        for (k, kind) in of.iter().enumerate() {
+            let mut r = Random::new(seed ^ ((s as u64) << 40) ^ ((k as u64) << 48), 0);
+            let met = hold(step, kind, n, &mut r);
+            line(step.name, kind.name, n, &met);
+            all.add(&met);
+        }
+        line(step.name, "(all)", n * of.len() as u64, &all);
+        differences += all.differences;
+    }
+    differences
+}
+
+/// The least time of a call in nanoseconds, of nine passes over the inputs.
+fn time(inputs: &[[u32; IN]], mut call: impl FnMut(&[u32; IN])) -> f64 {
+    let mut least = f64::INFINITY;
+    for _ in 0..9 {
+        let begun = Instant::now();
+        for words in inputs {
+            call(black_box(words));
+        }
+        least = least.min(begun.elapsed().as_nanos() as f64 / inputs.len() as f64);
+    }
+    least
+}
+
+fn measure(seed: u64) {
+    println!("\nns a call        kind                       port   the Rust  with the bounds tested");
+    for (step, of) in [("distance", ["fine", "scan"]), ("ray", ["fine", "scan"])] {
+        for kind in kinds(step).iter().filter(|k| of.contains(&k.name)) {
+            let mut r = Random::new(seed, 0);
+            let mut inputs = vec![[0; IN]; 20_000];
+            inputs.iter_mut().for_each(|words| (kind.fill)(&mut r, words));
+            let ask = PORT[number(step)];
+            let port = time(&inputs, |words| {
+                let mut out = [0; OUT];
+                ask(words, &mut out);
+                black_box(out);
+            });
+            let rust = match step {
+                "distance" => time(&inputs, |words| {
+                    black_box(bare_distance(words));
+                }),
+                _ => time(&inputs, |words| {
+                    black_box(bare_ray(words));
+                }),
+            };
+            let owed = STEPS[number(step)].owed;
+            let tested = time(&inputs, |words| {
+                let mut out = [0; OUT];
+                owed(words, &mut out);
+                black_box(out);
+            });
+            println!("{step:16} {:20} {port:>10.1} {rust:>10.1} {tested:>10.1}", kind.name);
+        }
+    }
+}
+
+fn main() {
+    let numbers: Vec<u64> = std::env::args().skip(1).map(|a| a.parse().expect("a number")).collect();
+    let [n, seed] = numbers[..] else { panic!("compare-steps N SEED") };
+    let differences = compare(n, seed);
+    measure(seed);
+    println!("\n{differences} differences");
+    std::process::exit(i32::from(differences != 0));
+}
