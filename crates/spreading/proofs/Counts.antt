@@ -7,12 +7,12 @@ use mathlib.Core.Bool.{Bool, true, false, cond}
 use mathlib.Core.List.{List, [], _∷_}
 use lib.Dec.{ltb}
 use lib.ListN.{length}
-use lib.Ieee.{Float, isNan}
-use Rattle.float.specs.Arith.{_≺_}
-use Rattle.lists.specs.Turns.{Turn, goes, refuses, andThen}
+use lib.Ieee.{isNan}
+use Rattle.float.specs.Arith.{_≺_, fMax}
+use Rattle.lists.specs.Turns.{Turn, goes, refuses}
 use Rattle.lists.proofs.Turns.{turns-keep, then-went}
 use Rattle.queue.specs.declared.Entry.{Entry}
-use Rattle.run.specs.Run.{Ground, State, Place, off, at, held, takes, queue, offerAt, offer, spreadTo, spreadAround, taken, takeFirst}
+use Rattle.run.specs.Run.{Ground, State, Place, off, at, held, takes, queue, queueCell, queueing, offerAt, offer, spreadTo, spreadAround, taken, takeFirst}
 
 -- where the turn goes on, so many pops were taken
 abbrev Counts : ℕ → Turn State → Type 0
@@ -34,6 +34,15 @@ either false x y p q = q
 queue-counts : (g : Ground) (e : Entry) (s : State) → Counts (s .pops) (queue g e s)
 unfolding queue
 queue-counts g e s = either (ltb (length (s .waiting)) (g .room)) _ _ (if-goes _ refl) (if-refuses 7)
+
+cell-counts : (g : Ground) (c : ℕ) (s : State) → Counts (s .pops) (queueCell g c s)
+unfolding queueCell
+cell-counts g c s = either (held s c ≺ fMax) _ _ (queue-counts g _ s) (if-goes s refl)
+
+-- queueing takes nothing
+pub queueing-counts : (g : Ground) (s : State) → Counts (s .pops) (queueing g s)
+unfolding queueing
+queueing-counts g s t h = turns-keep (queueCell g) (λ i u. u .pops ≡ s .pops) (g .cells) s t refl (λ i u v l p w. cell-counts g i u v w ∙ p) h
 
 to-counts : (g : Ground) (e : Entry) (p : Place) (s : State) → Counts (s .pops) (spreadTo g e p s)
 unfolding spreadTo offer offerAt

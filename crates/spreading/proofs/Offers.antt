@@ -21,7 +21,7 @@ use Rattle.run.specs.Run.{State, Place, off, at, none, held, entry, takes, queu
 use Rattle.run.specs.Ground.{groundOf}
 use Rattle.run.specs.Steps.{aroundCell}
 use Rattle.spreading.specs.declared.Progress.{Progress}
-use Rattle.spreading.specs.Told.{refusedBy, orderIn, stateOf, Known, Holds, Told, Queued}
+use Rattle.spreading.specs.Told.{refusedBy, orderIn, stateOf, Holds, Told, Queued}
 use Rattle.spreading.specs.Around.{placeOf, Near}
 use Rattle.spreading.proofs.Queues.{still-holds}
 

@@ -1,36 +1,32 @@
 -- The table of steps in numbers says what `steps` says, and a step from a cell of the grid leads to the place that `stepFrom` names.
 -- The table's rule is one law over any list of steps. Assumes nothing.
-use Prim.Native.Nat.{ℕ, zero, suc, _+_, _-_, _*_, _≤_, _<_, _^_}
-use native.Mathlib.Nat.{not-suc-le-zero, le-of-suc-le-suc, lt-of-lt-of-le}
+use Prim.Native.Nat.{ℕ, zero, suc, _+_, _*_, _/_, _%_, _^_, _≤_, _<_}
+use native.Mathlib.Nat.{not-suc-le-zero, le-of-suc-le-suc}
 use native.Mathlib.Omega.{arith}
 use mathlib.Core.Path.{_≡_, refl, sym, ap, _∙_, subst}
-use mathlib.Core.Bool.{Bool, true, false, true≢false}
+use mathlib.Core.Bool.{Bool, true, false}
 use mathlib.Core.List.{List, [], _∷_}
-use lib.Dec.{ltb}
 use lib.ListN.{length, getD}
 use lib.Ieee.{Float, nan, isNan}
 use borrow.Author.Tests.{ltb-true, eq-eqb, ne-eqb}
 use Rattle.float.specs.Arith.{if_then_else_}
 use Rattle.float.specs.RootOf.{rootOf}
-use Rattle.point.specs.declared.Point.{Point}
 use Rattle.point.specs.declared.Axis.{Axis}
 use Rattle.point.specs.declared.Axis.the-variants.{X, Y, Z}
-use Rattle.point.specs.Point.{vec}
 use Rattle.lists.specs.Table.{table}
 use Rattle.lists.proofs.Table.{length-table, table-at}
 use Rattle.grid.specs.declared.Grid.{Grid}
 use Rattle.grid.specs.declared.Cell.{Cell}
 use Rattle.grid.specs.Axes.{countOn, cellOn, cell, cellBy, onEvery}
-use Rattle.grid.specs.Index.{Within, Inside, indexOf, cellAt, total}
+use Rattle.grid.specs.Index.{Inside, indexOf, cellAt, total}
 use Rattle.grid.specs.Bounds.{inBounds}
 use Rattle.grid.specs.Place.{centreOf}
 use Rattle.grid.proofs.Laws.{index-below, cell-of-index, cell-within}
 use Rattle.grid.proofs.Facts.{each, bounds-of}
 use Rattle.geo.specs.declared.closest.Facet.{Facet}
 use Rattle.geo.specs.Closest.{facetOf}
-use Rattle.geo.specs.Distance.{squaredOn, squaredAt, distanceOn, Squares}
+use Rattle.geo.specs.Distance.{squaredOn, distanceOn, Squares}
 use Rattle.geo.proofs.Laws.{nan-alike}
-use Rattle.mesh.specs.declared.Corners.{Corners}
 use Rattle.mesh.specs.Mesh.{Mesh, trianglesIn, cornersAt}
 use Rattle.queue.specs.declared.Entry.{Entry}
 use Rattle.run.specs.Run.{Place, off, at, none}
@@ -38,42 +34,41 @@ use Rattle.run.specs.Ground.{distanceFrom}
 use Rattle.run.specs.Steps.{Shift, back, stay, ahead, Step, shiftOn, steps, stepAt, shifted, staysOn, stepFrom, aroundCell}
 use Rattle.spreading.specs.declared.around.Spot.{Spot}
 use Rattle.spreading.specs.Told.{Known}
-use Rattle.spreading.specs.Around.{codeOf, shiftOf, stepOf, codes, placeOf, spotOf, Gathered, Near, Around}
+use Rattle.spreading.specs.Around.{digitOf, codeOf, shiftOf, stepOf, codes, placeOf, spotOf, Gathered, Around}
 
 -- ---- the table's rule
 
+-- three digits, each of which can be read
+digit-small : (s : Shift) → digitOf s ≤ 2
+digit-small back = omega arith
+digit-small stay = omega arith
+digit-small ahead = omega arith
+
+shift-digit : (s : Shift) → shiftOf (digitOf s) ≡ s
+shift-digit back = refl
+shift-digit stay = refl
+shift-digit ahead = refl
+
+x-digit : (x y z : ℕ) → y ≤ 2 → z ≤ 2 → (x * 256 + y * 16 + z) / 256 ≡ x
+x-digit x y z b c = omega arith
+
+y-digit : (x y z : ℕ) → y ≤ 2 → z ≤ 2 → (x * 256 + y * 16 + z) / 16 % 16 ≡ y
+y-digit x y z b c = omega arith
+
+z-digit : (x y z : ℕ) → z ≤ 2 → (x * 256 + y * 16 + z) % 16 ≡ z
+z-digit x y z c = omega arith
+
 -- a step in numbers, and back
 step-code : (s : Step) → stepOf (codeOf s) ≡ s
-step-code s = go (s .x) (s .y) (s .z)
-  where
-    go : (x y z : Shift) → stepOf (codeOf (record { x = x; y = y; z = z })) ≡ record { x = x; y = y; z = z }
-    go back back back = refl
-    go back back stay = refl
-    go back back ahead = refl
-    go back stay back = refl
-    go back stay stay = refl
-    go back stay ahead = refl
-    go back ahead back = refl
-    go back ahead stay = refl
-    go back ahead ahead = refl
-    go stay back back = refl
-    go stay back stay = refl
-    go stay back ahead = refl
-    go stay stay back = refl
-    go stay stay stay = refl
-    go stay stay ahead = refl
-    go stay ahead back = refl
-    go stay ahead stay = refl
-    go stay ahead ahead = refl
-    go ahead back back = refl
-    go ahead back stay = refl
-    go ahead back ahead = refl
-    go ahead stay back = refl
-    go ahead stay stay = refl
-    go ahead stay ahead = refl
-    go ahead ahead back = refl
-    go ahead ahead stay = refl
-    go ahead ahead ahead = refl
+step-code s =
+    let a = digitOf (s .x) in
+    let b = digitOf (s .y) in
+    let c = digitOf (s .z) in
+    λ i. record {
+      x = (ap shiftOf (x-digit a b c (digit-small (s .y)) (digit-small (s .z))) ∙ shift-digit (s .x)) i;
+      y = (ap shiftOf (y-digit a b c (digit-small (s .y)) (digit-small (s .z))) ∙ shift-digit (s .y)) i;
+      z = (ap shiftOf (z-digit a b c (digit-small (s .z))) ∙ shift-digit (s .z)) i;
+    }
 
 read-codes : (l : List Step) (d : Step) (j : ℕ) → j < length l → stepOf (getD (codes l) j 0) ≡ getD l j d
 read-codes [] d j h = absurd (not-suc-le-zero h)

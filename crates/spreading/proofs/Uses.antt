@@ -1,12 +1,12 @@
--- What a caller cites: a run that has taken nothing yet, over a queue that holds nothing, and that a run which ends with 0 leaves the
--- queue all zero. Assumes nothing.
+-- What a caller cites: a run that has taken nothing yet, over a queue that holds nothing; that queueing takes nothing; and that a run
+-- which ends with 0 leaves the queue all zero. Assumes nothing.
 use Prim.Native.Nat.{ℕ, zero, suc}
 use native.Mathlib.Omega.{arith}
 use mathlib.Core.Path.{_≡_, refl, sym, ap, _∙_, subst}
 use mathlib.Core.List.{List, [], _∷_, List·Memᴰ, List·Memᴰ·not-nil}
 use lib.ListN.{length, replicate}
 use lib.Ieee.{Float}
-use Rattle.lists.specs.Turns.{Turn, goes, refuses, andThen}
+use Rattle.lists.specs.Turns.{goes, refuses}
 use Rattle.lists.proofs.Turns.{then-went, told-goes}
 use Rattle.grid.specs.declared.Grid.{Grid}
 use Rattle.grid.specs.Index.{total}
@@ -14,10 +14,11 @@ use Rattle.mesh.specs.Mesh.{Mesh}
 use Rattle.queue.specs.declared.Entry.{Entry}
 use Rattle.queue.specs.Queue.{Held, waiting}
 use Rattle.queue.proofs.Uses.{none-waits, how-many, left-zero}
-use Rattle.run.specs.Run.{Ground, State, taken, spreadAround, takeFirst, mayStop, spreading}
+use Rattle.run.specs.Run.{Ground, State, taken, spreadAround, takeFirst, mayStop, queueing, spreading}
 use Rattle.run.specs.Ground.{groundOf}
 use Rattle.spreading.specs.declared.Progress.{Progress}
 use Rattle.spreading.specs.Told.{orderIn, stateOf, Holds, Told}
+use Rattle.spreading.proofs.Counts.{queueing-counts}
 
 -- ---- at first
 
@@ -32,6 +33,15 @@ pub fresh-holds : {g : Grid} {m : Mesh} {field : List Float} {names ds cs ts : L
     → Holds g m field names ds cs ts 0
 fresh-holds {m = m} {ds = ds} {cs} {ts} f n h =
     record { field-long = f; names-long = n; held = h; known = λ e i. absurd (List·Memᴰ·not-nil (subst (List·Memᴰ e) (none-waits (orderIn m) ds cs ts) i)) }
+
+-- ---- between the two steps
+
+-- queueing takes nothing, so that spreading begins with no pops
+pub queued-pops : {g : Grid} {m : Mesh} {field field′ : List Float} {names ds cs ts names′ ds′ cs′ ts′ : List ℕ} {at r : Progress}
+    → Told g m queueing field names ds cs ts at field′ names′ ds′ cs′ ts′ r → r .number ≡ 0 → r .pops ≡ at .pops
+queued-pops {g} {m} {field} {field′} {names} {ds} {cs} {ts} {names′} {ds′} {cs′} {ts′} {at} {r} t z =
+    let s′ = stateOf (orderIn m) field′ names′ ds′ cs′ ts′ r in
+    queueing-counts (groundOf g m (length ds) 0) (stateOf (orderIn m) field names ds cs ts at) s′ (t .is 0 ∙ told-goes (r .number) s′ z)
 
 -- ---- at the end
 

@@ -1,9 +1,8 @@
 -- `gather`: after j turns the first j entries of each list are those of the first j steps. Assumes nothing.
-use Prim.Native.Nat.{ℕ, _-_, _≤_, _<_}
+use Prim.Native.Nat.{ℕ, _-_, _≤_}
 use native.Mathlib.Omega.{arith}
-use mathlib.Core.Path.{_≡_, refl, sym, ap, _∙_}
-use lib.ListN.{length}
-use lib.Ieee.{Float, nan}
+use mathlib.Core.Path.{_≡_, sym, ap, _∙_}
+use lib.Ieee.{nan}
 use Rattle.point.specs.declared.Point.{Point}
 use Rattle.lists.specs.Table.{Filled}
 use Rattle.lists.proofs.Table.{filled-none, filled-more, filled-all}

@@ -1,7 +1,6 @@
 -- `look_around`: what is gathered from the entry's cell, and the squares for its triangle. Assumes nothing.
 use borrow.Author.Needs.{needs}
-use native.Mathlib.Omega.{arith}
-use mathlib.Core.Path.{_≡_, refl, sym, ap, _∙_}
+use mathlib.Core.Path.{refl, sym, ap, _∙_}
 use Rattle.grid.proofs.Laws.{cell-within}
 use Rattle.geo.specs.Closest.{facetOf}
 use Rattle.mesh.specs.declared.Corners.{Corners}

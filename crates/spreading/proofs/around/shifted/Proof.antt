@@ -1,7 +1,6 @@
 -- `shifted`: each number of the table is the shift that it stands for, and a shift back is made above 0. Assumes nothing.
 use borrow.Author.Needs.{needs}
 use native.Mathlib.Omega.{arith}
-use mathlib.Core.Path.{_≡_}
 use borrow.Author.Tests.{ltb-true}
 use Rattle.spreading.proofs.Steps.{shift-ahead}
 use Rattle.spreading.proofs.around.shifted.Statement.{statement}

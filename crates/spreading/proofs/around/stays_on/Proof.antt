@@ -1,6 +1,5 @@
 -- `stays_on`: each number of the table is the shift that it stands for. Assumes nothing.
 use borrow.Author.Needs.{needs}
-use mathlib.Core.Path.{_≡_}
 use Rattle.spreading.proofs.Steps.{shift-ahead}
 use Rattle.spreading.proofs.around.stays_on.Statement.{statement}
 use Rattle.spreading.proofs.around.stays_on.Tie as tie

@@ -1,11 +1,10 @@
 -- `step_from`: the three tests are the test of a step, and the three shifts its cell. Assumes nothing.
-use borrow.Author.Needs.{needs}
-use mathlib.Core.Path.{_≡_, refl, sym, ap, _∙_}
-use mathlib.Core.Bool.{Bool, true, false}
+use mathlib.Core.Path.{_≡_, sym, ap, _∙_}
+use mathlib.Core.Bool.{true, false}
 use Rattle.point.specs.declared.Axis.the-variants.{X, Y, Z}
 use Rattle.grid.specs.declared.Cell.{Cell}
 use Rattle.grid.specs.Axes.{countOn, cellOn}
-use Rattle.grid.specs.Index.{Inside, indexOf}
+use Rattle.grid.specs.Index.{indexOf}
 use Rattle.grid.proofs.Facts.{each}
 use Rattle.run.specs.Steps.{Step, shiftOn, staysOn}
 use Rattle.spreading.specs.Around.{stepOf}

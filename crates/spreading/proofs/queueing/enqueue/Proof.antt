@@ -1,7 +1,5 @@
 -- `enqueue`: the room is full, or `push` puts the entry in. Assumes nothing.
 use borrow.Author.Needs.{needs}
-use native.Mathlib.Omega.{arith}
-use mathlib.Core.Path.{_≡_}
 use Rattle.spreading.proofs.Queues.{full, put-in}
 use Rattle.spreading.proofs.queueing.enqueue.Statement.{statement}
 use Rattle.spreading.proofs.queueing.enqueue.Tie as tie

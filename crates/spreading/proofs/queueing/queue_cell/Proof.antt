@@ -1,7 +1,6 @@
 -- `queue_cell`: the test is the definition's, and the entry is what the cell holds. Assumes nothing.
 use borrow.Author.Needs.{needs}
 use native.Mathlib.Omega.{arith}
-use mathlib.Core.Path.{_≡_}
 use Rattle.spreading.proofs.Offers.{less-no-nan}
 use Rattle.spreading.proofs.Queues.{cell-small, cell-passed, cell-queued}
 use Rattle.spreading.proofs.queueing.queue_cell.Statement.{statement}

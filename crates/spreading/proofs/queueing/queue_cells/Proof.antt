@@ -1,7 +1,7 @@
 -- `queue_cells`: the loop's turns are those of `queueing`. Assumes nothing.
 use Prim.Native.Nat.{ℕ, _-_, _≤_, _<_}
 use native.Mathlib.Omega.{arith}
-use mathlib.Core.Path.{_≡_, refl, subst}
+use mathlib.Core.Path.{subst}
 use lib.ListN.{length}
 use Rattle.grid.specs.Index.{total}
 use Rattle.mesh.specs.Mesh.{meshOf}

@@ -1,7 +1,5 @@
 -- `offer`: the tests on the square and on the root are those of an offer. Assumes nothing.
 use borrow.Author.Needs.{needs}
-use native.Mathlib.Omega.{arith}
-use mathlib.Core.Path.{_≡_}
 use Rattle.spreading.proofs.Offers.{less-no-nan, not-below, offered-nan, offered-passed, offered-taken}
 use Rattle.spreading.proofs.spreading.offer.Statement.{statement}
 use Rattle.spreading.proofs.spreading.offer.Tie as tie

@@ -1,8 +1,6 @@
 -- `offer_around`: the loop's turns are those of `spreadAround`. Assumes nothing.
-use Prim.Native.Nat.{ℕ, _-_, _≤_, _<_}
+use Prim.Native.Nat.{ℕ, _-_, _≤_}
 use native.Mathlib.Omega.{arith}
-use mathlib.Core.Path.{_≡_, refl}
-use lib.ListN.{length}
 use Rattle.lists.specs.Turns.{Turn}
 use Rattle.grid.specs.declared.Grid.{Grid}
 use Rattle.mesh.specs.Mesh.{meshOf}
@@ -34,7 +32,7 @@ offer-to-requires : tie.Need-offer-to-requires Inv-loop μ-loop
 offer-to-requires c κs =
     let s = c .before .before .before .before .before .before .before .before .before .before .before .before .before .before .before .before .before .before in
     let a = c .before .before .before .before .before .before .before .before .loop .inv .0 in
-    (s .pre .0, (a .holds, (a .fine, s .pre .1 .1 .1, s .pre .1 .1 .2 .near (c .before .before .before .before .before .before .before .before .loop .j) (c .before .before .before .before .before .before .before .loop-test .taken))))
+    (s .pre .0, (a .holds, (a .fine, s .pre .1 .1 .1, s .pre .1 .1 .2 .near (c .before .before .before .before .before .before .before .before .loop .j) (omega (arith, c .before .before .before .before .before .before .before .loop-test .taken)))))
 
 -- the turn that the call made
 returns : tie.Need-returns Inv-loop μ-loop
@@ -42,13 +40,13 @@ returns c =
     let s = c .before .before .before .before .before .before .before .before .before .before .before .before .before .before .before .before .before .before .before .before .before .before .before .before .before .before .before .before .before .before .before in
     let l = c .before .before .before .before .before .before .before .before .before .before .before .before .before .before .before .before .before .before .before .before .before .loop in
     told-as (all-steps (s .args .grid) _ (s .args .e))
-    (stops (turn (s .args .grid) (s .args .e)) 27 (l .inv .0) (step-around (s .args .e) (s .pre .1 .1 .2 .leads (l .j) (c .before .before .before .before .before .before .before .before .before .before .before .before .before .before .before .before .before .before .before .before .loop-test .taken)) (c .before .before .before .before .before .before .before .before .before .before .before .before .offer-to .ensures)) (c .if1 .taken) (c .before .before .before .before .before .before .before .before .before .before .before .before .before .before .before .before .before .before .before .before .loop-test .taken))
+    (stops (turn (s .args .grid) (s .args .e)) 27 (l .inv .0) (step-around (s .args .e) (s .pre .1 .1 .2 .leads (l .j) (omega (arith, c .before .before .before .before .before .before .before .before .before .before .before .before .before .before .before .before .before .before .before .before .loop-test .taken))) (c .before .before .before .before .before .before .before .before .before .before .before .before .offer-to .ensures)) (c .if1 .taken) (omega (arith, c .before .before .before .before .before .before .before .before .before .before .before .before .before .before .before .before .before .before .before .before .loop-test .taken)))
 
 loop-again : tie.Need-loop-again Inv-loop μ-loop
 loop-again c =
     let s = c .before .before .before .before .before .before .before .before .before .before .before .before .before .before .before .before .before .before .before .before .before .before .before .before .before .before .before .before .before .before .before in
     let l = c .before .before .before .before .before .before .before .before .before .before .before .before .before .before .before .before .before .before .before .before .before .loop in (
-      goes-on (turn (s .args .grid) (s .args .e)) (l .inv .0) (step-around (s .args .e) (s .pre .1 .1 .2 .leads (l .j) (c .before .before .before .before .before .before .before .before .before .before .before .before .before .before .before .before .before .before .before .before .loop-test .taken)) (c .before .before .before .before .before .before .before .before .before .before .before .before .offer-to .ensures)) (c .before .before .before .before .before .before .before .before .before .before .before .before .offer-to .kept .1 .1 .1 .1 .1 .1 .1 .0) (c .if1 .left),
+      goes-on (turn (s .args .grid) (s .args .e)) (l .inv .0) (step-around (s .args .e) (s .pre .1 .1 .2 .leads (l .j) (omega (arith, c .before .before .before .before .before .before .before .before .before .before .before .before .before .before .before .before .before .before .before .before .loop-test .taken))) (c .before .before .before .before .before .before .before .before .before .before .before .before .offer-to .ensures)) (c .before .before .before .before .before .before .before .before .before .before .before .before .offer-to .kept .1 .1 .1 .1 .1 .1 .1 .0) (c .if1 .left),
       omega (arith, c .before .before .before .before .before .before .before .before .before .before .before .before .before .before .before .before .before .before .before .before .loop-test .taken),
     )
 

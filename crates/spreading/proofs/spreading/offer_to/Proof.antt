@@ -1,7 +1,5 @@
 -- `offer_to`: a step leads off the grid, or to a cell. Assumes nothing.
 use borrow.Author.Needs.{needs}
-use native.Mathlib.Omega.{arith}
-use mathlib.Core.Path.{_≡_}
 use Rattle.spreading.proofs.Offers.{step-off, step-below, step-at}
 use Rattle.spreading.proofs.spreading.offer_to.Statement.{statement}
 use Rattle.spreading.proofs.spreading.offer_to.Tie as tie

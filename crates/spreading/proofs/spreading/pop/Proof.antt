@@ -1,7 +1,7 @@
 -- `pop`: the entry that is taken is known, what is left still holds, and the offers are those of `spreadAround`. Assumes nothing.
 use borrow.Author.Needs.{needs}
 use native.Mathlib.Omega.{arith}
-use mathlib.Core.Path.{_≡_, refl}
+use mathlib.Core.Path.{refl}
 use Rattle.spreading.proofs.Pops.{first-known, rest-holds, popped}
 use Rattle.spreading.proofs.spreading.pop.Statement.{statement}
 use Rattle.spreading.proofs.spreading.pop.Tie as tie

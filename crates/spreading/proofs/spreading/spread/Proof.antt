@@ -3,7 +3,6 @@ use Prim.Native.Nat.{ℕ, _-_, _≤_, _<_}
 use borrow.Author.Needs.{needs}
 use native.Mathlib.Omega.{arith}
 use mathlib.Core.Path.{_≡_, refl}
-use lib.ListN.{length}
 use Rattle.mesh.specs.Mesh.{meshOf}
 use Rattle.run.specs.Steps as Steps
 use Rattle.spreading.specs.Around.{codes}
