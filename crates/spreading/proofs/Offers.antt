@@ -7,7 +7,6 @@ use mathlib.Core.List.{List}
 use lib.Dec.{T}
 use lib.ListN.{length, getD, set, length-set}
 use lib.Ieee.{Float, nan, inf, fin, isNan, ne, lt}
-use lib.Ieee.Compare.{differs-from-itself}
 use borrow.Author.Tests.{eq-eqb, ne-eqb}
 use Rattle.float.specs.Arith.{_≺_, if_then_else_}
 use Rattle.float.specs.RootOf.{rootOf}
@@ -19,23 +18,12 @@ use Rattle.mesh.specs.Mesh.{Mesh, trianglesIn}
 use Rattle.queue.specs.declared.Entry.{Entry}
 use Rattle.run.specs.Run.{State, Place, off, at, none, held, entry, takes, queue, offerAt, offer, spreadTo, spreadAround}
 use Rattle.run.specs.Ground.{groundOf}
+use Rattle.run.proofs.Ways.{offer-nan, offer-passed, offer-taken, is-nan, is-number}
 use Rattle.run.specs.Steps.{aroundCell}
 use Rattle.spreading.specs.declared.Progress.{Progress}
 use Rattle.spreading.specs.Told.{refusedBy, orderIn, stateOf, Holds, Told, Queued}
 use Rattle.spreading.specs.Around.{placeOf, Near}
 use Rattle.spreading.proofs.Queues.{still-holds}
-
--- ---- the test `x != x`
-
-pub is-nan : (x : Float) → ne x x ≡ true → isNan x ≡ true
-unfolding isNan
-is-nan x h = ap isNan (differs-from-itself x (subst T (sym h) tt))
-
-pub is-number : (x : Float) → ne x x ≡ false → isNan x ≡ false
-unfolding ne isNan
-is-number nan h = h
-is-number (inf s) h = refl
-is-number (fin s m e) h = refl
 
 pub no-nan : (x : Float) → isNan x ≡ false → T (not (isNan x))
 no-nan x h = subst (λ (t : Bool). T (not t)) (sym h) tt
@@ -50,21 +38,6 @@ less-no-nan (fin s m e) y h = tt
 -- a test on a value that is another
 pub not-below : {d x : Float} (h : Float) → d ≡ x → (d ≺ h) ≡ false → (x ≺ h) ≡ false
 not-below h e t = ap (λ (v : Float). v ≺ h) (sym e) ∙ t
-
--- ---- the three ways of an offer
-
-module _ (also : Entry → State → Turn State) (k c : ℕ) (d : Float) (s : State) where
-  offer-nan : isNan d ≡ true → offerAt also k c d s ≡ refuses 6
-  unfolding offerAt
-  offer-nan n = rw n
-
-  offer-passed : isNan d ≡ false → (d ≺ held s c) ≡ false → offerAt also k c d s ≡ goes s
-  unfolding offerAt
-  offer-passed n h = rw (n, h)
-
-  offer-taken : isNan d ≡ false → (d ≺ held s c) ≡ true → offerAt also k c d s ≡ also (entry d c k) (takes c k d s)
-  unfolding offerAt
-  offer-taken n h = rw (n, h)
 
 module _ {g : Grid} {m : Mesh} {field : List Float} {names ds cs ts : List ℕ} (p : Progress) (k c : ℕ) (q : Float) where
   pub offered-nan : Holds g m field names ds cs ts (p .waiting) → isNan (rootOf q) ≡ isNan q → ne q q ≡ true
