@@ -1,6 +1,6 @@
 -- After seeding every cell of every triangle's snapped box has met the triangle, and nothing waits. Each offer of the four loops was
 -- made, no later offer raises a value, and no other offer is made. Assumes nothing but what `Fair` asks of the ground.
-use Prim.Native.Nat.{ℕ, _+_, _≤_, _<_}
+use Prim.Native.Nat.{ℕ, _≤_, _<_}
 use native.Mathlib.Decide.{ℕ-discrete}
 use native.Mathlib.Omega.{arith}
 use mathlib.Core.Path.{_≡_, refl, sym, _∙_, subst}
