@@ -1,15 +1,24 @@
 -- What a job that no number below 6 refuses is known to be. Each test of the list that did not apply is a fact. Assumes nothing.
-use mathlib.Core.Path.{_≡_, refl, sym, ap, _∙_}
+use mathlib.Core.Path.{_≡_, refl}
 use mathlib.Core.Bool.{Bool, true, false, not, _||_, true≢false}
 use mathlib.Core.List.{List}
-use Prim.Native.Nat.{ℕ, _%_, _≤_}
+use Prim.Native.Nat.{ℕ, _*_, _%_, _≤_, _<_}
 use native.Mathlib.Omega.{arith}
-use lib.Dec.{ltb, eqb}
+use lib.Dec.{ltb, eqb, lit≤}
 use lib.ListN.{length}
 use lib.Ieee.{Float}
-use borrow.Author.Tests.{ltb-false}
-use Rattle.mesh.specs.Mesh.{vertexCount}
-use Rattle.generate.specs.Refusals.{allCoordinates, wrongVertices}
+use borrow.Author.Tests.{ltb-false, eqb-true, not-false}
+use Rattle.float.specs.Arith.{if_then_else_}
+use Rattle.point.specs.declared.Axis.the-variants.{Z}
+use Rattle.grid.specs.declared.Grid.{Grid}
+use Rattle.grid.specs.Axes.{countOn}
+use Rattle.grid.specs.Index.{total}
+use Rattle.grid.specs.Bounds.{inBounds}
+use Rattle.mesh.specs.Mesh.{Mesh, vertexCount, trianglesIn}
+use Rattle.topology.specs.Refusals.{allBelowCount}
+use Rattle.generate.specs.declared.checks.Lengths.{Lengths}
+use Rattle.generate.specs.Refusals.{allCoordinates, wrongGrid, wrongVertices, wrongTriangles, wrongIndices, wrongLengths, refusalBy}
+use Rattle.generate.specs.Parts.{Fit}
 
 neither : (a b : Bool) → (a || b) ≡ false → (a ≡ false) × (b ≡ false)
 neither true b h = absurd (true≢false h)
@@ -20,3 +29,71 @@ few-vertices vs h =
     let uneven = not (eqb (length vs % 3) 0) in
     let many = ltb 393216 (vertexCount vs) in
     ltb-false 393216 (vertexCount vs) (neither uneven many (neither (uneven || many) (not (allCoordinates vs)) h .0) .1)
+
+-- ---- the lengths
+
+pub record Fits (g : Grid) (l : Lengths) : Type 0 where
+  pub field : l .field ≡ total g
+  pub names : l .names ≡ total g
+  pub crossings : l .crossings ≡ 3 * total g
+  pub rows : l .rows ≡ countOn Z g
+  pub cells : l .cells ≡ l .distances
+  pub triangles : l .triangles ≡ l .distances
+
+same : (a b : ℕ) → not (eqb a b) ≡ false → a ≡ b
+same a b h = eqb-true a b (not-false (eqb a b) h)
+
+fits : (g : Grid) (l : Lengths) → wrongLengths g l ≡ false → Fits g l
+fits g l h =
+    let f = not (eqb (l .field) (total g)) in
+    let n = not (eqb (l .names) (total g)) in
+    let k = not (eqb (l .crossings) (3 * total g)) in
+    let r = not (eqb (l .rows) (countOn Z g)) in
+    let c = not (eqb (l .cells) (l .distances)) in
+    let t = not (eqb (l .triangles) (l .distances)) in
+    let to-c = neither (f || n || k || r || c) t h in
+    let to-r = neither (f || n || k || r) c (to-c .0) in
+    let to-k = neither (f || n || k) r (to-r .0) in
+    let to-n = neither (f || n) k (to-k .0) in
+    let to-f = neither f n (to-n .0) in
+    record {
+      field = same (l .field) (total g) (to-f .0);
+      names = same (l .names) (total g) (to-f .1);
+      crossings = same (l .crossings) (3 * total g) (to-n .1);
+      rows = same (l .rows) (countOn Z g) (to-k .1);
+      cells = same (l .cells) (l .distances) (to-r .1);
+      triangles = same (l .triangles) (l .distances) (to-c .1);
+    }
+
+-- ---- all of it
+
+pub record Accepted (g : Grid) (m : Mesh) (l : Lengths) : Type 0 where
+  pub fit : Fit g m
+  pub long : Fits g l
+
+-- a check that did not apply, and what the later ones came to
+passed : (b : Bool) (n : ℕ) {rest : ℕ} → 0 < n → (if b then n else rest) ≡ 0 → (b ≡ false) × (rest ≡ 0)
+passed true n p h = absurd (omega arith)
+passed false n p h = (refl, h)
+
+pub accepted : (g : Grid) (m : Mesh) (l : Lengths) → refusalBy g m l ≡ 0 → Accepted g m l
+unfolding refusalBy
+accepted g m l h =
+    let one = passed (wrongGrid g) 1 (lit≤ tt) h in
+    let two = passed (wrongVertices (m .vertices)) 2 (lit≤ tt) (one .1) in
+    let three = passed (wrongTriangles m) 3 (lit≤ tt) (two .1) in
+    let four = passed (wrongIndices m) 4 (lit≤ tt) (three .1) in
+    let five = passed (wrongLengths g l) 5 (lit≤ tt) (four .1) in
+    record {
+      fit = record {
+        ready = record {
+          bounded = not-false (inBounds g) (one .0);
+          sound = record {
+            few = omega (arith, few-vertices (m .vertices) (two .0));
+            below = not-false (allBelowCount (vertexCount (m .vertices)) (trianglesIn m)) (four .0);
+          };
+        };
+        few = ltb-false 131072 (length (trianglesIn m)) (three .0);
+      };
+      long = fits g l (five .0);
+    }

@@ -1,2 +1,5 @@
 -- Laws of the crate's proofs.
 pub mod Accepted
+pub mod Lengths
+pub mod Runs
+pub mod Outcomes

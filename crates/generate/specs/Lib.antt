@@ -1,3 +1,4 @@
 pub mod Job
 pub mod Refusals
 pub mod Outcome
+pub mod Parts

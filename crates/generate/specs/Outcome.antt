@@ -4,7 +4,6 @@ use Prim.Native.Nat.{ℕ, zero, suc}
 use mathlib.Core.Path.{_≡_}
 use mathlib.Core.List.{List}
 use lib.ListN.{length, replicate}
-use lib.Ieee.{Float}
 use Rattle.float.specs.Arith.{fMax}
 use Rattle.lists.specs.Turns.{Turn, goes, refuses}
 use Rattle.run.specs.Run.{State, none, run}
@@ -70,3 +69,8 @@ unlessRefused (suc n) b o = unchanged (suc n) b
 
 unfoldable pub outcome : Job → Lent → Outcome
 outcome j b = unlessRefused (refusal j b) b (ended j b (runOf j b))
+
+-- what a call promises: its answer, and what it leaves in each lent buffer, are those of the outcome
+pub record Gives (o : Outcome) (answer : Answer) (left : Lent) : Type 0 where
+  pub answers : answer ≡ o .answer
+  pub leaves : left ≡ o .left

@@ -1,7 +1,7 @@
 -- "Reply numbers. Checked in this order; the first that applies is given, and no number is given otherwise." (document 01). The five
 -- that are checked before the run. Definitions only.
 use Prim.Native.Nat.{ℕ, _*_, _%_}
-use mathlib.Core.Bool.{Bool, true, false, not, _&&_, _||_}
+use mathlib.Core.Bool.{Bool, not, _||_}
 use mathlib.Core.List.{List, [], _∷_}
 use lib.Dec.{ltb, eqb}
 use lib.ListN.{length}

@@ -1,7 +1,7 @@
 // The refusals that are checked before the run, in document 01's order.
 ghost use mathlib.Core.Path.{_≡_};
 ghost use mathlib.Core.Bool.{true};
-ghost use Prim.Native.Nat.{_+_, _*_, _%_, _≤_, _<_};
+ghost use Prim.Native.Nat.{_+_, _*_, _%_, _<_};
 ghost use lib.ListN.{length};
 ghost use Rattle.grid.specs.Bounds.{isCoordinate, inBounds};
 ghost use Rattle.mesh.specs.Mesh.{meshOf};

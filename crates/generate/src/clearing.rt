@@ -3,7 +3,8 @@
 ghost use mathlib.Core.Path.{_≡_};
 ghost use lib.ListN.{length, replicate};
 ghost use Rattle.float.specs.Arith.{fMax};
-ghost use Rattle.run.specs.Run.{none};
+ghost use Rattle.generate.specs.Job.{lentOf};
+ghost use Rattle.generate.specs.Outcome.{cleared};
 
 pub fn fill_field(field: &mut [f32])
     ensures { λ _. ⌜ now (field .exit) ≡ replicate (length (now (field .entry))) fMax ⌝ }
@@ -23,4 +24,23 @@ pub fn fill_numbers(numbers: &mut [u32], with: u32)
         numbers[i] = with;
         i += 1;
     }
+}
+
+// All of them.
+pub fn clear_all(
+    field: &mut [f32],
+    names: &mut [u32],
+    crossings: &mut [u32],
+    rows: &mut [u32],
+    distances: &mut [u32],
+    cells: &mut [u32],
+    triangles: &mut [u32],
+)
+    ensures { λ _. ⌜ lentOf (now (field .exit)) (now (names .exit)) (now (crossings .exit)) (now (rows .exit)) (now (distances .exit)) (now (cells .exit)) (now (triangles .exit)) ≡ cleared (lentOf (now (field .entry)) (now (names .entry)) (now (crossings .entry)) (now (rows .entry)) (now (distances .entry)) (now (cells .entry)) (now (triangles .entry))) ⌝ }
+{
+    fill_field(field);
+    fill_numbers(names, 4_294_967_295);
+    fill_numbers(crossings, 0);
+    fill_numbers(rows, 0);
+    queue::clear(distances, cells, triangles);
 }

@@ -1,5 +1,4 @@
 -- `generate::checks::wrong_vertices`: the three tests are the definition's. Assumes nothing.
-use borrow.Author.Needs.{needs}
 use Rattle.generate.proofs.checks.wrong_vertices.Statement.{statement}
 use Rattle.generate.proofs.checks.wrong_vertices.Tie as tie
 
