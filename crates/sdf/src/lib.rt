@@ -3,9 +3,9 @@
 //
 //   questions              the grid, the geometry, the comparison and the root asked by themselves
 //   c, c_grid, c_geometry  the same for C: functions `sdf_..` and the records that they hand over
-mod c;
-mod c_geometry;
-mod c_grid;
+pub mod c;
+pub mod c_geometry;
+pub mod c_grid;
 mod questions;
 
 // ---- what is asked about, and answered with

@@ -1,0 +1,117 @@
+// The text of the sample: words of eight hex digits, each with one space or line feed after it, so word n
+// begins at byte 9 n. What is past the end of the text reads as 0.
+use sdf::c::SdfCell;
+use sdf::c::SdfGrid;
+use sdf::c::SdfPoint;
+ghost use mathlib.Core.Path.{_≡_};
+ghost use Prim.Native.Nat.{_+_, _<_};
+ghost use lib.ListN.{length};
+
+fn digit(b: u8) -> u32
+    ensures { λ r. ⌜ r < 16 ⌝ }
+{
+    match b {
+        48..=57 => (b - 48) as u32,
+        97..=102 => (b - 87) as u32,
+        _ => 0,
+    }
+}
+
+// Two digits.
+fn byte(text: &[u8], at: usize) -> u32
+    requires { ⌜ at + 1 < length (now text) ⌝ }
+    ensures { λ r. ⌜ r < 256 ⌝ }
+{
+    digit(text[at]) * 16 + digit(text[at + 1])
+}
+
+// Word k of the case that begins with word `base`.
+pub fn word(text: &[u8], base: usize, k: usize) -> u32
+    requires { ⌜ k < 64 ⌝ }
+{
+    let words = text.len() / 9;
+    if words <= base {
+        return 0;
+    }
+    if words - base <= k {
+        return 0;
+    }
+    let at = (base + k) * 9;
+    ((byte(text, at) * 256 + byte(text, at + 2)) * 256 + byte(text, at + 4)) * 256
+        + byte(text, at + 6)
+}
+
+// The values that begin at word k of a case.
+
+// A NaN's pattern is read as the language's one NaN.
+pub fn real(text: &[u8], base: usize, k: usize) -> f32
+    requires { ⌜ k < 64 ⌝ }
+{
+    let w = word(text, base, k);
+    let size = w % 0x8000_0000;
+    if 0x7f80_0000 < size {
+        return 0.0 / 0.0;
+    }
+    let x = f32::from_bits(size);
+    if size < w { -x } else { x }
+}
+
+pub fn point(text: &[u8], base: usize, k: usize) -> SdfPoint
+    requires { ⌜ k < 62 ⌝ }
+{
+    SdfPoint {
+        x: real(text, base, k),
+        y: real(text, base, k + 1),
+        z: real(text, base, k + 2),
+    }
+}
+
+pub fn cell(text: &[u8], base: usize, k: usize) -> SdfCell
+    requires { ⌜ k < 62 ⌝ }
+{
+    SdfCell {
+        x: word(text, base, k),
+        y: word(text, base, k + 1),
+        z: word(text, base, k + 2),
+    }
+}
+
+// A grid is the first that goes into a step.
+pub fn grid(text: &[u8], base: usize) -> SdfGrid {
+    SdfGrid {
+        first: point(text, base, 1),
+        size: point(text, base, 4),
+        count: cell(text, base, 7),
+    }
+}
+
+// Whether the value that begins at word k is that of the port, bit for bit.
+
+pub fn is_word(text: &[u8], base: usize, k: usize, w: u32) -> bool
+    requires { ⌜ k < 64 ⌝ }
+{
+    word(text, base, k) == w
+}
+
+// The NaN is stored as 7fc00000.
+pub fn is_real(text: &[u8], base: usize, k: usize, x: f32) -> bool
+    requires { ⌜ k < 64 ⌝ }
+{
+    let w = word(text, base, k);
+    if x != x {
+        return w == 0x7fc0_0000;
+    }
+    w == f32::to_bits(x)
+}
+
+pub fn is_point(text: &[u8], base: usize, k: usize, p: SdfPoint) -> bool
+    requires { ⌜ k < 62 ⌝ }
+{
+    is_real(text, base, k, p.x) & is_real(text, base, k + 1, p.y) & is_real(text, base, k + 2, p.z)
+}
+
+pub fn is_cell(text: &[u8], base: usize, k: usize, c: SdfCell) -> bool
+    requires { ⌜ k < 62 ⌝ }
+{
+    is_word(text, base, k, c.x) & is_word(text, base, k + 1, c.y) & is_word(text, base, k + 2, c.z)
+}
