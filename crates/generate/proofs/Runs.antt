@@ -26,7 +26,7 @@ use Rattle.seeding.specs.Parts.{seedState, overTriangle}
 use Rattle.seeding.proofs.Whole.{seeding-is}
 use Rattle.spreading.specs.declared.Progress.{Progress}
 use Rattle.spreading.specs.Told.{orderIn, stateOf, AllKnown, Holds, Named, Told}
-use Rattle.generate.specs.Parts.{Fit, Fresh, Ran, seeded}
+use Rattle.generate.specs.Parts.{Leaves, Fit, Fresh, Ran, seeded}
 
 -- ---- of any ground
 
@@ -77,9 +77,15 @@ module _ {g : Grid} {m : Mesh} where
   pub fresh-names : {field : List Float} {names ds cs ts : List ℕ} → Fresh g m field names ds cs ts → length names ≡ total g
   fresh-names f = ap length (f .names-bare) ∙ length-replicate (total g) none
 
+  -- what spreading's functions tell, as a part of the run over a ground with any limit
+  pub as-left : {turn : Ground → State → Turn State} {field field′ : List Float} {names ds cs ts names′ ds′ cs′ ts′ : List ℕ} {at r : Progress}
+      → Told g m turn field names ds cs ts at field′ names′ ds′ cs′ ts′ r
+      → Leaves g m (λ any. turn (groundOf g m (length ds) any) (stateOf (orderIn m) field names ds cs ts at)) field′ names′ ds′ cs′ ts′ r
+  as-left h = record { holds = h .holds; is = h .is }
+
   -- ---- queueing, then spreading
-  module _ (s : State) (room limit : ℕ) {field : List Float} {names ds cs ts : List ℕ} {p : Progress} (h : Told g m (λ any. queueing (groundOf g m room any) s) field names ds cs ts p) where
-    pub rest-stops : (p .number ≡ 0 → ⊥) → Told g m (rest g m room limit s) field names ds cs ts p
+  module _ (s : State) (room limit : ℕ) {field : List Float} {names ds cs ts : List ℕ} {p : Progress} (h : Leaves g m (λ any. queueing (groundOf g m room any) s) field names ds cs ts p) where
+    pub rest-stops : (p .number ≡ 0 → ⊥) → Leaves g m (rest g m room limit s) field names ds cs ts p
     rest-stops z =
         record {
           holds = h .holds;
@@ -90,8 +96,8 @@ module _ {g : Grid} {m : Mesh} where
     rest-begins z e = queueing-pops (groundOf g m room 0) s _ (h .is 0 ∙ told-goes (p .number) _ z) ∙ e
 
     pub rest-goes-on : {field′ : List Float} {names′ ds′ cs′ ts′ : List ℕ} {r : Progress} → p .number ≡ 0 → length ds ≡ room
-        → Told g m (λ any. spreading (groundOf g m (length ds) any) limit (stateOf (orderIn m) field names ds cs ts p)) field′ names′ ds′ cs′ ts′ r
-        → Told g m (rest g m room limit s) field′ names′ ds′ cs′ ts′ r
+        → Leaves g m (λ any. spreading (groundOf g m (length ds) any) limit (stateOf (orderIn m) field names ds cs ts p)) field′ names′ ds′ cs′ ts′ r
+        → Leaves g m (rest g m room limit s) field′ names′ ds′ cs′ ts′ r
     rest-goes-on {r = r} z e w =
         record {
           holds = w .holds;
@@ -116,7 +122,7 @@ module _ {g : Grid} {m : Mesh} where
           ∙ h
 
       pub seeding-stops : (room limit : ℕ) → length field′ ≡ length field → length names′ ≡ length names → (n ≡ 0 → ⊥)
-          → Told g m (λ any. run (groundOf g m room limit)) field′ names′ ds cs ts (record { number = n; waiting = 0; pops = 0; peak = 0 })
+          → Leaves g m (λ any. run (groundOf g m room limit)) field′ names′ ds cs ts (record { number = n; waiting = 0; pops = 0; peak = 0 })
       unfolding run
       seeding-stops room limit e k z =
           record {
@@ -147,8 +153,8 @@ module _ {g : Grid} {m : Mesh} where
             has-below (groundOf g m 0 0) (fair 0 0) (s .each c l) b .0
 
         pub seeding-goes-on : {field″ : List Float} {names″ ds″ cs″ ts″ : List ℕ} {r : Progress} (room limit : ℕ)
-            → Told g m (rest g m room limit (seeded m field′ names′ ds cs ts)) field″ names″ ds″ cs″ ts″ r
-            → Told g m (λ any. run (groundOf g m room limit)) field″ names″ ds″ cs″ ts″ r
+            → Leaves g m (rest g m room limit (seeded m field′ names′ ds cs ts)) field″ names″ ds″ cs″ ts″ r
+            → Leaves g m (λ any. run (groundOf g m room limit)) field″ names″ ds″ cs″ ts″ r
         unfolding run groundOf
         seeding-goes-on room limit w =
             record {
@@ -157,7 +163,7 @@ module _ {g : Grid} {m : Mesh} where
             }
 
   -- ---- at the end
-  pub run-over : {field : List Float} {names ds cs ts : List ℕ} {p : Progress} (room limit : ℕ) → Told g m (λ any. run (groundOf g m room limit)) field names ds cs ts p → Ran g m field names ds cs ts p
+  pub run-over : {field : List Float} {names ds cs ts : List ℕ} {p : Progress} (room limit : ℕ) → Leaves g m (λ any. run (groundOf g m room limit)) field names ds cs ts p → Ran g m field names ds cs ts p
   run-over {field} {names} {ds} {cs} {ts} {p} room limit h =
       record {
         holds = h .holds;

@@ -6,6 +6,7 @@ use lib.ListN.{length, replicate}
 use lib.Ieee.{Float}
 use Rattle.float.specs.Arith.{fMax}
 use Rattle.point.specs.declared.Axis.the-variants.{Z}
+use Rattle.lists.specs.Turns.{Turn, told}
 use Rattle.grid.specs.declared.Grid.{Grid}
 use Rattle.grid.specs.Axes.{countOn}
 use Rattle.grid.specs.Index.{total}
@@ -36,6 +37,12 @@ before = record { number = 0; waiting = 0; pops = 0; peak = 0 }
 -- the state that a field and names hold before anything is queued
 abbrev pub seeded : Mesh → List Float → List ℕ → List ℕ → List ℕ → List ℕ → State
 seeded m field names ds cs ts = stateOf (orderIn m) field names ds cs ts before
+
+-- The slices hold what a part of the run, as it is told of a ground with any pop limit, leaves; or it was refused, and then the number
+-- alone says what the run came to.
+pub record Leaves (g : Grid) (m : Mesh) (part : ℕ → Turn State) (field : List Float) (names ds cs ts : List ℕ) (r : Progress) : Type 0 where
+  pub holds : Holds g m field names ds cs ts (r .waiting)
+  pub is : (any : ℕ) → part any ≡ told (r .number) (stateOf (orderIn m) field names ds cs ts r)
 
 -- what is lent where a run has ended: nothing waits unless it was refused
 pub record Ran (g : Grid) (m : Mesh) (field : List Float) (names ds cs ts : List ℕ) (p : Progress) : Type 0 where

@@ -1,6 +1,7 @@
 // The public face of the port: this is what users call. No function of it has a `requires`: what is out
 // of bounds is refused, by a number of document 01. The crates below it are its parts.
 //
+//   generate_grid_sdf      the whole job, over lent buffers (its contract stands in crate `generate`)
 //   questions              the grid, the geometry, the comparison and the root asked by themselves
 //   c, c_grid, c_geometry  the same for C: functions `sdf_..` and the records that they hand over
 pub mod c;
@@ -32,6 +33,13 @@ pub use grid::asked::PointAnswer as GridPointAnswer;
 pub use grid::asked::SnapAnswer;
 pub use point::Axis;
 pub use point::Point;
+
+// ---- the whole job
+
+pub use generate::Answer;
+pub use generate::generate_grid_sdf;
+pub use topology::Indices;
+pub use topology::Topology;
 
 // ---- the questions
 
