@@ -1,7 +1,7 @@
 -- What a job that no number below 6 refuses is known to be. Each test of the list that did not apply is a fact. Assumes nothing.
 use mathlib.Core.Path.{_≡_, refl}
 use mathlib.Core.Bool.{Bool, true, false, not, _||_, true≢false}
-use mathlib.Core.List.{List}
+use mathlib.Core.List.{List, [], _∷_}
 use Prim.Native.Nat.{ℕ, _*_, _%_, _≤_, _<_}
 use native.Mathlib.Omega.{arith}
 use lib.Dec.{ltb, eqb, lit≤}
@@ -17,7 +17,7 @@ use Rattle.grid.specs.Bounds.{inBounds}
 use Rattle.mesh.specs.Mesh.{Mesh, vertexCount, trianglesIn}
 use Rattle.topology.specs.Refusals.{allBelowCount}
 use Rattle.generate.specs.declared.checks.Lengths.{Lengths}
-use Rattle.generate.specs.Refusals.{allCoordinates, wrongGrid, wrongVertices, wrongTriangles, wrongIndices, wrongLengths, refusalBy}
+use Rattle.generate.specs.Refusals.{allCoordinates, wrongGrid, wrongVertices, wrongTriangles, wrongIndices, wrongLengths, Check, checks, firstOf, refusalBy}
 use Rattle.generate.specs.Parts.{Fit}
 
 neither : (a b : Bool) → (a || b) ≡ false → (a ≡ false) × (b ≡ false)
@@ -71,29 +71,46 @@ pub record Accepted (g : Grid) (m : Mesh) (l : Lengths) : Type 0 where
   pub fit : Fit g m
   pub long : Fits g l
 
--- a check that did not apply, and what the later ones came to
+-- no check has the number 0; none of them applies
+abbrev Numbered : List Check → Type 0
+Numbered [] = Unit {0}
+Numbered (c ∷ cs) = (0 < c .number) × Numbered cs
+
+abbrev NoneApplies : List Check → Type 0
+NoneApplies [] = Unit {0}
+NoneApplies (c ∷ cs) = (c .applies ≡ false) × NoneApplies cs
+
+-- a check that does not apply, and what the later ones come to
 passed : (b : Bool) (n : ℕ) {rest : ℕ} → 0 < n → (if b then n else rest) ≡ 0 → (b ≡ false) × (rest ≡ 0)
 passed true n p h = absurd (omega arith)
 passed false n p h = (refl, h)
 
+none-applies : (cs : List Check) → Numbered cs → firstOf cs ≡ 0 → NoneApplies cs
+none-applies [] n h = tt
+none-applies (c ∷ cs) n h =
+    let p = passed (c .applies) (c .number) (n .0) h in
+    (p .0, none-applies cs (n .1) (p .1))
+
+-- each fact is found among the checks, wherever it stands in the list
 pub accepted : (g : Grid) (m : Mesh) (l : Lengths) → refusalBy g m l ≡ 0 → Accepted g m l
 unfolding refusalBy
 accepted g m l h =
-    let one = passed (wrongGrid g) 1 (lit≤ tt) h in
-    let two = passed (wrongVertices (m .vertices)) 2 (lit≤ tt) (one .1) in
-    let three = passed (wrongTriangles m) 3 (lit≤ tt) (two .1) in
-    let four = passed (wrongIndices m) 4 (lit≤ tt) (three .1) in
-    let five = passed (wrongLengths g l) 5 (lit≤ tt) (four .1) in
+    let p = none-applies (checks g m l) (lit≤ tt, (lit≤ tt, (lit≤ tt, (lit≤ tt, (lit≤ tt, tt))))) h in
+    let grid-right : wrongGrid g ≡ false = search p in
+    let vertices-right : wrongVertices (m .vertices) ≡ false = search p in
+    let triangles-right : wrongTriangles m ≡ false = search p in
+    let indices-right : wrongIndices m ≡ false = search p in
+    let lengths-right : wrongLengths g l ≡ false = search p in
     record {
       fit = record {
         ready = record {
-          bounded = not-false (inBounds g) (one .0);
+          bounded = not-false (inBounds g) grid-right;
           sound = record {
-            few = omega (arith, few-vertices (m .vertices) (two .0));
-            below = not-false (allBelowCount (vertexCount (m .vertices)) (trianglesIn m)) (four .0);
+            few = omega (arith, few-vertices (m .vertices) vertices-right);
+            below = not-false (allBelowCount (vertexCount (m .vertices)) (trianglesIn m)) indices-right;
           };
         };
-        few = ltb-false 131072 (length (trianglesIn m)) (three .0);
+        few = ltb-false 131072 (length (trianglesIn m)) triangles-right;
       };
-      long = fits g l (five .0);
+      long = fits g l lengths-right;
     }

@@ -10,12 +10,11 @@ use Rattle.lists.specs.Turns.{Turn, goes, refuses}
 use Rattle.queue.specs.Queue.{Cleared}
 use Rattle.run.specs.Run.{State, none, run}
 use Rattle.run.specs.Ground.{groundOf}
-use Rattle.run.specs.Signs.{signedField, allCrossings, rows}
 use Rattle.generate.specs.declared.Answer.the-variants.{Refused, Done}
 use Rattle.generate.specs.declared.checks.Lengths.{Lengths}
 use Rattle.generate.specs.Job.{Job, Lent, lentOf}
 use Rattle.generate.specs.Refusals.{lengthsOf}
-use Rattle.generate.specs.Outcome.{zeros, cleared, ended, runOf}
+use Rattle.generate.specs.Outcome.{zeros, cleared, filled, ended, runOf}
 
 pub all-cleared : (field : List Float) (names crossings rows ds cs ts : List ℕ) {field′ : List Float} {names′ crossings′ rows′ ds′ cs′ ts′ : List ℕ}
     → field′ ≡ replicate (length field) fMax → names′ ≡ replicate (length names) none → crossings′ ≡ zeros crossings → rows′ ≡ zeros rows
@@ -33,16 +32,16 @@ clearedBy l =
 pub same-cleared : (b c : Lent) → lengthsOf b ≡ lengthsOf c → cleared b ≡ cleared c
 same-cleared b c e = ap clearedBy e
 
-abbrev filledBy : Job → State → Lengths → Lent
-filledBy j s l =
-    let field = signedField (j .grid) (j .mesh) (s .field) in
-    lentOf field (s .names) (allCrossings (j .grid) (j .mesh)) (rows (j .grid) field) (replicate (l .distances) 0) (replicate (l .cells) 0)
-    (replicate (l .triangles) 0)
-
 pub same-ended : (j : Job) (b c : Lent) (o : Turn State) → lengthsOf b ≡ lengthsOf c → ended j b o ≡ ended j c o
 unfolding ended
-same-ended j b c (goes s) e = ap (λ (l : Lengths). record { answer = Done (s .pops) (s .peak); left = filledBy j s l }) e
-same-ended j b c (refuses n) e = ap (λ (l : Lengths). record { answer = Refused n; left = clearedBy l }) e
+same-ended j b c (goes s) e =
+    let f = filled j s b in
+    λ i. record {
+      answer = Done (s .pops) (s .peak);
+      left =
+          lentOf (f .field) (f .names) (f .crossings) (f .rows) (replicate (e i .distances) 0) (replicate (e i .cells) 0) (replicate (e i .triangles) 0);
+    }
+same-ended j b c (refuses n) e = λ i. record { answer = Refused n; left = same-cleared b c e i }
 
 pub same-run : (j : Job) (b c : Lent) → lengthsOf b ≡ lengthsOf c → runOf j b ≡ runOf j c
 same-run j b c e = ap (λ (l : Lengths). run (groundOf (j .grid) (j .mesh) (l .distances) (j .limit))) e

@@ -100,3 +100,8 @@ gives-unchanged j b n e z = subst (λ (k : ℕ). Gives (unlessRefused k b (ended
 pub gives-outcome : (j : Job) (b : Lent) {r : Answer} {left : Lent} → refusal j b ≡ 0 → Gives (ended j b (runOf j b)) r left → Gives (outcome j b) r left
 unfolding outcome unlessRefused
 gives-outcome j b {r} {left} e h = subst (λ (k : ℕ). Gives (unlessRefused k b (ended j b (runOf j b))) r left) (sym e) h
+
+-- ---- "One call has one possible outcome"
+
+pub one-outcome : {o : Outcome} {r r′ : Answer} {left left′ : Lent} → Gives o r left → Gives o r′ left′ → (r ≡ r′) × (left ≡ left′)
+one-outcome p q = (p .answers ∙ sym (q .answers), p .leaves ∙ sym (q .leaves))
