@@ -55,7 +55,12 @@ pub extern "C" fn sdf_closest_point_triangle(
 ) -> SdfPointAnswer
     ensures { λ r. ⌜ r ≡ C.closest (askedTriangle (pointIn p) (pointIn a) (pointIn b) (pointIn c)) ⌝ }
 {
-    c_records::closest_answer(sdf::closest_point_triangle(p.point(), a.point(), b.point(), c.point()))
+    c_records::closest_answer(sdf::closest_point_triangle(
+        p.point(),
+        a.point(),
+        b.point(),
+        c.point(),
+    ))
 }
 
 #[no_mangle]

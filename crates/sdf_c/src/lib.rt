@@ -4,5 +4,7 @@
 //
 //   geometry  the root, the comparison and the geometry
 //   grids     the grid's questions
+//   job       the whole job
 pub mod geometry;
 pub mod grids;
+pub mod job;
