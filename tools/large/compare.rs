@@ -23,8 +23,8 @@ mod shapes;
 use model::{bounds, text, topology, Done, Job};
 use port::{Answer, Lent};
 use random::Random;
+use rust::Held;
 use std::collections::BTreeMap;
-use std::time::Instant;
 
 /// What a run has seen.
 #[derive(Default)]
@@ -45,7 +45,7 @@ struct Seen {
 
 impl Seen {
     /// One job held to the Rust.
-    fn hold(&mut self, job: &Job, lent: &mut Lent, with_crossings: bool) -> Result<Answer, String> {
+    fn hold(&mut self, job: &Job, lent: &mut Lent, with_crossings: bool) -> Result<Held, String> {
         let held = rust::hold(job, lent, with_crossings)?;
         let (cells, triangles) = (u64::from(job.grid.cells()), topology::triangles(job).len() as u64);
         self.to_rust += 1;
@@ -56,7 +56,7 @@ impl Seen {
         self.pops += u64::from(held.answer.pops);
         self.ours += held.ours;
         self.theirs += held.theirs;
-        Ok(held.answer)
+        Ok(held)
     }
 
     fn print(&self) {
@@ -250,56 +250,49 @@ fn large(
     let grid = meshes::grid(count, r);
     let mut lent = Lent::fitting(&grid, 2 * grid.cells() as usize + 4_096);
     let job = meshes::make(kind, grid, triangles, r);
-    let verdict =
-        seen.hold(&job, &mut lent, with_crossings).map(|answer| *seen.answers.entry(answer.number).or_default() += 1);
+    let verdict = seen.hold(&job, &mut lent, with_crossings);
+    let verdict = verdict.map(|held| *seen.answers.entry(held.answer.number).or_default() += 1);
     (meshes::KINDS[kind].0.to_string(), verdict)
 }
 
 // One job at each bound.
 
 fn at_bounds(seen: &mut Seen) {
-    let most_triangles = 131_072;
-    let jobs: [(&str, [u32; 3], u32); 5] = [
-        ("1,024 x 1,024 x 1 cells", [1_024, 1_024, 1], 2_000),
-        ("1 x 1,024 x 1,024 cells", [1, 1_024, 1_024], 2_000),
-        ("102 x 102 x 100 cells", [102, 102, 100], 20_000),
-        ("131,072 triangles", [32, 32, 32], most_triangles),
-        ("102 x 102 x 100 cells, 131,072 triangles", [102, 102, 100], most_triangles),
+    // Soups with as many corners as there may be vertices; with 131,072 triangles these are 393,216.
+    let jobs: [([u32; 3], u32); 5] = [
+        ([1_024, 1_024, 1], 2_000),
+        ([1, 1_024, 1_024], 2_000),
+        ([102, 102, 100], 20_000),
+        ([32, 32, 32], 131_072),
+        ([102, 102, 100], 131_072),
     ];
-    for (words, count, triangles) in jobs {
+    println!("counts | triangles | answer | pops | peak | seconds, the library | the Rust | lent MB, room for the peak");
+    for (count, triangles) in jobs {
         let mut r = Random::new(1, 0);
-        let grid = meshes::grid(count, &mut Random::new(1, 0));
-        let room = 2 * grid.cells() as usize;
-        let mut job = meshes::make(3, grid, triangles, &mut r);
-        job.vertices.truncate(393_216);
-        let mut lent = Lent::fitting(&job.grid, room);
-        let begin = Instant::now();
-        let verdict = seen.hold(&job, &mut lent, false);
+        let grid = meshes::grid(count, &mut r);
+        let mut lent = Lent::fitting(&grid, 2 * grid.cells() as usize);
+        let job = meshes::plain("soup", grid, triangles, &mut r);
         seen.jobs += 1;
-        match verdict {
-            Ok(answer) => {
-                *seen.answers.entry(answer.number).or_default() += 1;
+        match seen.hold(&job, &mut lent, false) {
+            Ok(held) => {
+                let Answer { number, pops, peak } = held.answer;
+                *seen.answers.entry(number).or_default() += 1;
+                let words = job.vertices.len() * 3
+                    + job.indices.map_or(0, |list| list.len())
+                    + lent.field.len() * 5
+                    + lent.rows.len()
+                    + 3 * peak;
                 println!(
-                    "{words}: {} vertices, answer {}, pops {}, peak {}, {:.1} s with the Rust, {} MB so far",
-                    job.vertices.len(),
-                    answer.number,
-                    answer.pops,
-                    answer.peak,
-                    begin.elapsed().as_secs_f64(),
-                    most_memory()
+                    "{count:?} | {triangles} | {number} | {pops} | {peak} | {:.2} | {:.2} | {:.1}",
+                    held.ours,
+                    held.theirs,
+                    (4 * words) as f64 / 1e6
                 );
             }
             Err(words) => {
                 seen.differences += 1;
-                println!("{words}");
+                println!("{count:?} | {triangles} | {words}");
             }
         }
     }
-}
-
-/// The most memory that this process has held, in MB: both sides' together.
-fn most_memory() -> u64 {
-    let status = std::fs::read_to_string("/proc/self/status").unwrap_or_default();
-    let line = status.lines().find_map(|l| l.strip_prefix("VmHWM:"));
-    line.and_then(|l| l.trim().strip_suffix("kB")?.trim().parse::<u64>().ok()).unwrap_or(0) / 1_024
 }

@@ -43,6 +43,14 @@ pub fn make(kind: usize, grid: Grid, triangles: u32, r: &mut Random) -> Job {
     lifted(grid, Topology::List, vertices, Some(indices))
 }
 
+/// A job of the kind with its triangles in order and indices.
+pub fn plain(kind: &str, grid: Grid, triangles: u32, r: &mut Random) -> Job {
+    let (_, mesh) = KINDS.iter().find(|(name, _)| *name == kind).expect("a kind of the table");
+    let Mesh { vertices, triangles } = mesh(&grid, triangles, r);
+    let vertices = vertices.iter().map(|v| place(&grid, *v)).collect();
+    lifted(grid, Topology::List, vertices, Some(triangles.into_iter().flatten().collect()))
+}
+
 fn lifted(grid: Grid, topology: Topology, vertices: Vec<[f32; 3]>, indices: Option<Vec<u32>>) -> Job {
     Job { grid, topology, vertices, indices, queue: u32::MAX, pops: u32::MAX }
 }

@@ -6,7 +6,7 @@ use mesh_to_sdf::{probe, Grid};
 use model::geometry::distance;
 use model::topology::{triangles, Topology};
 use model::{Job, NONE};
-use std::time::Instant;
+use web_time::Instant;
 
 fn grid(job: &Job) -> Grid<[f32; 3]> {
     Grid::new(job.grid.first, job.grid.size, job.grid.count.map(|n| n as usize))
@@ -23,7 +23,7 @@ fn crossings(job: &Job) -> Result<Vec<[u32; 3]>, String> {
     guarded(|| probe::crossings(&job.vertices, mesh, &grid(job)))
 }
 
-/// What was compared, and how long the two took.
+/// What was compared, and how many seconds of the processor's time the two took.
 pub struct Held {
     pub answer: Answer,
     pub ours: f64,
