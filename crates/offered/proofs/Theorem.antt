@@ -12,10 +12,10 @@ use Rattle.grid.specs.Axes.{countOn}
 use Rattle.grid.proofs.Facts.{bounds-of, on-axis}
 use Rattle.mesh.specs.Mesh.{trianglesIn}
 use Rattle.run.specs.Run.{State, none}
-use Rattle.generate.specs.declared.Answer.the-variants.{Refused, Done}
-use Rattle.generate.specs.Job.{Job, Lent}
-use Rattle.generate.specs.Refusals.{wrongGrid, wrongVertices, wrongTriangles, refusal, refusalBy}
-use Rattle.generate.specs.Outcome.{filled, ended, runOf, unlessRefused, outcome}
+use Rattle.outcome.specs.declared.Answer.the-variants.{Refused, Done}
+use Rattle.checks.specs.Job.{Job, Lent}
+use Rattle.checks.specs.Refusals.{wrongGrid, wrongVertices, wrongTriangles, refusal, refusalBy}
+use Rattle.outcome.specs.Outcome.{filled, ended, runOf, unlessRefused, outcome}
 use Rattle.offered.specs.Demand3.{Demand3}
 use Rattle.offered.proofs.Cells.{run-means}
 

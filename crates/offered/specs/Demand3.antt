@@ -7,9 +7,9 @@ use Rattle.grid.specs.declared.Cell.{Cell}
 use Rattle.grid.specs.Index.{Inside}
 use Rattle.run.specs.Run.{Ground}
 use Rattle.run.specs.Ground.{groundOf}
-use Rattle.generate.specs.declared.Answer.the-variants.{Done}
-use Rattle.generate.specs.Job.{Job, Lent}
-use Rattle.generate.specs.Outcome.{outcome}
+use Rattle.outcome.specs.declared.Answer.the-variants.{Done}
+use Rattle.checks.specs.Job.{Job, Lent}
+use Rattle.outcome.specs.Outcome.{outcome}
 use Rattle.offered.specs.Meaning.{CellMeans}
 
 -- what the run of a job is told: the queue's room is the length of the lent queue
