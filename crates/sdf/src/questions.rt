@@ -33,13 +33,13 @@ ghost use Rattle.geo.specs.Asked as Asked;
 pub fn sqrt(x: f32) -> f32
     ensures { λ r. ⌜ IsRoot x r ⌝ }
 {
-    float::sqrt(x)
+    root::sqrt(x)
 }
 
 pub fn sqrt_bits(b: u32) -> u32
     ensures { λ r. ⌜ r ≡ rootBits b ⌝ }
 {
-    float::sqrt_bits(b)
+    root::sqrt_bits(b)
 }
 
 pub fn compare(a: f32, b: f32) -> Comparison
