@@ -6,33 +6,17 @@ use mathlib.Core.Path.{_≡_, refl, sym, ap, _∙_, subst}
 use mathlib.Core.Bool.{Bool, true, false, cond, _&&_, true≢false}
 use lib.Dec.{T, leb, ltb, eqb, ltb→lt}
 use lib.IntN.{pos}
-use lib.Ieee.{Float, nan, inf, fin, binary32, ofBits, up, down, lt, le, div, round, units, odd}
-use lib.Ieee.Fits.{round-is}
+use lib.Ieee.{Float, nan, inf, fin, binary32, ofBits, up, down, lt, le, div, round}
 use lib.Ieee.Positive.{positive, between}
 use borrow.Author.Tests.{eqb-true, leb-true, leb-false, le-leb, lt-leb}
 use Rattle.float.specs.Arith.{_⊘_, _≺_, f0}
 use Rattle.float.specs.Cell.{floorOf, cellOf}
 use Rattle.float.specs.Distance.{unsigned}
+use Rattle.float.proofs.NoSign.{round-unsigned}
 use Rattle.grid.specs.Bounds.{isSize, f2¹⁰, f2⁻¹⁰}
 use Rattle.run.specs.Signs.{atMost}
 
 -- ---- the quotient has no sign
-
-odd-unsigned : (d q k l : ℕ) → T (unsigned (odd d false q k l))
-unfolding odd
-odd-unsigned d zero k l = tt
-odd-unsigned d (suc q) k l = tt
-
-units-unsigned : (q k : ℕ) → T (unsigned (units binary32 false q k))
-unfolding units
-units-unsigned q k = go (ltb (q * 2 ^ k) (2 ^ (149 + 128)))
-  where
-    go : (b : Bool) → T (unsigned (cond b (odd 25 false q k 149) (inf false)))
-    go true = odd-unsigned 25 q k 149
-    go false = tt
-
-round-unsigned : (a c : ℕ) → T (unsigned (round binary32 false a c))
-round-unsigned a c = subst (λ (v : Float). T (unsigned v)) (sym (round-is binary32 false a c)) (units-unsigned _ _)
 
 zero-is : f0 ≡ fin false 0 (pos 0)
 unfolding ofBits

@@ -1,17 +1,17 @@
 // The grid's questions asked by themselves: none has a `requires`. Each answers 1 for a grid out of
 // bounds, then 4 for a cell or an index outside the counts, then what was asked for (document 01,
-// "Reply numbers"). The Rust panics or runs on there.
-use crate::BoundingBox;
-use crate::Cell;
-use crate::Counts;
-use crate::Grid;
-use crate::SnapResult;
+// "Reply numbers"). The Rust panics or runs on there. A part of the public face `sdf`.
+use grid::BoundingBox;
+use grid::Cell;
+use grid::Counts;
+use grid::Grid;
+use grid::SnapResult;
 use point::Point;
 ghost use mathlib.Core.Path.{_≡_};
 ghost use Rattle.grid.specs.Axes.{countsOf};
 ghost use Rattle.grid.specs.Index.{indexOf, cellAt, total};
 ghost use Rattle.grid.specs.Place as Spec;
-ghost use Rattle.grid.specs.Reply as Reply;
+ghost use Rattle.grid_asked.specs.Reply as Reply;
 
 pub enum NumberAnswer {
     Refused(u32),

@@ -1,8 +1,8 @@
 -- `asked::get_cell_center`: refused by the test of the grid, then by that of the cell, else the answer of the method. A cell within the counts is below 2^16. Assumes nothing.
 use native.Mathlib.Omega.{arith}
 use Rattle.grid.proofs.Facts.{fails, passes, bounds-of, inside-of}
-use Rattle.grid.proofs.asked.get_cell_center.Statement.{statement}
-use Rattle.grid.proofs.asked.get_cell_center.Tie as tie
+use Rattle.grid_asked.proofs.get_cell_center.Statement.{statement}
+use Rattle.grid_asked.proofs.get_cell_center.Tie as tie
 
 pub get-cell-center-spec : {M : Type 1} → statement M
 get-cell-center-spec =

@@ -1,7 +1,7 @@
 -- `asked::get_bounding_box`: refused by the test of the grid, else the answer of the method. Assumes nothing.
 use Rattle.grid.proofs.Facts.{fails, passes}
-use Rattle.grid.proofs.asked.get_bounding_box.Statement.{statement}
-use Rattle.grid.proofs.asked.get_bounding_box.Tie as tie
+use Rattle.grid_asked.proofs.get_bounding_box.Statement.{statement}
+use Rattle.grid_asked.proofs.get_bounding_box.Tie as tie
 
 pub get-bounding-box-spec : {M : Type 1} → statement M
 get-bounding-box-spec =

@@ -1,7 +1,7 @@
 -- `asked::snap_point_to_grid`: refused by the test of the grid, else the answer of the method. Assumes nothing.
 use Rattle.grid.proofs.Facts.{fails, passes}
-use Rattle.grid.proofs.asked.snap_point_to_grid.Statement.{statement}
-use Rattle.grid.proofs.asked.snap_point_to_grid.Tie as tie
+use Rattle.grid_asked.proofs.snap_point_to_grid.Statement.{statement}
+use Rattle.grid_asked.proofs.snap_point_to_grid.Tie as tie
 
 pub snap-point-to-grid-spec : {M : Type 1} → statement M
 snap-point-to-grid-spec =

@@ -1,7 +1,7 @@
 -- `asked::from_bounding_box`: refused by the test of the grid that was made, else that grid. Assumes nothing.
 use Rattle.grid.proofs.Facts.{fails, passes}
-use Rattle.grid.proofs.asked.from_bounding_box.Statement.{statement}
-use Rattle.grid.proofs.asked.from_bounding_box.Tie as tie
+use Rattle.grid_asked.proofs.from_bounding_box.Statement.{statement}
+use Rattle.grid_asked.proofs.from_bounding_box.Tie as tie
 
 pub from-bounding-box-spec : {M : Type 1} → statement M
 from-bounding-box-spec =

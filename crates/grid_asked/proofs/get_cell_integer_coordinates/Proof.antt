@@ -1,7 +1,7 @@
 -- `asked::get_cell_integer_coordinates`: refused by the test of the grid, then by that of the index, else the answer of the method. Assumes nothing.
 use Rattle.grid.proofs.Facts.{fails, passes}
-use Rattle.grid.proofs.asked.get_cell_integer_coordinates.Statement.{statement}
-use Rattle.grid.proofs.asked.get_cell_integer_coordinates.Tie as tie
+use Rattle.grid_asked.proofs.get_cell_integer_coordinates.Statement.{statement}
+use Rattle.grid_asked.proofs.get_cell_integer_coordinates.Tie as tie
 
 pub get-cell-integer-coordinates-spec : {M : Type 1} → statement M
 get-cell-integer-coordinates-spec =

@@ -1,7 +1,7 @@
 -- `asked::get_cell_idx`: refused by the test of the grid, then by that of the cell, else the answer of the method. Assumes nothing.
 use Rattle.grid.proofs.Facts.{fails, passes, inside-of}
-use Rattle.grid.proofs.asked.get_cell_idx.Statement.{statement}
-use Rattle.grid.proofs.asked.get_cell_idx.Tie as tie
+use Rattle.grid_asked.proofs.get_cell_idx.Statement.{statement}
+use Rattle.grid_asked.proofs.get_cell_idx.Tie as tie
 
 pub get-cell-idx-spec : {M : Type 1} → statement M
 get-cell-idx-spec =
