@@ -8,9 +8,9 @@ use Rattle.topology.specs.declared.Topology.the-variants.{TriangleList, Triangl
 use Rattle.topology.specs.declared.Indices.{Indices}
 use Rattle.topology.specs.declared.Indices.the-variants.{Given}
 use Rattle.topology.specs.declared.Indices.the-variants as Indices
-use Rattle.generate.specs.declared.Answer.{Answer}
-use Rattle.generate.specs.Job.{Lent, numberOf, popsOf, peakOf}
-use Rattle.generate.specs.Outcome.{Outcome}
+use Rattle.outcome.specs.declared.Answer.{Answer}
+use Rattle.checks.specs.Job.{Lent}
+use Rattle.outcome.specs.Outcome.{Outcome, numberOf, popsOf, peakOf}
 use Rattle.sdf_c.specs.declared.job.SdfJobAnswer.{SdfJobAnswer}
 
 -- 0 is a list, and any other number a strip

@@ -7,9 +7,9 @@ use lib.Ieee.{Float}
 use Rattle.grid.specs.declared.Grid.{Grid}
 use Rattle.topology.specs.declared.Topology.{Topology}
 use Rattle.topology.specs.declared.Indices.{Indices}
-use Rattle.generate.specs.declared.Answer.{Answer}
-use Rattle.generate.specs.Job.{Lent, jobOf, lentOf}
-use Rattle.generate.specs.Outcome.{Outcome, Gives, outcome}
+use Rattle.outcome.specs.declared.Answer.{Answer}
+use Rattle.checks.specs.Job.{Lent, jobOf, lentOf}
+use Rattle.outcome.specs.Outcome.{Outcome, Gives, outcome}
 use Rattle.sdf_c.specs.declared.job.SdfJobAnswer.{SdfJobAnswer}
 use Rattle.sdf_c.specs.Job.{answerOut, GivesC}
 use Rattle.sdf_c.proofs.job.sdf_generate_grid_sdf.Statement.{statement}
