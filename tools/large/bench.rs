@@ -22,9 +22,18 @@ use model::topology::triangles;
 use model::Job;
 use port::{ask, ask_with_room, Lent};
 use random::Random;
+use shapes::Mesh;
 use web_time::Instant;
 
-const WORKLOADS: [&str; 4] = ["closed-tank", "noisy-scan", "open-tank", "soup"];
+/// A closed tank, its scan with vertices off by up to half a cell, that without its roof, and triangles anywhere: to
+/// two cells across, and to sixteen, of which there are an eighth as many.
+const WORKLOADS: [(&str, fn(&Grid, u32, &mut Random) -> Mesh); 5] = [
+    ("closed-tank", |grid, n, r| meshes::tank(grid, n, 0.9, r)),
+    ("noisy-scan", |grid, n, r| meshes::scan(grid, n, 0.5, r)),
+    ("open-tank", |grid, n, r| meshes::without_roof(meshes::scan(grid, n, 0.5, r))),
+    ("soup", |grid, n, r| meshes::soup_of(grid, n, 1.0, r)),
+    ("large-facets", |grid, n, r| meshes::soup_of(grid, n / 8, 8.0, r)),
+];
 /// Cells along each axis, and triangles.
 const SIZES: [(u32, u32); 4] = [(16, 625), (32, 2_500), (64, 10_000), (100, 20_000)];
 const PARTS: [&str; 4] = ["seeding", "spreading", "crossings", "whole"];
@@ -59,11 +68,12 @@ fn main() {
     mesh_oracle::begin();
     println!("load before: {}", load());
     let mut slowest = [f64::MAX; 4];
-    for workload in WORKLOADS {
+    for (workload, mesh) in WORKLOADS {
         for (edge, number) in SIZES.into_iter().filter(|(edge, _)| *edge <= largest) {
             let grid = Grid { first: [0.05; 3], size: [0.1; 3], count: [edge; 3] };
             let mut lent = Lent::fitting(&grid, 2 * grid.cells() as usize);
-            let job = meshes::plain(workload, grid, number, &mut Random::new(7, 0));
+            let mesh = mesh(&grid, number, &mut Random::new(7, 0));
+            let job = meshes::plain(grid, mesh);
             let answer = ask_with_room(&job, &mut lent);
             let (mut a, mut b) = ([f64::MAX; 4], [f64::MAX; 4]);
             for _ in 0..if edge == 100 { rounds.min(3) } else { rounds } {

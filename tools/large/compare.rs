@@ -101,6 +101,9 @@ fn main() {
                 _ => panic!("no such set: {set}"),
             };
             seen.jobs += 1;
+            if seen.jobs % 32 == 0 && set != "small" {
+                eprintln!("{} jobs, {} differences", seen.jobs, seen.differences);
+            }
             *seen.kinds.entry(kind.clone()).or_default() += 1;
             if let Err(words) = verdict {
                 seen.differences += 1;
@@ -223,17 +226,18 @@ fn sizes_to_64(index: u64, r: &mut Random) -> ([u32; 3], u32) {
     }
 }
 
-/// In 32 jobs: one of the largest, three of long or flat grids, four near the largest, eight of half its edge, and
-/// sixteen below that. The numbers of triangles go with them.
+/// In 96 jobs: one of the largest and two near it, nine of long or flat grids, six to 90 cells on an axis, eighteen to
+/// 60, and sixty to 36. The numbers of triangles go with them.
 fn sizes_to_100(index: u64, r: &mut Random) -> ([u32; 3], u32) {
     match index % 32 {
-        0 => ([100; 3], 20_000),
-        1 => ([r.between(200, 1_024), r.between(4, 12), r.between(4, 12)], r.between(500, 4_000)),
-        2 => ([r.between(4, 12), r.between(200, 1_024), r.between(4, 12)], r.between(500, 4_000)),
-        3 => ([r.between(4, 12), r.between(4, 12), r.between(200, 1_024)], r.between(500, 4_000)),
-        4..=7 => ([0; 3].map(|_| r.between(64, 100)), r.between(4_000, 20_000)),
-        8..=15 => ([0; 3].map(|_| r.between(36, 64)), r.between(2_000, 10_000)),
-        _ => ([0; 3].map(|_| r.between(16, 44)), r.between(500, 6_000)),
+        0 if index % 96 == 0 => ([100; 3], 20_000),
+        0 => ([0; 3].map(|_| r.between(80, 100)), r.between(4_000, 8_000)),
+        1 => ([r.between(200, 1_024), r.between(4, 12), r.between(4, 12)], r.between(500, 2_000)),
+        2 => ([r.between(4, 12), r.between(200, 1_024), r.between(4, 12)], r.between(500, 2_000)),
+        3 => ([r.between(4, 12), r.between(4, 12), r.between(200, 1_024)], r.between(500, 2_000)),
+        4..=5 => ([0; 3].map(|_| r.between(64, 90)), r.between(2_000, 8_000)),
+        6..=11 => ([0; 3].map(|_| r.between(36, 60)), r.between(1_000, 5_000)),
+        _ => ([0; 3].map(|_| r.between(12, 36)), r.between(300, 4_000)),
     }
 }
 
@@ -271,7 +275,8 @@ fn at_bounds(seen: &mut Seen) {
         let mut r = Random::new(1, 0);
         let grid = meshes::grid(count, &mut r);
         let mut lent = Lent::fitting(&grid, 2 * grid.cells() as usize);
-        let job = meshes::plain("soup", grid, triangles, &mut r);
+        let mesh = meshes::soup_of(&grid, triangles, 1.0, &mut r);
+        let job = meshes::plain(grid, mesh);
         seen.jobs += 1;
         match seen.hold(&job, &mut lent, false) {
             Ok(held) => {

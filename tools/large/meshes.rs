@@ -43,10 +43,8 @@ pub fn make(kind: usize, grid: Grid, triangles: u32, r: &mut Random) -> Job {
     lifted(grid, Topology::List, vertices, Some(indices))
 }
 
-/// A job of the kind with its triangles in order and indices.
-pub fn plain(kind: &str, grid: Grid, triangles: u32, r: &mut Random) -> Job {
-    let (_, mesh) = KINDS.iter().find(|(name, _)| *name == kind).expect("a kind of the table");
-    let Mesh { vertices, triangles } = mesh(&grid, triangles, r);
+/// A job of a mesh in cell units, with its triangles in order and indices.
+pub fn plain(grid: Grid, Mesh { vertices, triangles }: Mesh) -> Job {
     let vertices = vertices.iter().map(|v| place(&grid, *v)).collect();
     lifted(grid, Topology::List, vertices, Some(triangles.into_iter().flatten().collect()))
 }
@@ -94,33 +92,46 @@ pub fn tank(grid: &Grid, triangles: u32, size: f64, r: &mut Random) -> Mesh {
     shapes::turned(middle, &shapes::tank_profile(half[0].min(half[1]), half[2], rings, bands), segments)
 }
 
-/// A tank as a scanner sees it: every vertex a little off.
 fn noisy(grid: &Grid, triangles: u32, r: &mut Random) -> Mesh {
-    let mut mesh = tank(grid, triangles, 0.9, r);
     let noise = [0.01, 0.1, 0.5, 1.5][r.below(4) as usize];
+    scan(grid, triangles, noise, r)
+}
+
+/// A tank as a scanner sees it: every vertex off by up to so many cells.
+pub fn scan(grid: &Grid, triangles: u32, noise: f64, r: &mut Random) -> Mesh {
+    let mut mesh = tank(grid, triangles, 0.9, r);
     for vertex in &mut mesh.vertices {
         *vertex = vertex.map(|x| x + noise * f64::from(r.unit()));
     }
     mesh
 }
 
-/// A tank without its roof, or with facets missing here and there.
+/// A scan without its roof, or with facets missing here and there.
 fn open(grid: &Grid, triangles: u32, r: &mut Random) -> Mesh {
     let mut mesh = noisy(grid, triangles, r);
     if r.once_in(2) {
-        let top = mesh.vertices.iter().map(|v| v[2]).fold(f64::MIN, f64::max) - 1.0;
-        let vertices = &mesh.vertices;
-        mesh.triangles.retain(|t| t.iter().any(|&v| vertices[v as usize][2] < top));
-    } else {
-        let once_in = 2 + r.below(30);
-        mesh.triangles.retain(|_| !r.once_in(once_in));
+        return without_roof(mesh);
     }
+    let once_in = 2 + r.below(30);
+    mesh.triangles.retain(|_| !r.once_in(once_in));
     mesh
 }
 
-/// Triangles anywhere, smaller the more there are.
+pub fn without_roof(mut mesh: Mesh) -> Mesh {
+    let top = mesh.vertices.iter().map(|v| v[2]).fold(f64::MIN, f64::max) - 1.0;
+    let vertices = &mesh.vertices;
+    mesh.triangles.retain(|t| t.iter().any(|&v| vertices[v as usize][2] < top));
+    mesh
+}
+
+/// The triangles are smaller the more there are.
 fn soup(grid: &Grid, triangles: u32, r: &mut Random) -> Mesh {
     let reach = [0.3, 1.0, 3.0, if triangles < 3_000 { 10.0 } else { 3.0 }][r.below(4) as usize];
+    soup_of(grid, triangles, reach, r)
+}
+
+/// Triangles anywhere, with corners up to so many cells from their middle on each axis.
+pub fn soup_of(grid: &Grid, triangles: u32, reach: f64, r: &mut Random) -> Mesh {
     let mut mesh = Mesh::default();
     for n in 0..triangles {
         let near = grid.count.map(|n| (f64::from(n) + 4.0) * part(r) - 2.0);
