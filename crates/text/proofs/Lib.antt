@@ -1,1 +1,6 @@
 pub mod Example
+pub mod Formats
+pub mod Digits
+pub mod Numbers
+pub mod Lines
+pub mod Job
