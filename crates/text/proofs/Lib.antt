@@ -4,3 +4,4 @@ pub mod Digits
 pub mod Numbers
 pub mod Lines
 pub mod Job
+pub mod Places
