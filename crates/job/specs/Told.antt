@@ -2,11 +2,17 @@
 use Prim.Native.Nat.{ℕ}
 use mathlib.Core.List.{List}
 use lib.ListN.{drop}
+use Rattle.topology.specs.declared.Topology.{Topology}
+use Rattle.text.specs.declared.Three.{Three}
 use Rattle.text.specs.Reader.{Got, took, nothing}
 use Rattle.job.specs.declared.words.Next.{Next}
 use Rattle.job.specs.declared.words.Next.the-variants.{At, Not}
 use Rattle.job.specs.declared.words.Number.{Number}
 use Rattle.job.specs.declared.words.Number.the-variants as Number
+use Rattle.job.specs.declared.lines.Triple.{Triple}
+use Rattle.job.specs.declared.lines.Triple.the-variants as Triple
+use Rattle.job.specs.declared.lines.Shape.{Shape}
+use Rattle.job.specs.declared.lines.Shape.the-variants as Shape
 
 -- a value that the place alone tells
 abbrev pub gotNext : {A : Type 0} → A → List ℕ → Next → Got A
@@ -16,3 +22,11 @@ gotNext a text Not = nothing
 abbrev pub gotNumber : List ℕ → Number → Got ℕ
 gotNumber text (Number.Is v k) = took v (drop k text)
 gotNumber text Number.Not = nothing
+
+abbrev pub gotTriple : List ℕ → Triple → Got Three
+gotTriple text (Triple.Are t k) = took t (drop k text)
+gotTriple text Triple.Not = nothing
+
+abbrev pub gotShape : List ℕ → Shape → Got Topology
+gotShape text (Shape.Is t k) = took t (drop k text)
+gotShape text Shape.Not = nothing
