@@ -2,4 +2,5 @@
 // the text of every job within the program's limits, and nothing else. A part of the port: users run the
 // job program.
 mod lines;
+mod parts;
 mod words;
