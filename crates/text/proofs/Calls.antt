@@ -1,10 +1,12 @@
 -- For a function that calls the readers of a line's parts one after the other: what it comes to, from what each call told.
-use Prim.Native.Nat.{ℕ}
-use mathlib.Core.Path.{_≡_, ap, _∙_}
+use Prim.Native.Nat.{ℕ, _≤_}
+use mathlib.Core.Path.{_≡_, sym, ap, _∙_}
 use mathlib.Core.Bool.{Bool, true, false, cond}
 use mathlib.Core.List.{List}
+use borrow.Author.Tests.{leb-true}
 use Rattle.text.specs.Words.{space, lf}
-use Rattle.text.specs.Reader.{Got, took, nothing, follow, kept, orElse, three, threeAt}
+use Rattle.text.specs.Reader.{Got, took, nothing, follow, kept, orElse, three, threeAt, numberLine}
+use Rattle.text.proofs.Formats.{kept-took}
 
 module _ {A B : Type 0} (f : A → List ℕ → Got B) where
   pub onward : {x : Got A} {a : A} {s : List ℕ} → took a s ≡ x → f a s ≡ follow x f
@@ -56,3 +58,8 @@ module _ (p : ℕ → List ℕ → Got ℕ) {s : List ℕ} where
       pub three-are : {z : ℕ} {v : List ℕ} → took z v ≡ p lf u → took (three x y z) v ≡ threeAt p s
       unfolding threeAt
       three-are e = onward _ e ∙ onward _ second ∙ onward _ first
+
+-- a number that was taken is at most as large as its line allows
+pub bounded : (key : List ℕ) (most : ℕ) (s : List ℕ) {n : ℕ} {r : List ℕ} → took n r ≡ numberLine key most s → n ≤ most
+unfolding numberLine
+bounded key most s {n = n} {r = r} e = leb-true n most (kept-took _ _ n r (sym e) .0)

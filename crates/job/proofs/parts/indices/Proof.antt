@@ -1,102 +1,69 @@
+-- `job::parts::indices`: that there are none, or the count and as many lines, as in the reader on lists. Assumes nothing.
 use borrow.Author.Needs.{needs}
+use native.Mathlib.Omega.{arith}
+use mathlib.Core.Path.{_∙_}
+use Rattle.text.specs.Reader.{indicesAt}
+use Rattle.text.proofs.Calls.{onward, stopped, bounded, the-first, the-second}
 use Rattle.job.proofs.parts.indices.Statement.{statement}
 use Rattle.job.proofs.parts.indices.Tie as tie
-use Rattle.job.proofs.parts.indices.Reads as reads
-use Rattle.job.proofs.parts.indices.Lts as lts
-use Rattle.job.proofs.lines.number_line.Reads as number-line-reads
-use Rattle.job.proofs.parts.index_lines.Reads as index-lines-reads
-use Rattle.job.proofs.words.after.Reads as after-reads
 
--- src/parts.rt:146:52
-slice-aggregate-after : tie.Need-slice-aggregate-after
-slice-aggregate-after c = search needs
-
--- src/parts.rt:146:29
-after-requires : tie.Need-after-requires
-after-requires c κs = search needs
-
--- src/parts.rt:146:21
-enum-known-next : tie.Need-enum-known-next
-enum-known-next c = search needs
-
--- src/parts.rt:147:9
 returns : tie.Need-returns
-returns c = ?
+unfolding indicesAt
+returns c =
+    let n = c .before in
+    the-first _ (onward _ (rw (n .next .given .1) at (n .before .before .after .ensures)))
 
-enum-told : tie.Need-enum-told
-enum-told c = search needs
-
--- src/parts.rt:152:38
-slice-aggregate-number-line : tie.Need-slice-aggregate-number-line
-slice-aggregate-number-line c = search needs
-
--- src/parts.rt:152:9
-number-line-requires : tie.Need-number-line-requires
-number-line-requires c κs = search needs
-
--- src/parts.rt:150:9
-enum-known-value : tie.Need-enum-known-value
-enum-known-value c = search needs
-
--- src/parts.rt:154:9
-enum-told-2 : tie.Need-enum-told-2
-enum-told-2 c = search needs
-
--- src/parts.rt:154:9
 returns-2 : tie.Need-returns-2
-returns-2 c = ?
+unfolding indicesAt
+returns-2 c =
+    let d = c .before .before in
+    let a = d .before .before in
+    the-second (stopped _ (rw (a .enum-told .given .1) at (a .before .before .after .ensures))) (stopped _ (rw (c .enum-told2 .given .1) at (d .number-line .ensures)))
 
--- src/parts.rt:156:17
-cast-count : tie.Need-cast-count
-cast-count c = search needs
-
--- src/parts.rt:157:26
 index-lines-requires : tie.Need-index-lines-requires
-index-lines-requires c κs = ?
+index-lines-requires c κs =
+    let v = c .before .before in
+    let h = bounded _ _ _ (rw (v .value .given .1) at (v .before .before .number-line .ensures)) in
+    omega arith
 
--- src/parts.rt:157:18
-enum-known-next-2 : tie.Need-enum-known-next-2
-enum-known-next-2 c = search needs
-
--- src/parts.rt:158:9
-enum-told-3 : tie.Need-enum-told-3
-enum-told-3 c = search needs
-
--- src/parts.rt:158:9
-same-length : tie.Need-same-length
-same-length c = search needs
-
--- src/parts.rt:158:9
 returns-3 : tie.Need-returns-3
-returns-3 c = ?
+unfolding indicesAt
+returns-3 c =
+    let d = c .before .before .before .before in
+    let v = d .before .before .before in
+    let a = v .before .before .before .before in
+    the-second (stopped _ (rw (a .enum-told .given .1) at (a .before .before .after .ensures)))
+    (stopped _ (rw (c .enum-told3 .given .1) at (d .index-lines .ensures)) ∙ onward _ (rw (v .value .given .1) at (v .before .before .number-line .ensures)))
 
--- src/parts.rt:142:1
-same-length-2 : tie.Need-same-length-2
-same-length-2 c = search needs
-
--- src/parts.rt:142:1
 returns-4 : tie.Need-returns-4
-returns-4 c = ?
+unfolding indicesAt
+returns-4 c =
+    let n = c .before in
+    let d = n .before .before .before .before in
+    let v = d .before .before .before in
+    let a = v .before .before .before .before in
+    the-second (stopped _ (rw (a .enum-told .given .1) at (a .before .before .after .ensures)))
+    (onward _ (rw (n .next2 .given .1) at (d .index-lines .ensures)) ∙ onward _ (rw (v .value .given .1) at (v .before .before .number-line .ensures)))
 
 pub indices-spec : {M : Type 1} → statement M
 indices-spec =
     tie.close
     (tie.spec
-    slice-aggregate-after
-    after-requires
-    enum-known-next
+    (λ c. search needs)
+    (λ c κs. search needs)
+    (λ c. search needs)
     returns
-    enum-told
-    slice-aggregate-number-line
-    number-line-requires
-    enum-known-value
-    enum-told-2
+    (λ c. search needs)
+    (λ c. search needs)
+    (λ c κs. search needs)
+    (λ c. search needs)
+    (λ c. search needs)
     returns-2
-    cast-count
+    (λ c. search needs)
     index-lines-requires
-    enum-known-next-2
-    enum-told-3
-    same-length
+    (λ c. search needs)
+    (λ c. search needs)
+    (λ c. search needs)
     returns-3
-    same-length-2
+    (λ c. search needs)
     returns-4)
