@@ -1,13 +1,14 @@
 // The lines of the job's text: a key, and what stands behind it (document 01, "One job, one listing"). A
 // part of the reader: callers use `job::read_job`.
+use reader_words::Form;
 use reader_words::Next;
 use reader_words::Number;
 use text::Three;
 use topology::Topology;
 ghost use mathlib.Core.Path.{_≡_};
 ghost use lib.ListN.{drop};
-ghost use Rattle.text.specs.Reader.{numberAt, bitsAt, threeAt, numberLine, floatsLine, fewCells, countLine, topologyLine};
-ghost use Rattle.reader_words.specs.Told.{gotNumber};
+ghost use Rattle.text.specs.Reader.{threeAt, numberLine, floatsLine, fewCells, countLine, topologyLine};
+ghost use Rattle.reader_words.specs.Told.{gotNumber, readerOf};
 ghost use Rattle.reader_lines.specs.Told.{gotTriple, gotShape};
 
 // Three numbers, and the place behind them.
@@ -22,52 +23,25 @@ pub enum Shape {
     Not,
 }
 
-// Three decimal numbers to the end of the line.
-fn three_numbers(text: &[u8], at: usize) -> Triple
-    ensures { λ r. ⌜ gotTriple (now (text .entry)) r ≡ threeAt numberAt (drop at (now (text .entry))) ⌝ }
+// Three numbers to the end of the line.
+fn three_values(text: &[u8], at: usize, form: Form) -> Triple
+    ensures { λ r. ⌜ gotTriple (now (text .entry)) r ≡ threeAt (readerOf form) (drop at (now (text .entry))) ⌝ }
 {
     let Number::Is {
         value: x,
         next: behind_x,
-    } = reader_words::decimal(text, at, b' ')
+    } = reader_words::value(text, at, b' ', form)
     else {
         return Triple::Not;
     };
     let Number::Is {
         value: y,
         next: behind_y,
-    } = reader_words::decimal(text, behind_x, b' ')
+    } = reader_words::value(text, behind_x, b' ', form)
     else {
         return Triple::Not;
     };
-    let Number::Is { value: z, next } = reader_words::decimal(text, behind_y, b'\n') else {
-        return Triple::Not;
-    };
-    Triple::Are {
-        three: Three { x, y, z },
-        next,
-    }
-}
-
-// Three floats to the end of the line, as their bits.
-fn three_floats(text: &[u8], at: usize) -> Triple
-    ensures { λ r. ⌜ gotTriple (now (text .entry)) r ≡ threeAt bitsAt (drop at (now (text .entry))) ⌝ }
-{
-    let Number::Is {
-        value: x,
-        next: behind_x,
-    } = reader_words::hex8(text, at, b' ')
-    else {
-        return Triple::Not;
-    };
-    let Number::Is {
-        value: y,
-        next: behind_y,
-    } = reader_words::hex8(text, behind_x, b' ')
-    else {
-        return Triple::Not;
-    };
-    let Number::Is { value: z, next } = reader_words::hex8(text, behind_y, b'\n') else {
+    let Number::Is { value: z, next } = reader_words::value(text, behind_y, b'\n', form) else {
         return Triple::Not;
     };
     Triple::Are {
@@ -99,7 +73,7 @@ pub fn floats_line(text: &[u8], at: usize, key: &[u8]) -> Triple
     let Next::At(behind) = reader_words::after(text, at, key) else {
         return Triple::Not;
     };
-    three_floats(text, behind)
+    three_values(text, behind, Form::Hex8)
 }
 
 // Whether there are at most 512 cells. The product of three counts may have 96 bits: above 512 the product of
@@ -121,7 +95,7 @@ pub fn count_line(text: &[u8], at: usize) -> Triple
     let Next::At(behind) = reader_words::after(text, at, b"count=") else {
         return Triple::Not;
     };
-    let Triple::Are { three, next } = three_numbers(text, behind) else {
+    let Triple::Are { three, next } = three_values(text, behind, Form::Decimal) else {
         return Triple::Not;
     };
     let few = few_cells(three);

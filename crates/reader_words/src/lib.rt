@@ -4,7 +4,7 @@
 ghost use mathlib.Core.Path.{_≡_};
 ghost use lib.ListN.{drop};
 ghost use Rattle.text.specs.Reader.{digitOf, wordAt, numberAt, bitsAt};
-ghost use Rattle.reader_words.specs.Told.{gotNext, gotNumber};
+ghost use Rattle.reader_words.specs.Told.{gotNext, gotNumber, readerOf};
 
 // The place behind what was looked for.
 pub enum Next {
@@ -16,6 +16,12 @@ pub enum Next {
 pub enum Number {
     Is { value: u32, next: usize },
     Not,
+}
+
+// How a number is written: in decimal, or as eight hex digits.
+pub enum Form {
+    Decimal,
+    Hex8,
 }
 
 // The value of a lower-case hex digit, and 16 of any other byte.
@@ -91,7 +97,7 @@ pub fn decimal(text: &[u8], at: usize, stop: u8) -> Number
 }
 
 // Eight lower-case hex digits, and the byte `stop`.
-pub fn hex8(text: &[u8], at: usize, stop: u8) -> Number
+fn hex8(text: &[u8], at: usize, stop: u8) -> Number
     ensures { λ r. ⌜ gotNumber (now (text .entry)) r ≡ bitsAt stop (drop at (now (text .entry))) ⌝ }
 {
     let mut value: u64 = 0;
@@ -118,5 +124,15 @@ pub fn hex8(text: &[u8], at: usize, stop: u8) -> Number
     Number::Is {
         value: value as u32,
         next: k + 1,
+    }
+}
+
+// A number in either form, and the byte `stop`.
+pub fn value(text: &[u8], at: usize, stop: u8, form: Form) -> Number
+    ensures { λ r. ⌜ gotNumber (now (text .entry)) r ≡ readerOf form stop (drop at (now (text .entry))) ⌝ }
+{
+    match form {
+        Form::Decimal => decimal(text, at, stop),
+        Form::Hex8 => hex8(text, at, stop),
     }
 }

@@ -17,7 +17,7 @@ returns-2 c =
     let d = c .before .before in
     let k = d .before .before in
     kept-not _
-    (rw (c .enum-told2 .given .1) at (d .three-numbers .ensures) ∙ onward _ (rw (k .behind .given .1) at (k .before .before .after .ensures)))
+    (rw (c .enum-told2 .given .1) at (d .three-values .ensures) ∙ onward _ (rw (k .behind .given .1) at (k .before .before .after .ensures)))
 
 returns-3 : tie.Need-returns-3
 unfolding countLine
@@ -26,7 +26,7 @@ returns-3 c =
     let d = v .before .before in
     let k = d .before .before in
     fails _ (sym (not-true _ (c .if1 .taken)) ∙ c .before .few-cells .ensures)
-    (rw (v .three .given .1) at (d .three-numbers .ensures) ∙ onward _ (rw (k .behind .given .1) at (k .before .before .after .ensures)))
+    (rw (v .three .given .1) at (d .three-values .ensures) ∙ onward _ (rw (k .behind .given .1) at (k .before .before .after .ensures)))
 
 returns-4 : tie.Need-returns-4
 unfolding countLine
@@ -35,7 +35,7 @@ returns-4 c =
     let d = v .before .before in
     let k = d .before .before in
     passes _ (sym (not-false _ (c .if1 .left)) ∙ c .before .few-cells .ensures)
-    (rw (v .three .given .1) at (d .three-numbers .ensures) ∙ onward _ (rw (k .behind .given .1) at (k .before .before .after .ensures)))
+    (rw (v .three .given .1) at (d .three-values .ensures) ∙ onward _ (rw (k .behind .given .1) at (k .before .before .after .ensures)))
 
 pub count-line-spec : {M : Type 1} → statement M
 count-line-spec =

@@ -14,7 +14,7 @@ returns-2 : tie.Need-returns-2
 unfolding floatsLine
 returns-2 c =
     let k = c .before .before in
-    c .three-floats .ensures ∙ onward _ (rw (k .behind .given .1) at (k .before .before .after .ensures))
+    c .three-values .ensures ∙ onward _ (rw (k .behind .given .1) at (k .before .before .after .ensures))
 
 pub floats-line-spec : {M : Type 1} → statement M
 floats-line-spec =
