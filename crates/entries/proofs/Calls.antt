@@ -10,7 +10,7 @@ use lib.Dec.{T}
 use mathlib.Core.Bool.{Bool, true, false, not}
 use mir.Syntax.{Ty, Name, Place, place, field, Opd as Operand, copy, Body, seq, call, cond, skip, exit}
 use mir.Val.{Val, vbool}
-use base.Logic.{SProp, ent, sep, via, monoL, monoR, assoc′, id⊢}
+use base.Logic.{SProp, ent, sep, emp, via, emp∗, comm∗, monoL, monoR, assoc′, id⊢}
 use base.Fml.{Share, fat, froom, fdies}
 use prog.Wp.{Heap, Env, Calls, Loops, spotOf, exits}
 use ghost.Atoms.{Atoms, sem}
@@ -32,6 +32,11 @@ holds false h = absurd h
 pub fails : (y : Bool) → T (not y) → y ≡ false
 fails true h = absurd h
 fails false h = refl
+
+module _ {M : Type 1} {𝓤 : URA M} {H : Heap 𝓤} {A : Atoms 𝓤} {K : Type 0} {W : Given 𝓤 H A} {Γ : List (Item 𝓤)} where
+  -- a callee that asks for nothing
+  pub asks-nothing : K → {P : SProp 𝓤} → Step K W Γ (prop P) Γ (prop (sep 𝓤 P (emp 𝓤)))
+  asks-nothing t {P} = step (λ s. record { prf = via 𝓤 P (s .prf) (via 𝓤 (sep 𝓤 (emp 𝓤) P) (emp∗ 𝓤 P) (comm∗ 𝓤 (emp 𝓤) P)) })
 
 module _ {M : Type 1} {𝓤 : URA M} {H : Heap 𝓤} {A : Atoms 𝓤} {K : Type 0} {W : Given 𝓤 H A} {Γ : List (Item 𝓤)} {E : Env 𝓤 H} where
   -- local i, which holds a value at entry n, as an operand; and as a place
@@ -69,11 +74,11 @@ module _ {M : Type 1} {𝓤 : URA M} {H : Heap 𝓤} {A : Atoms 𝓤} {K : Type 
       → Step K W (del 𝓤 H A n (del 𝓤 H A n Γ)) (frees E g) Γ (frees ((τ, b) ∷ E) g)
   releases t n {τ} {b} {v} e f = step (λ s. record {
     prf =
-      via 𝓤 (sep 𝓤 (H .at fullShare τ b zero v) (⋆ 𝓤 H A (del 𝓤 H A n Γ))) (subst (λ (j : Item 𝓤). ent 𝓤 (⋆ 𝓤 H A Γ) (sep 𝓤 (mean 𝓤 H A j) (⋆ 𝓤 H A (del 𝓤 H A n Γ)))) e (pull 𝓤 H A n Γ))
-      (via 𝓤 (sep 𝓤 (H .room τ b zero) (⋆ 𝓤 H A (del 𝓤 H A n Γ))) (monoL 𝓤 (⋆ 𝓤 H A (del 𝓤 H A n Γ)) (W .laws .at-room τ b zero v))
-      (via 𝓤 (sep 𝓤 (H .room τ b zero) (sep 𝓤 (H .dies τ b) (⋆ 𝓤 H A (del 𝓤 H A n (del 𝓤 H A n Γ)))))
+        via 𝓤 (sep 𝓤 (H .at fullShare τ b zero v) (⋆ 𝓤 H A (del 𝓤 H A n Γ))) (subst (λ (j : Item 𝓤). ent 𝓤 (⋆ 𝓤 H A Γ) (sep 𝓤 (mean 𝓤 H A j) (⋆ 𝓤 H A (del 𝓤 H A n Γ)))) e (pull 𝓤 H A n Γ))
+        (via 𝓤 (sep 𝓤 (H .room τ b zero) (⋆ 𝓤 H A (del 𝓤 H A n Γ))) (monoL 𝓤 (⋆ 𝓤 H A (del 𝓤 H A n Γ)) (W .laws .at-room τ b zero v))
+        (via 𝓤 (sep 𝓤 (H .room τ b zero) (sep 𝓤 (H .dies τ b) (⋆ 𝓤 H A (del 𝓤 H A n (del 𝓤 H A n Γ)))))
         (monoR 𝓤 (H .room τ b zero) (subst (λ (j : Item 𝓤). ent 𝓤 (⋆ 𝓤 H A (del 𝓤 H A n Γ)) (sep 𝓤 (mean 𝓤 H A j) (⋆ 𝓤 H A (del 𝓤 H A n (del 𝓤 H A n Γ))))) f (pull 𝓤 H A n (del 𝓤 H A n Γ))))
-      (via 𝓤 (sep 𝓤 (sep 𝓤 (H .room τ b zero) (H .dies τ b)) (⋆ 𝓤 H A (del 𝓤 H A n (del 𝓤 H A n Γ)))) (assoc′ 𝓤 (H .room τ b zero) (H .dies τ b) (⋆ 𝓤 H A (del 𝓤 H A n (del 𝓤 H A n Γ))))
+        (via 𝓤 (sep 𝓤 (sep 𝓤 (H .room τ b zero) (H .dies τ b)) (⋆ 𝓤 H A (del 𝓤 H A n (del 𝓤 H A n Γ)))) (assoc′ 𝓤 (H .room τ b zero) (H .dies τ b) (⋆ 𝓤 H A (del 𝓤 H A n (del 𝓤 H A n Γ))))
         (monoR 𝓤 (sep 𝓤 (H .room τ b zero) (H .dies τ b)) (s .prf)))));
   })
 
@@ -82,9 +87,9 @@ module _ {M : Type 1} {𝓤 : URA M} {H : Heap 𝓤} {A : Atoms 𝓤} {K : Type 
       → Step K W (del 𝓤 H A n (del 𝓤 H A n Γ)) (frees E g) Γ (frees ((τ, b) ∷ E) g)
   releases-room t n {τ} {b} e f = step (λ s. record {
     prf =
-      via 𝓤 (sep 𝓤 (H .room τ b zero) (⋆ 𝓤 H A (del 𝓤 H A n Γ))) (subst (λ (j : Item 𝓤). ent 𝓤 (⋆ 𝓤 H A Γ) (sep 𝓤 (mean 𝓤 H A j) (⋆ 𝓤 H A (del 𝓤 H A n Γ)))) e (pull 𝓤 H A n Γ))
-      (via 𝓤 (sep 𝓤 (H .room τ b zero) (sep 𝓤 (H .dies τ b) (⋆ 𝓤 H A (del 𝓤 H A n (del 𝓤 H A n Γ)))))
+        via 𝓤 (sep 𝓤 (H .room τ b zero) (⋆ 𝓤 H A (del 𝓤 H A n Γ))) (subst (λ (j : Item 𝓤). ent 𝓤 (⋆ 𝓤 H A Γ) (sep 𝓤 (mean 𝓤 H A j) (⋆ 𝓤 H A (del 𝓤 H A n Γ)))) e (pull 𝓤 H A n Γ))
+        (via 𝓤 (sep 𝓤 (H .room τ b zero) (sep 𝓤 (H .dies τ b) (⋆ 𝓤 H A (del 𝓤 H A n (del 𝓤 H A n Γ)))))
         (monoR 𝓤 (H .room τ b zero) (subst (λ (j : Item 𝓤). ent 𝓤 (⋆ 𝓤 H A (del 𝓤 H A n Γ)) (sep 𝓤 (mean 𝓤 H A j) (⋆ 𝓤 H A (del 𝓤 H A n (del 𝓤 H A n Γ))))) f (pull 𝓤 H A n (del 𝓤 H A n Γ))))
-      (via 𝓤 (sep 𝓤 (sep 𝓤 (H .room τ b zero) (H .dies τ b)) (⋆ 𝓤 H A (del 𝓤 H A n (del 𝓤 H A n Γ)))) (assoc′ 𝓤 (H .room τ b zero) (H .dies τ b) (⋆ 𝓤 H A (del 𝓤 H A n (del 𝓤 H A n Γ))))
+        (via 𝓤 (sep 𝓤 (sep 𝓤 (H .room τ b zero) (H .dies τ b)) (⋆ 𝓤 H A (del 𝓤 H A n (del 𝓤 H A n Γ)))) (assoc′ 𝓤 (H .room τ b zero) (H .dies τ b) (⋆ 𝓤 H A (del 𝓤 H A n (del 𝓤 H A n Γ))))
         (monoR 𝓤 (sep 𝓤 (H .room τ b zero) (H .dies τ b)) (s .prf))));
   })
