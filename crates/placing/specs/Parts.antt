@@ -1,4 +1,4 @@
--- The loops of seeding one inside the other, for a triangle made ready as a facet: along z, along y, along x. proofs/Whole.antt has that
+-- The loops of seeding one inside the other, for a triangle made ready as a facet: along z, along y, along x. `seeding` has a law that
 -- they add up to `seedTriangle` of the run. Definitions only.
 use Prim.Native.Nat.{ℕ}
 use mathlib.Core.List.{List, []}

@@ -1,4 +1,4 @@
--- `seeding::offer`: each return is one of the three ways of an offer. Assumes nothing.
+-- `placing::offer`: each return is one of the three ways of an offer. Assumes nothing.
 use borrow.Author.Needs.{needs}
 use mathlib.Core.Path.{_≡_, sym, ap, _∙_, subst}
 use lib.ListN.{getD, set}

@@ -1,4 +1,4 @@
--- `seeding::offer_at`: the cell of the index is the cell itself, so the distance is that of the definition. Assumes nothing.
+-- `placing::offer_at`: the cell of the index is the cell itself, so the distance is that of the definition. Assumes nothing.
 use borrow.Author.Needs.{needs}
 use mathlib.Core.Path.{_≡_, sym, subst}
 use native.Mathlib.Omega.{arith}

@@ -1,4 +1,4 @@
--- `seeding::first_of`: what the calls ensure, axis by axis. Assumes nothing.
+-- `snapping::first_of`: what the calls ensure, axis by axis. Assumes nothing.
 use borrow.Author.Needs.{needs}
 use mathlib.Core.Path.{sym, subst}
 use Rattle.snapping.proofs.Boxes.{Small, snap-small, first-is}

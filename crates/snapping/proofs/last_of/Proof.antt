@@ -1,4 +1,4 @@
--- `seeding::last_of`: what the calls ensure, axis by axis. Assumes nothing.
+-- `snapping::last_of`: what the calls ensure, axis by axis. Assumes nothing.
 use borrow.Author.Needs.{needs}
 use mathlib.Core.Path.{sym, subst}
 use Rattle.grid.specs.declared.Cell.{Cell}

@@ -1,4 +1,4 @@
--- `seeding::lowered`: by its one test. Assumes nothing.
+-- `snapping::lowered`: by its one test. Assumes nothing.
 use mathlib.Core.Path.{_≡_, refl}
 use mathlib.Core.Bool.{Bool, true, false, _&&_}
 use Prim.Native.Nat.{ℕ, _<_}

@@ -1,4 +1,4 @@
--- `seeding::raised`: by its one test. Assumes nothing.
+-- `snapping::raised`: by its one test. Assumes nothing.
 use borrow.Author.Needs.{needs}
 use Rattle.snapping.proofs.raised.Statement.{statement}
 use Rattle.snapping.proofs.raised.Tie as tie

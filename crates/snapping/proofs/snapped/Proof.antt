@@ -1,4 +1,4 @@
--- `seeding::snapped`: the cell of either case of the answer. Assumes nothing.
+-- `snapping::snapped`: the cell of either case of the answer. Assumes nothing.
 use borrow.Author.Needs.{needs}
 use mathlib.Core.Path.{sym, ap, _∙_}
 use Rattle.grid.specs.Place.{cellIn}

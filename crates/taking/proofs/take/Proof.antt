@@ -1,4 +1,4 @@
--- `queue::take` meets its contract: the root goes first, and the last is sifted down from its place. Assumes nothing.
+-- `taking::take` meets its contract: the root goes first, and the last is sifted down from its place. Assumes nothing.
 use native.Mathlib.Omega.{arith}
 use Prim.Native.Nat.{_≤_}
 use mathlib.Core.List.{List}
