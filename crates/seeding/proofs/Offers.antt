@@ -14,8 +14,8 @@ use Rattle.grid.specs.declared.Cell.{Cell}
 use Rattle.grid.specs.Index.{Inside, indexOf, cellAt}
 use Rattle.grid.specs.Place.{centreOf}
 use Rattle.grid.proofs.Laws.{cell-of-index}
-use Rattle.geo.specs.declared.closest.Facet.{Facet}
-use Rattle.geo.specs.Distance.{squaredOn, distanceOn}
+use Rattle.closest.specs.declared.Facet.{Facet}
+use Rattle.squares.specs.Distance.{squaredOn, distanceOn}
 use Rattle.run.specs.Run.{State, offerAt, nothingElse}
 use Rattle.run.proofs.Ways.{offer-nan, offer-passed, offer-taken, is-nan, is-number}
 use Rattle.seeding.specs.Parts.{seedState, offerTo}

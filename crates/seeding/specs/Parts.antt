@@ -9,9 +9,9 @@ use Rattle.grid.specs.declared.Cell.{Cell}
 use Rattle.grid.specs.Axes.{cell}
 use Rattle.grid.specs.Index.{indexOf, cellAt}
 use Rattle.grid.specs.Place.{centreOf}
-use Rattle.geo.specs.declared.closest.Facet.{Facet}
-use Rattle.geo.specs.Closest.{facetOf}
-use Rattle.geo.specs.Distance.{distanceOn}
+use Rattle.closest.specs.declared.Facet.{Facet}
+use Rattle.closest.specs.Closest.{facetOf}
+use Rattle.squares.specs.Distance.{distanceOn}
 use Rattle.mesh.specs.declared.Corners.{Corners}
 use Rattle.mesh.specs.Mesh.{Mesh, cornersAt}
 use Rattle.run.specs.Run.{State, Box, offerAt, nothingElse}

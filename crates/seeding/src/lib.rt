@@ -18,7 +18,7 @@ ghost use Rattle.mesh.specs.Mesh.{Sound, meshOf, trianglesIn};
 ghost use Rattle.run.specs.Run.{offerAt, nothingElse};
 ghost use Rattle.run.specs.Ground.{firstOf, lastOf};
 ghost use Rattle.seeding.specs.Parts.{seedState, offerTo, alongLine, alongPlane, alongBox, overBox, overTriangle};
-use geo::Facet;
+use closest::Facet;
 use grid::Cell;
 use grid::Grid;
 use grid::SnapResult;
@@ -38,11 +38,11 @@ fn offer(field: &mut [f32], names: &mut [u32], c: usize, k: u32, q: f32) -> u32
         return 6;
     }
     let held = field[c];
-    let far = float::root_not_below(q, held);
+    let far = root::root_not_below(q, held);
     if far {
         return 0;
     }
-    let d = float::sqrt(q);
+    let d = root::sqrt(q);
     if d < held {
         field[c] = d;
         names[c] = k;
@@ -58,7 +58,7 @@ fn offer_at(field: &mut [f32], names: &mut [u32], grid: Grid, f: Facet, k: u32, 
     ensures { λ r. ⌜ offerTo grid f k (indexOf grid at) (seedState (now (field .entry)) (now (names .entry))) ≡ told r (seedState (now (field .exit)) (now (names .exit))) ⌝ }
 {
     let p = grid.get_cell_center(at);
-    let q = geo::squared_on(f, p);
+    let q = squares::squared_on(f, p);
     let c = grid.get_cell_idx(at) as usize;
     offer(field, names, c, k, q)
 }
@@ -210,10 +210,10 @@ fn seed_triangle(field: &mut [f32], names: &mut [u32], grid: Grid, corners: Corn
     requires { ⌜ (length (now field) ≡ total grid) × (length (now names) ≡ total grid) ⌝ }
     ensures { λ r. ⌜ overBox grid corners k (seedState (now (field .entry)) (now (names .entry))) ≡ told r (seedState (now (field .exit)) (now (names .exit))) ⌝ }
 {
-    let b = geo::triangle_bounding_box(corners.a, corners.b, corners.c);
+    let b = bounding::triangle_bounding_box(corners.a, corners.b, corners.c);
     let low = first_of(grid, b.low);
     let high = last_of(grid, b.high);
-    let f = geo::facet_of(corners.a, corners.b, corners.c);
+    let f = closest::facet_of(corners.a, corners.b, corners.c);
     seed_box(field, names, grid, f, k, low, high)
 }
 

@@ -5,7 +5,7 @@ use native.Mathlib.Omega.{arith}
 use lib.Ieee.{Float, isNan}
 use Rattle.float.specs.RootOf.{rootOf}
 use Rattle.grid.proofs.Laws.{index-below}
-use Rattle.geo.proofs.Laws.{nan-alike}
+use Rattle.squares.proofs.Laws.{nan-alike}
 use Rattle.seeding.proofs.Boxes.{small}
 use Rattle.seeding.proofs.Offers.{placed}
 use Rattle.seeding.proofs.offer_at.Statement.{statement}
