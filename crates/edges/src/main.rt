@@ -1,13 +1,13 @@
 // Each refusal of document 01 ("Reply numbers") at its exact bound: the public job is asked on both sides of
 // it, and what it answers is printed beside what was asked. The file `stdout` has the numbers that the
-// tables of document 01 give.
+// tables of document 01 give. Refusals 7 and 8 at their bounds are jobs of the sample that `replay` runs.
+mod counting;
 mod trial;
 
 use sdf::Grid;
 use sdf::Indices;
 use sdf::Point;
 use sdf::Topology;
-use trial::Lends;
 
 fn tell(name: &[u8], number: u32) {
     io::print_decimal(1, number as u64);
@@ -19,16 +19,14 @@ fn tell(name: &[u8], number: u32) {
 // ---- 1: the grid. One cell is lent, so a grid of several cells that is not out of bounds is answered 5.
 
 fn try_grid(name: &[u8], grid: Grid) {
-    let none = [0.0f32; 1];
-    let no_index = [0u32; 1];
-    let number = trial::number(
+    let vertices = [0.0f32; 3];
+    let indices = [0u32; 1];
+    let number = trial::one_cell(
         grid,
-        &none[..0],
+        &vertices,
         Topology::TriangleList,
         Indices::Given,
-        &no_index[..0],
-        trial::one_cell(0),
-        0,
+        &indices,
     );
     tell(name, number);
 }
@@ -67,7 +65,7 @@ fn try_size(name: &[u8], x: f32, y: f32, z: f32) {
     try_grid(name, grid);
 }
 
-fn grids() {
+fn counts() {
     try_counts(b"count 0 1 1", 0, 1, 1);
     try_counts(b"count 1 0 1", 1, 0, 1);
     try_counts(b"count 1 1 0", 1, 1, 0);
@@ -83,6 +81,9 @@ fn grids() {
     try_counts(b"count 7 163 919, product 1048579", 7, 163, 919);
     try_counts(b"count 1024 1024 1024", 1024, 1024, 1024);
     try_counts(b"count 65536 65536 1", 65536, 65536, 1);
+}
+
+fn first_cells() {
     try_first(b"first 1048575.9375 0 0", 1048575.9375, 0.0, 0.0);
     try_first(b"first 1048576 -1048576 0", 1048576.0, -1048576.0, 0.0);
     try_first(b"first 0 0 1048576", 0.0, 0.0, 1048576.0);
@@ -91,24 +92,17 @@ fn grids() {
     try_first(b"first 0 0 1048576.125", 0.0, 0.0, 1048576.125);
     try_first(b"first 0 infinity 0", 0.0, 1.0 / 0.0, 0.0);
     try_first(b"first NaN 0 0", 0.0 / 0.0, 0.0, 0.0);
-    try_size(b"size 3a7fffff 1 1", f32::from_bits(0x3a7f_ffff), 1.0, 1.0);
-    try_size(b"size 1 3a7fffff 1", 1.0, f32::from_bits(0x3a7f_ffff), 1.0);
-    try_size(b"size 1 1 3a7fffff", 1.0, 1.0, f32::from_bits(0x3a7f_ffff));
-    try_size(
-        b"size 3a800000 3a800001 1",
-        f32::from_bits(0x3a80_0000),
-        f32::from_bits(0x3a80_0001),
-        1.0,
-    );
-    try_size(
-        b"size 447fffff 44800000 1",
-        f32::from_bits(0x447f_ffff),
-        f32::from_bits(0x4480_0000),
-        1.0,
-    );
-    try_size(b"size 44800001 1 1", f32::from_bits(0x4480_0001), 1.0, 1.0);
-    try_size(b"size 1 44800001 1", 1.0, f32::from_bits(0x4480_0001), 1.0);
-    try_size(b"size 1 1 44800001", 1.0, 1.0, f32::from_bits(0x4480_0001));
+}
+
+fn sizes() {
+    try_size(b"size 3a7fffff 1 1", 9.7656244e-4, 1.0, 1.0);
+    try_size(b"size 1 3a7fffff 1", 1.0, 9.7656244e-4, 1.0);
+    try_size(b"size 1 1 3a7fffff", 1.0, 1.0, 9.7656244e-4);
+    try_size(b"size 3a800000 3a800001 1", 9.765625e-4, 9.765626e-4, 1.0);
+    try_size(b"size 447fffff 44800000 1", 1.02399994e3, 1.024e3, 1.0);
+    try_size(b"size 44800001 1 1", 1.0240001e3, 1.0, 1.0);
+    try_size(b"size 1 44800001 1", 1.0, 1.0240001e3, 1.0);
+    try_size(b"size 1 1 44800001", 1.0, 1.0, 1.0240001e3);
     try_size(b"size -1 1 1", -1.0, 1.0, 1.0);
     try_size(b"size 1 0 1", 1.0, 0.0, 1.0);
     try_size(b"size 1 1 NaN", 1.0, 1.0, 0.0 / 0.0);
@@ -117,16 +111,11 @@ fn grids() {
 // ---- 2, 3 and 4: the vertices, how many triangles, and their indices. One cell, with room for one entry.
 
 fn try_mesh(name: &[u8], vertices: &[f32], topology: Topology, given: Indices, indices: &[u32]) {
-    let number = trial::number(
-        trial::grid_of(1, 1, 1),
-        vertices,
-        topology,
-        given,
-        indices,
-        trial::one_cell(1),
-        1,
+    let grid = trial::grid_of(1, 1, 1);
+    tell(
+        name,
+        trial::one_cell(grid, vertices, topology, given, indices),
     );
-    tell(name, number);
 }
 
 fn try_vertices(name: &[u8], vertices: &[f32]) {
@@ -146,17 +135,46 @@ fn try_coordinate(name: &[u8], x: f32) {
     try_vertices(name, &vertices);
 }
 
-fn vertex_bounds() {
-    let many = [0.0f32; 1179651];
+// The first k of the coordinates.
+fn try_coordinates(name: &[u8], many: &[f32], k: usize) {
+    let n = counting::coordinates(many, k);
+    try_vertices(name, &many[..n]);
+}
+
+// The first k of the coordinates, as a mesh without indices.
+fn try_unindexed(name: &[u8], many: &[f32], k: usize, topology: Topology) {
     let no_index = [0u32; 1];
-    try_vertices(b"0 coordinates", &many[..0]);
-    try_vertices(b"1 coordinate", &many[..1]);
-    try_vertices(b"2 coordinates", &many[..2]);
-    try_vertices(b"3 coordinates", &many[..3]);
-    try_vertices(b"4 coordinates", &many[..4]);
-    try_vertices(b"393215 vertices", &many[..1179645]);
-    try_vertices(b"393216 vertices", &many[..1179648]);
-    try_vertices(b"393217 vertices", &many[..1179651]);
+    let n = counting::coordinates(many, k);
+    try_mesh(name, &many[..n], topology, Indices::None, &no_index);
+}
+
+fn vertex_counts(many: &[f32]) {
+    try_coordinates(b"0 coordinates", many, 0);
+    try_coordinates(b"1 coordinate", many, 1);
+    try_coordinates(b"2 coordinates", many, 2);
+    try_coordinates(b"3 coordinates", many, 3);
+    try_coordinates(b"4 coordinates", many, 4);
+    try_unindexed(
+        b"strip without indices, 131073 vertices",
+        many,
+        393219,
+        Topology::TriangleStrip,
+    );
+    try_unindexed(
+        b"strip without indices, 131074 vertices",
+        many,
+        393222,
+        Topology::TriangleStrip,
+    );
+    try_unindexed(
+        b"strip without indices, 131075 vertices",
+        many,
+        393225,
+        Topology::TriangleStrip,
+    );
+}
+
+fn coordinates() {
     try_coordinate(b"coordinate 1048575.9375", 1048575.9375);
     try_coordinate(b"coordinate 1048576", 1048576.0);
     try_coordinate(b"coordinate -1048576", -1048576.0);
@@ -164,79 +182,69 @@ fn vertex_bounds() {
     try_coordinate(b"coordinate -1048576.125", -1048576.125);
     try_coordinate(b"coordinate infinity", 1.0 / 0.0);
     try_coordinate(b"coordinate NaN", 0.0 / 0.0);
-    try_mesh(
-        b"list without indices, 393216 vertices",
-        &many[..1179648],
-        Topology::TriangleList,
-        Indices::None,
-        &no_index[..0],
-    );
-    try_mesh(
-        b"strip without indices, 131073 vertices",
-        &many[..393219],
-        Topology::TriangleStrip,
-        Indices::None,
-        &no_index[..0],
-    );
-    try_mesh(
-        b"strip without indices, 131074 vertices",
-        &many[..393222],
-        Topology::TriangleStrip,
-        Indices::None,
-        &no_index[..0],
-    );
-    try_mesh(
-        b"strip without indices, 131075 vertices",
-        &many[..393225],
-        Topology::TriangleStrip,
-        Indices::None,
-        &no_index[..0],
-    );
 }
 
-// So many indices, all of vertex 0, which is the only one.
-fn try_indices(name: &[u8], topology: Topology, indices: &[u32]) {
+fn vertex_bounds() {
+    let many = [0.0f32; 393225];
+    vertex_counts(&many);
+    coordinates();
+}
+
+// The first k of the indices, all of vertex 0, which is the only one.
+fn try_indices(name: &[u8], topology: Topology, many: &[u32], k: usize) {
     let vertices = [0.0f32; 3];
-    try_mesh(name, &vertices, topology, Indices::Given, indices);
+    let n = counting::indices(many, k);
+    try_mesh(name, &vertices, topology, Indices::Given, &many[..n]);
 }
 
-fn triangle_bounds() {
-    let many = [0u32; 393219];
+fn triangle_counts(many: &[u32]) {
     try_indices(
         b"list of 393215 indices",
         Topology::TriangleList,
-        &many[..393215],
+        many,
+        393215,
     );
     try_indices(
         b"list of 393216 indices",
         Topology::TriangleList,
-        &many[..393216],
+        many,
+        393216,
     );
     try_indices(
         b"list of 393218 indices",
         Topology::TriangleList,
-        &many[..393218],
+        many,
+        393218,
     );
     try_indices(
         b"list of 393219 indices",
         Topology::TriangleList,
-        &many[..393219],
+        many,
+        393219,
     );
     try_indices(
         b"strip of 131073 indices",
         Topology::TriangleStrip,
-        &many[..131073],
+        many,
+        131073,
     );
     try_indices(
         b"strip of 131074 indices",
         Topology::TriangleStrip,
-        &many[..131074],
+        many,
+        131074,
     );
     try_indices(
         b"strip of 131075 indices",
         Topology::TriangleStrip,
-        &many[..131075],
+        many,
+        131075,
     );
+}
+
+fn triangle_bounds() {
+    let many = [0u32; 393219];
+    triangle_counts(&many);
 }
 
 // Three vertices, and indices of which the last may be out of bounds.
@@ -270,56 +278,151 @@ fn index_bounds() {
     try_index(b"strip 3 3, no triangle", Topology::TriangleStrip, &[3, 3]);
 }
 
-// ---- 5: the lengths of what is lent, over a grid of 2 x 1 x 3 cells and no triangles
+// ---- 5: the lengths of what is lent, over a grid of 2 x 1 x 3 cells
 
-fn try_lengths(
-    name: &[u8],
-    field: usize,
-    names: usize,
-    crossings: usize,
-    rows: usize,
-    distances: usize,
-    cells: usize,
-    triangles: usize,
-) {
-    let none = [0.0f32; 1];
-    let no_index = [0u32; 1];
-    let number = trial::number(
-        trial::grid_of(2, 1, 3),
-        &none[..0],
-        Topology::TriangleList,
-        Indices::Given,
-        &no_index[..0],
-        Lends {
+fn try_field(name: &[u8], field: &mut [f32]) {
+    let mut names = [0u32; 6];
+    let mut crossings = [0u32; 18];
+    let mut rows = [0u32; 3];
+    let mut a = [0u32; 4];
+    let mut b = [0u32; 4];
+    let mut c = [0u32; 4];
+    tell(
+        name,
+        trial::no_triangles(
             field,
+            &mut names,
+            &mut crossings,
+            &mut rows,
+            &mut a,
+            &mut b,
+            &mut c,
+        ),
+    );
+}
+
+fn try_names(name: &[u8], names: &mut [u32]) {
+    let mut field = [0.0f32; 6];
+    let mut crossings = [0u32; 18];
+    let mut rows = [0u32; 3];
+    let mut a = [0u32; 4];
+    let mut b = [0u32; 4];
+    let mut c = [0u32; 4];
+    tell(
+        name,
+        trial::no_triangles(
+            &mut field,
             names,
+            &mut crossings,
+            &mut rows,
+            &mut a,
+            &mut b,
+            &mut c,
+        ),
+    );
+}
+
+fn try_crossings(name: &[u8], crossings: &mut [u32]) {
+    let mut field = [0.0f32; 6];
+    let mut names = [0u32; 6];
+    let mut rows = [0u32; 3];
+    let mut a = [0u32; 4];
+    let mut b = [0u32; 4];
+    let mut c = [0u32; 4];
+    tell(
+        name,
+        trial::no_triangles(
+            &mut field,
+            &mut names,
             crossings,
+            &mut rows,
+            &mut a,
+            &mut b,
+            &mut c,
+        ),
+    );
+}
+
+fn try_rows(name: &[u8], rows: &mut [u32]) {
+    let mut field = [0.0f32; 6];
+    let mut names = [0u32; 6];
+    let mut crossings = [0u32; 18];
+    let mut a = [0u32; 4];
+    let mut b = [0u32; 4];
+    let mut c = [0u32; 4];
+    tell(
+        name,
+        trial::no_triangles(
+            &mut field,
+            &mut names,
+            &mut crossings,
             rows,
+            &mut a,
+            &mut b,
+            &mut c,
+        ),
+    );
+}
+
+fn try_queue(name: &[u8], distances: &mut [u32], cells: &mut [u32], triangles: &mut [u32]) {
+    let mut field = [0.0f32; 6];
+    let mut names = [0u32; 6];
+    let mut crossings = [0u32; 18];
+    let mut rows = [0u32; 3];
+    tell(
+        name,
+        trial::no_triangles(
+            &mut field,
+            &mut names,
+            &mut crossings,
+            &mut rows,
             distances,
             cells,
             triangles,
-        },
-        0,
+        ),
     );
-    tell(name, number);
 }
 
 fn length_bounds() {
-    try_lengths(b"lent 6 6 18 3, queue 0 0 0", 6, 6, 18, 3, 0, 0, 0);
-    try_lengths(b"lent 6 6 18 3, queue 4 4 4", 6, 6, 18, 3, 4, 4, 4);
-    try_lengths(b"field 5", 5, 6, 18, 3, 4, 4, 4);
-    try_lengths(b"field 7", 7, 6, 18, 3, 4, 4, 4);
-    try_lengths(b"names 5", 6, 5, 18, 3, 4, 4, 4);
-    try_lengths(b"names 7", 6, 7, 18, 3, 4, 4, 4);
-    try_lengths(b"crossings 17", 6, 6, 17, 3, 4, 4, 4);
-    try_lengths(b"crossings 19", 6, 6, 19, 3, 4, 4, 4);
-    try_lengths(b"rows 2", 6, 6, 18, 2, 4, 4, 4);
-    try_lengths(b"rows 4", 6, 6, 18, 4, 4, 4, 4);
-    try_lengths(b"queue 3 4 4", 6, 6, 18, 3, 3, 4, 4);
-    try_lengths(b"queue 4 3 4", 6, 6, 18, 3, 4, 3, 4);
-    try_lengths(b"queue 4 5 4", 6, 6, 18, 3, 4, 5, 4);
-    try_lengths(b"queue 4 4 3", 6, 6, 18, 3, 4, 4, 3);
-    try_lengths(b"queue 4 4 5", 6, 6, 18, 3, 4, 4, 5);
+    let mut f5 = [0.0f32; 5];
+    let mut f6 = [0.0f32; 6];
+    let mut f7 = [0.0f32; 7];
+    try_field(b"field 5", &mut f5);
+    try_field(b"field 6", &mut f6);
+    try_field(b"field 7", &mut f7);
+    let mut n5 = [0u32; 5];
+    let mut n6 = [0u32; 6];
+    let mut n7 = [0u32; 7];
+    try_names(b"names 5", &mut n5);
+    try_names(b"names 6", &mut n6);
+    try_names(b"names 7", &mut n7);
+    let mut c17 = [0u32; 17];
+    let mut c18 = [0u32; 18];
+    let mut c19 = [0u32; 19];
+    try_crossings(b"crossings 17", &mut c17);
+    try_crossings(b"crossings 18", &mut c18);
+    try_crossings(b"crossings 19", &mut c19);
+    let mut r2 = [0u32; 2];
+    let mut r3 = [0u32; 3];
+    let mut r4 = [0u32; 4];
+    try_rows(b"rows 2", &mut r2);
+    try_rows(b"rows 3", &mut r3);
+    try_rows(b"rows 4", &mut r4);
+}
+
+fn queue_bounds() {
+    let mut q3 = [0u32; 3];
+    let mut a4 = [0u32; 4];
+    let mut b4 = [0u32; 4];
+    let mut c4 = [0u32; 4];
+    let mut q5 = [0u32; 5];
+    try_queue(b"queue 4 4 4", &mut a4, &mut b4, &mut c4);
+    try_queue(b"queue 3 4 4", &mut q3, &mut b4, &mut c4);
+    try_queue(b"queue 5 4 4", &mut q5, &mut b4, &mut c4);
+    try_queue(b"queue 4 3 4", &mut a4, &mut q3, &mut c4);
+    try_queue(b"queue 4 5 4", &mut a4, &mut q5, &mut c4);
+    try_queue(b"queue 4 4 3", &mut a4, &mut b4, &mut q3);
+    try_queue(b"queue 4 4 5", &mut a4, &mut b4, &mut q5);
 }
 
 // ---- 6: a NaN distance. The corners (0,0,0), (0,0,0), (x,0,0) and a cell at (0,0,0): where the squared
@@ -337,72 +440,20 @@ fn try_edge(name: &[u8], x: f32) {
 }
 
 fn not_a_number() {
-    try_edge(b"edge 0d800000, 2^-100", f32::from_bits(0x0d80_0000));
-    try_edge(b"edge 19ffffff", f32::from_bits(0x19ff_ffff));
-    try_edge(b"edge 1a000000, 2^-75", f32::from_bits(0x1a00_0000));
-    try_edge(b"edge 1a000001", f32::from_bits(0x1a00_0001));
-}
-
-// ---- 7 and 8: document 01's listing with counts 2 1 1, which takes two pops and has two entries waiting
-
-fn try_run(name: &[u8], indices: &[u32], room: usize, limit: u32) {
-    let vertices = [0.0, 0.0, 0.0, 4.0, 0.0, 0.0, 0.0, 4.0, 0.0];
-    let grid = Grid {
-        first_cell: Point {
-            x: 1.0,
-            y: 1.0,
-            z: 1.0,
-        },
-        cell_size: Point {
-            x: 1.0,
-            y: 1.0,
-            z: 2.0,
-        },
-        count_x: 2,
-        count_y: 1,
-        count_z: 1,
-    };
-    let number = trial::number(
-        grid,
-        &vertices,
-        Topology::TriangleList,
-        Indices::Given,
-        indices,
-        Lends {
-            field: 2,
-            names: 2,
-            crossings: 6,
-            rows: 1,
-            distances: room,
-            cells: room,
-            triangles: room,
-        },
-        limit,
-    );
-    tell(name, number);
-}
-
-fn room_and_limit() {
-    let t = [0, 1, 2];
-    try_run(b"queue 0, pops 100", &t, 0, 100);
-    try_run(b"queue 1, pops 100", &t, 1, 100);
-    try_run(b"queue 2, pops 100", &t, 2, 100);
-    try_run(b"queue 3, pops 100", &t, 3, 100);
-    try_run(b"queue 8, pops 0", &t, 8, 0);
-    try_run(b"queue 8, pops 1", &t, 8, 1);
-    try_run(b"queue 8, pops 2", &t, 8, 2);
-    try_run(b"queue 8, pops 3", &t, 8, 3);
-    try_run(b"queue 8, pops 4294967295", &t, 8, 4294967295);
-    try_run(b"queue 1, pops 0", &t, 1, 0);
-    try_run(b"no triangles, queue 0, pops 0", &t[..0], 0, 0);
+    try_edge(b"edge 0d800000, 2^-100", 7.888609e-31);
+    try_edge(b"edge 19ffffff", 2.6469778e-23);
+    try_edge(b"edge 1a000000, 2^-75", 2.646978e-23);
+    try_edge(b"edge 1a000001", 2.6469783e-23);
 }
 
 fn main() {
-    grids();
+    counts();
+    first_cells();
+    sizes();
     vertex_bounds();
     triangle_bounds();
     index_bounds();
     length_bounds();
+    queue_bounds();
     not_a_number();
-    room_and_limit();
 }

@@ -1,40 +1,13 @@
-// One trial: the public job over buffers of given lengths, all zero, and the number of its answer.
+// One trial: the public job over lent buffers, and the number of its answer.
 use sdf::Answer;
 use sdf::Grid;
 use sdf::Indices;
 use sdf::Point;
 use sdf::Topology;
 ghost use mathlib.Core.Path.{_≡_};
-ghost use Prim.Native.Nat.{_≤_, min};
 ghost use Rattle.checks.specs.Job.{jobOf, lentOf};
 ghost use Rattle.outcome.specs.Outcome.{outcome, numberOf};
-ghost use Rattle.edges.specs.Lends.{lentBy, unitGrid, oneCell};
-
-// How long each lent buffer is.
-pub struct Lends {
-    pub field: usize,
-    pub names: usize,
-    pub crossings: usize,
-    pub rows: usize,
-    pub distances: usize,
-    pub cells: usize,
-    pub triangles: usize,
-}
-
-// What a grid of one cell asks for, and a queue with some room.
-pub fn one_cell(room: usize) -> Lends
-    ensures { λ r. ⌜ r ≡ oneCell room ⌝ }
-{
-    Lends {
-        field: 1,
-        names: 1,
-        crossings: 3,
-        rows: 1,
-        distances: room,
-        cells: room,
-        triangles: room,
-    }
-}
+ghost use Rattle.edges.specs.Trials.{unitGrid, oneCell, noTriangles};
 
 // A grid of cells of size 1, the first at the origin.
 pub fn grid_of(x: u32, y: u32, z: u32) -> Grid
@@ -67,7 +40,7 @@ fn number_of(answer: Answer) -> u32
 }
 
 // The number that a job over lent buffers is answered by.
-fn asked(
+pub fn asked(
     grid: Grid,
     vertices: &[f32],
     topology: Topology,
@@ -102,52 +75,82 @@ fn asked(
     number_of(answer)
 }
 
-// No buffer of a trial is longer than 32.
-fn at_most_32(n: usize) -> usize
-    ensures { λ r. ⌜ (r ≤ 32) × (r ≡ min n 32) ⌝ }
-{
-    if n < 32 { n } else { 32 }
-}
-
-// The number that a job over buffers of these lengths is answered by.
-pub fn number(
+// The number that a job over the buffers of one cell, with room for one entry and one pop, is answered by.
+pub fn one_cell(
     grid: Grid,
     vertices: &[f32],
     topology: Topology,
     given: Indices,
     indices: &[u32],
-    lends: Lends,
-    limit: u32,
 ) -> u32
-    ensures { λ r. ⌜ r ≡ numberOf (outcome (jobOf grid (now (vertices .entry)) topology given (now (indices .entry)) limit) (lentBy lends) .answer) ⌝ }
+    ensures { λ r. ⌜ r ≡ numberOf (outcome (jobOf grid (now (vertices .entry)) topology given (now (indices .entry)) 1) oneCell .answer) ⌝ }
 {
-    let mut field = [0.0f32; 32];
-    let mut names = [0u32; 32];
-    let mut crossings = [0u32; 32];
-    let mut rows = [0u32; 32];
-    let mut distances = [0u32; 32];
-    let mut cells = [0u32; 32];
-    let mut triangles = [0u32; 32];
-    let a = at_most_32(lends.field);
-    let b = at_most_32(lends.names);
-    let c = at_most_32(lends.crossings);
-    let d = at_most_32(lends.rows);
-    let e = at_most_32(lends.distances);
-    let f = at_most_32(lends.cells);
-    let g = at_most_32(lends.triangles);
+    let mut field = [0.0f32; 1];
+    let mut names = [0u32; 1];
+    let mut crossings = [0u32; 3];
+    let mut rows = [0u32; 1];
+    let mut distances = [0u32; 1];
+    let mut cells = [0u32; 1];
+    let mut triangles = [0u32; 1];
     asked(
         grid,
         vertices,
         topology,
         given,
         indices,
-        &mut field[..a],
-        &mut names[..b],
-        &mut crossings[..c],
-        &mut rows[..d],
-        &mut distances[..e],
-        &mut cells[..f],
-        &mut triangles[..g],
-        limit,
+        &mut field,
+        &mut names,
+        &mut crossings,
+        &mut rows,
+        &mut distances,
+        &mut cells,
+        &mut triangles,
+        1,
+    )
+}
+
+// The number that a job with no triangles, over a grid of 2 x 1 x 3 cells, is answered by.
+pub fn no_triangles(
+    field: &mut [f32],
+    names: &mut [u32],
+    crossings: &mut [u32],
+    rows: &mut [u32],
+    distances: &mut [u32],
+    cells: &mut [u32],
+    triangles: &mut [u32],
+) -> u32
+    ensures { λ r. ⌜ r ≡ numberOf (outcome noTriangles (lentOf (now (field .entry)) (now (names .entry)) (now (crossings .entry)) (now (rows .entry)) (now (distances .entry)) (now (cells .entry)) (now (triangles .entry))) .answer) ⌝ }
+{
+    let grid = Grid {
+        first_cell: Point {
+            x: 0.0,
+            y: 0.0,
+            z: 0.0,
+        },
+        cell_size: Point {
+            x: 1.0,
+            y: 1.0,
+            z: 1.0,
+        },
+        count_x: 2,
+        count_y: 1,
+        count_z: 3,
+    };
+    let vertices = [0.0f32; 3];
+    let indices = [0u32; 1];
+    asked(
+        grid,
+        &vertices,
+        Topology::TriangleList,
+        Indices::Given,
+        &indices,
+        field,
+        names,
+        crossings,
+        rows,
+        distances,
+        cells,
+        triangles,
+        1,
     )
 }
