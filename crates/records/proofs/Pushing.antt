@@ -77,7 +77,7 @@ module _ (le : Entry → Entry → Bool) (b : Batch) (row : List Entry) (at : Pr
         let within : p .waiting < length row = had-room (length row) p z in
         let there : p .waiting < length (distances q) = omega (arith, within, h .long, long-row q) in
         let k : Queued le (entryIn b j) (distances q) (cells q) (triangles q) p (distances q′) (cells q′) (triangles q′) (record { number = 0; waiting = p .waiting + 1; pops = p .pops; peak = max (p .peak) (p .waiting + 1) }) =
-            put-in {peak = max (p .peak) (p .waiting + 1)} (h .held) there w refl in
+        put-in {peak = max (p .peak) (p .waiting + 1)} (h .held) there w refl in
         subst (λ (r : Progress). Pushing q′ r (j + 1)) (sym (with-room (length row) p within)) (record {
           fine = refl;
           long = e ∙ h .long;

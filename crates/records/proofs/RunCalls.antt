@@ -90,7 +90,6 @@ Offers 𝓤 H A mem run = tripleOf 𝓤 H A offers.signature (offers.spec 𝓤 H
 
 -- ---- cell_batch
 module _ {M : Type 1} (𝓤 : URA M) (H : Heap 𝓤) (A : Atoms 𝓤) (W : Given 𝓤 H A) (mem : Memory → SProp 𝓤) (run : Routine → Fun 𝓤) (κ-field : Lft) (q-field : Share) (field : RefT (List Float)) (s-field : Val) (κ-names : Lft) (q-names : Share) (names : RefT (List ℕ)) (s-names : Val) (c : ℕ) (c-fits : c < 2 ^ 64) (in-field : c < length (field .now)) (in-names : c < length (names .now)) (few : c < 1048576) where
-
   abbrev to-cell : CellBatch 𝓤 H A mem run .Ghost
   to-cell = (((κ-field, (κ-names, tt)), (q-field, (q-names, tt)), tt, (field, (names, (c, tt))), (s-field ∷ [], (s-names ∷ [], (vint w64 c ∷ [], tt)))), tt)
 
@@ -113,10 +112,10 @@ module _ {M : Type 1} (𝓤 : URA M) (H : Heap 𝓤) (A : Atoms 𝓤) (W : Given
       calls-met t fm cell-batch.ended (cell-batch.clauses 𝓤 H A mem run) met to-cell os (λ w r ws. move t (3 ∷ []) $ heard t (Cell (field .now) (names .now) c r) (λ is.
       use1 W (‵ (flft κ-field q-field) ⊛ (‵ (flft κ-names q-names) ⊛ ‵ ftrue)) (id⊢ 𝓤 _) $ split t $ move t (1 ∷ []) $ split t $ move t (1 ∷ []) $ drop t $ move t (2 ∷ []) $
       facts t B.the-row (Is B.the-row) (shows 𝓤 H A B.the-row) r (w ∷ []) (λ e. move t (2 ∷ []) $ drop t $ move t (2 ∷ 1 ∷ 3 ∷ 0 ∷ []) $
-      regoal t (λ (u : Val). lands C Λ En d u rest p) (ap only (LL.tells B.the-type B′.the-laws r (w ∷ []) e)) refl $ k  r  (subst (Is B.the-row r) (LL.tells B.the-type B′.the-laws r (w ∷ []) e) e) is)))
+      regoal t (λ (u : Val). lands C Λ En d u rest p) (ap only (LL.tells B.the-type B′.the-laws r (w ∷ []) e)) refl $ k r (subst (Is B.the-row r) (LL.tells B.the-type B′.the-laws r (w ∷ []) e) e) is)))
+
 -- ---- push_all
 module _ {M : Type 1} (𝓤 : URA M) (H : Heap 𝓤) (A : Atoms 𝓤) (W : Given 𝓤 H A) (mem : Memory → SProp 𝓤) (run : Routine → Fun 𝓤) (m : Mesh) (κ-row : Lft) (q-row : Share) (b-row o-row : ℕ) (γ-row : GName) (row : List Entry) (s-row : Val) (spelt-row : Spelt E.the-row b-row o-row γ-row row s-row) (p : Progress) (p-is : Is G.the-row p (LL.val G.the-type G′.the-laws p ∷ [])) (b : Batch) (b-is : Is B.the-row b (LL.val B.the-type B′.the-laws b ∷ [])) (held : HeldRow (order m) row (p .waiting)) (fine : p .number ≡ 0) (few : b .count < 28) where
-
   abbrev to-push-all : ℕ → GName → PushAll 𝓤 H A mem run .Ghost
   to-push-all ν-row δ-row = (((ν-row ∷ [], ((m .κ), tt)), (fullShare, ((m .q), tt)), tt, (at b-row o-row δ-row row, (p, (b, ((m .topology), ((m .given), ((m .indices), ((m .vertices), tt))))))), (s-row ∷ [], (LL.val G.the-type G′.the-laws p ∷ [], (LL.val B.the-type B′.the-laws b ∷ [], (topologyVal (m .topology) ∷ [], (indicesVal (m .given) ∷ [], (slice m ∷ [], (vint w64 (m .vertices) ∷ [], tt)))))))), tt)
 
@@ -143,9 +142,9 @@ module _ {M : Type 1} (𝓤 : URA M) (H : Heap 𝓤) (A : Atoms 𝓤) (W : Given
       drop t $ fsplit t $ drop t $ fsplit t $ drop t $ fsplit t $ drop t $ fsplit t $ drop t $ drop t $ move t (2 ∷ []) $ lft-end t tt $ move t (0 ∷ 4 ∷ 1 ∷ []) $
       comes-back t tt E.the-row b-row o-row row (ws .0) s-row ν-row l-row spelt-row $ move t (0 ∷ 1 ∷ 3 ∷ 2 ∷ []) $
       regoal t (λ (u : Val). lands C Λ En d u rest post) (ap only (LL.tells G.the-type G′.the-laws r (w ∷ []) e)) refl $ k (ws .0) r l-row (subst (Is G.the-row r) (LL.tells G.the-type G′.the-laws r (w ∷ []) e) e) is))))))
+
 -- ---- popped
 module _ {M : Type 1} (𝓤 : URA M) (H : Heap 𝓤) (A : Atoms 𝓤) (W : Given 𝓤 H A) (mem : Memory → SProp 𝓤) (run : Routine → Fun 𝓤) (p : Progress) (p-is : Is G.the-row p (LL.val G.the-type G′.the-laws p ∷ [])) (limit : ℕ) (limit-fits : limit < 2 ^ 32) (some : 0 < p .waiting) (within : p .pops ≤ limit) where
-
   abbrev to-popped : Popped 𝓤 H A mem run .Ghost
   to-popped = ((tt, tt, tt, (p, (limit, tt)), (LL.val G.the-type G′.the-laws p ∷ [], (vint w32 limit ∷ [], tt))), tt)
 
@@ -163,10 +162,10 @@ module _ {M : Type 1} (𝓤 : URA M) (H : Heap 𝓤) (A : Atoms 𝓤) (W : Given
   calls-popped {En = En} {C = C} {Λ = Λ} {post = post} {d = d} {rest = rest} t fm met os k =
       use0 W (raw (Popped 𝓤 H A mem run .pre to-popped)) asks-popped $ calls-met t fm popped.ended (popped.clauses 𝓤 H A mem run) met to-popped os (λ w r ws. move t (3 ∷ []) $
       heard t (r ≡ poppedBy limit p) (λ is. drop t $ facts t G.the-row (Is G.the-row) (shows 𝓤 H A G.the-row) r (w ∷ []) (λ e. drop t $
-      regoal t (λ (u : Val). lands C Λ En d u rest post) (ap only (LL.tells G.the-type G′.the-laws r (w ∷ []) e)) refl $ k  r  (subst (Is G.the-row r) (LL.tells G.the-type G′.the-laws r (w ∷ []) e) e) is)))
+      regoal t (λ (u : Val). lands C Λ En d u rest post) (ap only (LL.tells G.the-type G′.the-laws r (w ∷ []) e)) refl $ k r (subst (Is G.the-row r) (LL.tells G.the-type G′.the-laws r (w ∷ []) e) e) is)))
+
 -- ---- take
 module _ {M : Type 1} (𝓤 : URA M) (H : Heap 𝓤) (A : Atoms 𝓤) (W : Given 𝓤 H A) (mem : Memory → SProp 𝓤) (run : Routine → Fun 𝓤) (m : Mesh) (κ-row : Lft) (q-row : Share) (b-row o-row : ℕ) (γ-row : GName) (row : List Entry) (s-row : Val) (spelt-row : Spelt E.the-row b-row o-row γ-row row s-row) (n : ℕ) (n-fits : n < 2 ^ 64) (held : HeldRow (order m) row n) (some : 0 < n) where
-
   abbrev to-take : ℕ → GName → Take 𝓤 H A mem run .Ghost
   to-take ν-row δ-row = (((ν-row ∷ [], ((m .κ), tt)), (fullShare, ((m .q), tt)), tt, (at b-row o-row δ-row row, (n, ((m .topology), ((m .given), ((m .indices), ((m .vertices), tt)))))), (s-row ∷ [], (vint w64 n ∷ [], (topologyVal (m .topology) ∷ [], (indicesVal (m .given) ∷ [], (slice m ∷ [], (vint w64 (m .vertices) ∷ [], tt))))))), tt)
 
@@ -193,9 +192,9 @@ module _ {M : Type 1} (𝓤 : URA M) (H : Heap 𝓤) (A : Atoms 𝓤) (W : Given
       drop t $ fsplit t $ drop t $ fsplit t $ drop t $ fsplit t $ drop t $ drop t $ move t (2 ∷ []) $ lft-end t tt $ move t (0 ∷ 4 ∷ 1 ∷ []) $
       comes-back t tt E.the-row b-row o-row row (ws .0) s-row ν-row l-row spelt-row $ move t (0 ∷ 1 ∷ 3 ∷ 2 ∷ []) $
       regoal t (λ (u : Val). lands C Λ En d u rest p) (ap only (LL.tells E.the-type E′.the-laws r (w ∷ []) e)) refl $ k (ws .0) r l-row (subst (Is E.the-row r) (LL.tells E.the-type E′.the-laws r (w ∷ []) e) e) is))))))
+
 -- ---- offers
 module _ {M : Type 1} (𝓤 : URA M) (H : Heap 𝓤) (A : Atoms 𝓤) (W : Given 𝓤 H A) (mem : Memory → SProp 𝓤) (run : Routine → Fun 𝓤) (grid : Grid) (grid-is : Is Gr.the-row grid (LL.val Gr.the-type Gr′.the-laws grid ∷ [])) (κ-vertices : Lft) (q-vertices : Share) (vertices : RefT (List Float)) (s-vertices : Val) (topology : Topology) (topology-is : Is P.the-row topology (EL.val P.the-type P′.the-laws topology ∷ [])) (given : Indices) (given-is : Is I.the-row given (EL.val I.the-type I′.the-laws given ∷ [])) (κ-indices : Lft) (q-indices : Share) (indices : RefT (List ℕ)) (s-indices : Val) (κ-field : Lft) (q-field : Share) (b-field o-field : ℕ) (γ-field : GName) (field : List Float) (s-field : Val) (spelt-field : Spelt f32 b-field o-field γ-field field s-field) (κ-names : Lft) (q-names : Share) (b-names o-names : ℕ) (γ-names : GName) (names : List ℕ) (s-names : Val) (spelt-names : Spelt u32 b-names o-names γ-names names s-names) (e : Entry) (e-is : Is E.the-row e (LL.val E.the-type E′.the-laws e ∷ [])) (ready : Ready grid (meshOf (vertices .now) topology given (indices .now))) (known : Known (total grid) (length (trianglesIn (meshOf (vertices .now) topology given (indices .now)))) e) (fl : length field ≡ total grid) (nl : length names ≡ total grid) where
-
   abbrev to-offers : ℕ → ℕ → GName → GName → Offers 𝓤 H A mem run .Ghost
   to-offers ν-field ν-names δ-field δ-names = (((κ-vertices, (κ-indices, (ν-field ∷ [], (ν-names ∷ [], tt)))), (q-vertices, (q-indices, (fullShare, (fullShare, tt)))), tt, (grid, (vertices, (topology, (given, (indices, (at b-field o-field δ-field field, (at b-names o-names δ-names names, (e, tt)))))))), (LL.val Gr.the-type Gr′.the-laws grid ∷ [], (s-vertices ∷ [], (EL.val P.the-type P′.the-laws topology ∷ [], (EL.val I.the-type I′.the-laws given ∷ [], (s-indices ∷ [], (s-field ∷ [], (s-names ∷ [], (LL.val E.the-type E′.the-laws e ∷ [], tt))))))))), tt)
 

@@ -226,8 +226,12 @@ module _ {M : Type 1} (𝓤 : URA M) (H : Heap 𝓤) (A : Atoms 𝓤) (W : Given
         land ! (here !) (init ! 8 refl (tt, tt)) $
         assigns-last ! (bin ! (val ! 18 refl) (lit ! tt) (record { fits = omega (arith, below h, few) })) (here !) (store ! 18 refl (tt, record { fits = omega (arith, below h, few) })) $
         forget ! 16 refl $ forget ! 14 refl $ forget ! 12 refl $ forget ! 10 refl $ forget ! 8 refl $ forget ! 6 refl $ forget ! 4 refl $
-        by ! (again t (batch .count - (j + 1)) (us, (p′, j + 1)) (omega (arith, below h, facts .0)) (omega (arith, below h), subst (λ (r : Progress). Pushing (order m) batch ys at₀ us r (j + 1)) (sym is)
-        (push-on (order m) batch ys at₀ zs p j (facts .1) (below h) us (sym (ap (λ (r : Progress). r .number) is) ∙ is-zero (p′ .number) c) l (subst (λ (x : Entry). PushedRow (order m) x zs us (p .waiting)) e-eq in-it)), p′-is))))))) (λ h.
+        by ! (again t (batch .count - (j + 1)) (us, (p′, j + 1)) (omega (arith, below h, facts .0)) (
+          omega (arith, below h),
+          subst (λ (r : Progress). Pushing (order m) batch ys at₀ us r (j + 1)) (sym is)
+              (push-on (order m) batch ys at₀ zs p j (facts .1) (below h) us (sym (ap (λ (r : Progress). r .number) is) ∙ is-zero (p′ .number) c) l (subst (λ (x : Entry). PushedRow (order m) x zs us (p .waiting)) e-eq in-it)),
+          p′-is,
+        ))))))) (λ h.
         exec ! C Λ En mir.t-4 (atRet En Post) $ forget ! 12 refl $
         leaves zs p j (facts .1 .long) (facts .2) (push-ends (order m) batch ys at₀ zs p j (facts .1) (omega (arith, nltb→le j (batch .count) h, facts .0))))
       where
