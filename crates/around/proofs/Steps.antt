@@ -23,10 +23,10 @@ use Rattle.grid.specs.Bounds.{inBounds}
 use Rattle.grid.specs.Place.{centreOf}
 use Rattle.grid.proofs.Laws.{index-below, cell-of-index, cell-within}
 use Rattle.grid.proofs.Facts.{each, bounds-of}
-use Rattle.geo.specs.declared.closest.Facet.{Facet}
-use Rattle.geo.specs.Closest.{facetOf}
-use Rattle.geo.specs.Distance.{squaredOn, distanceOn, Squares}
-use Rattle.geo.proofs.Laws.{nan-alike}
+use Rattle.closest.specs.declared.Facet.{Facet}
+use Rattle.closest.specs.Closest.{facetOf}
+use Rattle.squares.specs.Distance.{squaredOn, distanceOn, Squares}
+use Rattle.squares.proofs.Laws.{nan-alike}
 use Rattle.mesh.specs.Mesh.{Mesh, trianglesIn, cornersAt}
 use Rattle.queue.specs.declared.Entry.{Entry}
 use Rattle.run.specs.Run.{Place, off, at, none}

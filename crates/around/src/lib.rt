@@ -158,11 +158,11 @@ pub fn look_around(
     ensures { λ _. ⌜ Around grid (meshOf (now (vertices .entry)) topology given (now (indices .entry))) e (now (to .exit)) (now (squares .exit)) ⌝ }
 {
     let t = mesh::corners_at(vertices, topology, given, indices, e.triangle as usize);
-    let facet = geo::facet_of(t.a, t.b, t.c);
+    let facet = closest::facet_of(t.a, t.b, t.c);
     let mut xs = [0.0f32; 27];
     let mut ys = [0.0f32; 27];
     let mut zs = [0.0f32; 27];
     let cell = grid.get_cell_integer_coordinates(e.cell);
     gather(grid, cell, steps, to, &mut xs, &mut ys, &mut zs);
-    geo::squares_on(facet, &xs, &ys, &zs, squares);
+    squares::squares_on(facet, &xs, &ys, &zs, squares);
 }

@@ -21,10 +21,10 @@ use Rattle.grid.specs.declared.Counts.{Counts}
 use Rattle.grid.specs.declared.BoundingBox.{BoundingBox}
 use Rattle.grid.specs.declared.SnapResult.{SnapResult}
 use Rattle.grid.specs.declared.SnapResult.the-variants.{Inside, Outside}
-use Rattle.grid.specs.Reply.{Reply, refused, given}
-use Rattle.geo.specs.declared.bounding.TriangleBox.{TriangleBox}
-use Rattle.geo.specs.declared.ray.RayHit.{RayHit}
-use Rattle.geo.specs.declared.ray.RayHit.the-variants.{Miss, Hit}
+use Rattle.grid_asked.specs.Reply.{Reply, refused, given}
+use Rattle.bounding.specs.declared.TriangleBox.{TriangleBox}
+use Rattle.ray.specs.declared.RayHit.{RayHit}
+use Rattle.ray.specs.declared.RayHit.the-variants.{Miss, Hit}
 use Rattle.geo.specs.Asked as Asked
 use Rattle.geo.specs.Asked.{Answer, value}
 use Rattle.c_records.specs.declared.SdfPoint.{SdfPoint}

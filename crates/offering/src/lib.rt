@@ -44,10 +44,10 @@ fn offer(
     }
     let i = c as usize;
     let held = field[i];
-    if float::root_not_below(q, held) {
+    if root::root_not_below(q, held) {
         return at;
     }
-    let d = float::sqrt(q);
+    let d = root::sqrt(q);
     if d < held {
         field[i] = d;
         names[i] = k;

@@ -37,9 +37,9 @@ fn finish(
     requires { ⌜ Long grid (now crossings) (now rows) ⌝ }
     ensures { λ _. ⌜ Finished grid (meshOf (now (vertices .entry)) topology given (now (indices .entry))) (now (field .entry)) (now (field .exit)) (now (crossings .exit)) (now (rows .exit)) ⌝ }
 {
-    crossing::pass::cross(grid, vertices, topology, given, indices, crossings);
-    crossing::signs::sign(crossings, field);
-    crossing::rows::count_rows(grid, field, rows);
+    crossing::cross(grid, vertices, topology, given, indices, crossings);
+    signs::sign(crossings, field);
+    rows::count_rows(grid, field, rows);
 }
 
 // After the run, which came to `ran`: a refusal clears what it left, else the field is signed and counted.

@@ -12,7 +12,7 @@ ghost use mathlib.Core.Path.{_≡_};
 ghost use Rattle.grid.specs.Axes.{countsOf};
 ghost use Rattle.grid.specs.Index.{indexOf, cellAt, total};
 ghost use Rattle.grid.specs.Place as Place;
-ghost use Rattle.grid.specs.Reply.{ofGrid, ofCell, ofIndex, made};
+ghost use Rattle.grid_asked.specs.Reply.{ofGrid, ofCell, ofIndex, made};
 ghost use Rattle.c_records.specs.C as C;
 ghost use Rattle.c_records.specs.C.{gridIn, cellIn, countsIn, pointIn};
 

@@ -2,7 +2,7 @@
 use borrow.Author.Needs.{needs}
 use mathlib.Core.Path.{refl, sym, ap, _∙_}
 use Rattle.grid.proofs.Laws.{cell-within}
-use Rattle.geo.specs.Closest.{facetOf}
+use Rattle.closest.specs.Closest.{facetOf}
 use Rattle.mesh.specs.declared.Corners.{Corners}
 use Rattle.mesh.specs.Mesh.{Mesh, meshOf}
 use Rattle.around.proofs.Steps.{gathered-long, looked}

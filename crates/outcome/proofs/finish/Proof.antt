@@ -6,8 +6,8 @@ use Prim.Native.Nat.{ℕ}
 use lib.Ieee.{Float}
 use Rattle.mesh.specs.Mesh.{meshOf}
 use Rattle.run.specs.Signs as Signs
-use Rattle.crossing.specs.Sign.{signedBy}
-use Rattle.crossing.proofs.Parity.{signs-are}
+use Rattle.signs.specs.Sign.{signedBy}
+use Rattle.signs.proofs.Parity.{signs-are}
 use Rattle.outcome.proofs.finish.Statement.{statement}
 use Rattle.outcome.proofs.finish.Tie as tie
 
