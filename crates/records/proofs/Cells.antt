@@ -1,5 +1,5 @@
 -- The loop that queues the cells: what a turn keeps, and what each way out gives. Assumes nothing.
-use Prim.Native.Nat.{ℕ, _+_, _≤_, _<_}
+use Prim.Native.Nat.{ℕ, _+_, _<_}
 use native.Mathlib.Omega.{arith}
 use mathlib.Core.Path.{_≡_, refl, sym, ap, _∙_, subst}
 use mathlib.Core.Logic.{_⊎_, inl, inr, ⊎-elim}
@@ -8,10 +8,10 @@ use mathlib.Core.List.{List, List·Memᴰ}
 use lib.ListN.{length, getD}
 use lib.Ieee.{Float, nan}
 use Rattle.float.specs.Arith.{_≺_, fMax}
-use Rattle.lists.specs.Turns.{Turn, goes, turns, told}
+use Rattle.lists.specs.Turns.{goes, turns, told}
 use Rattle.lists.proofs.Turns.{turns-none, turns-more, turns-stopped, told-goes, told-refuses}
 use Rattle.queue.specs.declared.Entry.{Entry}
-use Rattle.run.specs.Run.{Ground, State, queueCell, queueing}
+use Rattle.run.specs.Run.{Ground, queueCell, queueing}
 use Rattle.told.specs.declared.Progress.{Progress}
 use Rattle.entries.specs.Row.{HeldRow}
 use Rattle.batch.specs.declared.Batch.{Batch}

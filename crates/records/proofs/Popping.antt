@@ -1,5 +1,5 @@
 -- A pop over a row: an entry is taken, its offers are made, and the batch is queued; that is the pop of the run. Assumes nothing.
-use Prim.Native.Nat.{ℕ, _+_, _-_, _≤_, _<_}
+use Prim.Native.Nat.{ℕ, _+_, _-_, _<_}
 use native.Mathlib.Omega.{arith}
 use mathlib.Core.Path.{_≡_, refl, sym, ap, _∙_, subst}
 use mathlib.Core.Logic.{_⊎_, ⊎-elim}
@@ -8,25 +8,23 @@ use lib.Dec.{eqb}
 use borrow.Author.Tests.{eqb-true, eqb-false}
 use Rattle.float.specs.Arith.{if_then_else_}
 use mathlib.Core.List.{List, List·Memᴰ}
-use lib.ListN.{length, length-map}
+use lib.ListN.{length}
 use lib.Ieee.{Float}
 use Rattle.lists.specs.Turns.{goes}
 use Rattle.grid.specs.declared.Grid.{Grid}
 use Rattle.grid.specs.Index.{total}
 use Rattle.mesh.specs.Mesh.{Mesh, trianglesIn}
 use Rattle.queue.specs.declared.Entry.{Entry}
-use Rattle.run.specs.Run.{Ground, State, spreadAround, takeFirst, spreading}
+use Rattle.run.specs.Run.{takeFirst, spreading}
 use Rattle.run.specs.Ground.{groundOf}
 use Rattle.told.specs.declared.Progress.{Progress}
-use Rattle.told.specs.Told.{refusedBy, orderIn, Known, Told}
+use Rattle.told.specs.Told.{refusedBy, orderIn, Known}
 use Rattle.spreading.proofs.Pops.{first-known, rest-holds, popped, Spreads, spread-spent, spread-stops, spread-on, counted}
 use Rattle.entries.specs.Row.{distances, cells, triangles, HeldRow, TakenRow}
 use Rattle.batch.specs.declared.Batch.{Batch}
-use Rattle.batch.specs.Batch.{entryIn, Offered}
+use Rattle.batch.specs.Batch.{Offered}
+use Rattle.records.proofs.Pushing.{long-row}
 use Rattle.records.specs.Records.{waitingIn, stateIn, poppedBy, HoldsRow, ToldRow, OneOf, QueuedAll}
-
-long-row : (row : List Entry) → length (distances row) ≡ length row
-long-row row = length-map row (λ e. e .distance)
 
 pub same-row : (row row₀ : List Entry) → length (distances row) ≡ length (distances row₀) → length row ≡ length row₀
 same-row row row₀ e = sym (long-row row) ∙ e ∙ long-row row₀
