@@ -1,24 +1,20 @@
 -- Offers first and queueing afterwards come to the same as each queueing at its offer: queueing looks at no field and no name, so it may wait
 -- until all offers are made. Assumes nothing.
-use Prim.Native.Nat.{ℕ, zero, suc, _+_, _<_, _≤_}
+use Prim.Native.Nat.{ℕ, zero, suc, _+_, _<_}
 use native.Mathlib.Numerals.{add-one}
 use native.Mathlib.Omega.{arith}
-use mathlib.Core.Path.{_≡_, refl, sym, ap, _∙_, subst}
+use mathlib.Core.Path.{_≡_, refl, sym, ap, _∙_}
 use mathlib.Core.Bool.{Bool, true, false}
 use mathlib.Core.List.{List}
 use lib.Dec.{ltb}
-use lib.ListN.{length, getD, set}
-use lib.Seq.{getD-set-same, getD-set-other}
-use lib.Ieee.{Float, nan}
+use lib.ListN.{length}
+use lib.Ieee.{Float}
 use Rattle.float.specs.Arith.{if_then_else_}
-use Rattle.float.specs.RootOf.{rootOf}
 use Rattle.lists.specs.Turns.{Turn, goes, refuses, andThen, turns}
 use Rattle.lists.proofs.Turns.{turns-same, turns-refused}
 use Rattle.queue.specs.declared.Entry.{Entry}
 use Rattle.run.specs.Run.{Ground, State, Place, queue, queued}
-use Rattle.around.specs.Around.{placeOf}
-use Rattle.batch.specs.declared.Batch.{Batch}
-use Rattle.batch.specs.Batch.{entryIn, stopAt, queueAll, over, offerTo, verdict, countedBy}
+use Rattle.batch.specs.Batch.{stopAt, over, offerTo, verdict, countedBy}
 
 -- ---- queueing over another field and other names
 

@@ -5,21 +5,20 @@ use native.Mathlib.Omega.{arith}
 use mathlib.Core.Path.{_≡_, refl, sym, ap, _∙_, subst}
 use mathlib.Core.Bool.{Bool, true, false, not, true≢false}
 use mathlib.Core.List.{List}
-use lib.Dec.{T, ltb}
-use lib.ListN.{length, getD, set}
+use lib.Dec.{T}
+use lib.ListN.{getD, set}
 use lib.Ieee.{Float, nan, inf, fin, isNan, ne, lt, binary32, toBits}
 use borrow.Author.Tests.{eq-eqb, ne-eqb, lt-ltb, le-ltb}
 use Rattle.float.specs.Arith.{_≺_, fMax, if_then_else_}
 use Rattle.float.specs.RootOf.{rootOf}
 use Rattle.lists.specs.Turns.{Turn, goes, refuses, andThen, turns}
 use Rattle.queue.specs.declared.Entry.{Entry}
-use Rattle.run.specs.Run.{Ground, State, Place, off, at, none, entry, queue, queueCell, offerAt}
+use Rattle.run.specs.Run.{State, Place, off, at, none, entry, queue, queueCell, offerAt}
 use Rattle.run.proofs.Ways.{offer-nan, offer-passed, offer-taken, is-nan, is-number}
 use Rattle.around.specs.Around.{placeOf}
 use Rattle.told.specs.declared.Progress.{Progress}
 use Rattle.batch.specs.declared.Batch.{Batch}
-use Rattle.batch.specs.declared.Verdict.{Verdict}
-use Rattle.batch.specs.Batch.{entryIn, stopAt, queueAll, over, offerTo, verdict, Considered, Cell, queuedBy}
+use Rattle.batch.specs.Batch.{entryIn, stopAt, over, offerTo, verdict, Considered, Cell, queuedBy}
 
 place-off : (n : ℕ) → n ≡ none → placeOf n ≡ off
 place-off n e = ap (λ (t : Bool). if t then off else at n) (eq-eqb n none e)

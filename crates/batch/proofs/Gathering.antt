@@ -5,23 +5,22 @@ use native.Mathlib.Decide.{ℕ-discrete}
 use mathlib.Core.Path.{_≡_, refl, sym, ap, _∙_, subst}
 use mathlib.Core.Bool.{Bool, true, false}
 use mathlib.Core.List.{List}
-use lib.ListN.{length, getD, set, replicate, length-set}
+use lib.ListN.{length, getD, set, length-set}
 use lib.Seq.{getD-set-same, getD-set-other}
 use lib.Ieee.{Float, nan}
 use Rattle.float.specs.RootOf.{rootOf}
-use Rattle.lists.specs.Turns.{turns}
 use Rattle.lists.proofs.Turns.{turns-same}
 use Rattle.grid.specs.declared.Grid.{Grid}
 use Rattle.grid.specs.Index.{total}
 use Rattle.mesh.specs.Mesh.{Mesh}
 use Rattle.queue.specs.declared.Entry.{Entry}
-use Rattle.run.specs.Run.{Ground, State, Place, off, at, queue, offer, offerAt, spreadTo, spreadAround}
+use Rattle.run.specs.Run.{State, Place, off, at, queue, offer, offerAt, spreadTo, spreadAround}
 use Rattle.run.specs.Ground.{groundOf}
 use Rattle.run.specs.Steps.{aroundCell}
-use Rattle.around.specs.Around.{placeOf, Near, Around}
+use Rattle.around.specs.Around.{placeOf, Around}
 use Rattle.batch.specs.declared.Batch.{Batch}
 use Rattle.batch.specs.declared.Verdict.{Verdict}
-use Rattle.batch.specs.Batch.{entryIn, queueAll, over, offerTo, countedBy, Passable, Listed, Considered, Gathered, Offered}
+use Rattle.batch.specs.Batch.{over, offerTo, countedBy, Passable, Listed, Considered, Gathered, Offered}
 use Rattle.batch.proofs.Batches.{Gathers, none-yet, goes-on, stops-here, all-made}
 
 abbrev pub inBatch : List ℕ → List ℕ → ℕ → ℕ → Entry

@@ -69,10 +69,10 @@ fn consider(field: &mut [f32], names: &mut [u32], k: u32, to: u32, q: f32) -> Ve
     }
     let i = to as usize;
     let held = field[i];
-    if float::root_not_below(q, held) {
+    if root::root_not_below(q, held) {
         return v;
     }
-    let d = float::sqrt(q);
+    let d = root::sqrt(q);
     if d < held {
         field[i] = d;
         names[i] = k;

@@ -8,10 +8,10 @@ use mathlib.Core.List.{List, [], _∷_, map}
 use lib.ListN.{length, getD, set, replicate, length-map, length-replicate, getD-replicate}
 use lib.Seq.{ext-getD, getD-set-other}
 use Rattle.queue.specs.declared.Entry.{Entry}
-use Rattle.queue.specs.Heap.{Keeps, Put, Out}
-use Rattle.queue.specs.Queue.{blank, entries, Even, Held, Pushed, Taken, Cleared}
+use Rattle.queue.specs.Heap.{Keeps}
+use Rattle.queue.specs.Queue.{blank, entries, Even}
 use Rattle.queue.proofs.Sift.{put-at}
-use Rattle.entries.specs.Row.{distances, cells, triangles, HeldRow, PushedRow, TakenRow, ClearedRow}
+use Rattle.entries.specs.Row.{distances, cells, triangles, HeldRow, ClearedRow}
 
 pub row-entries : (row : List Entry) → entries (distances row) (cells row) (triangles row) ≡ row
 unfolding entries

@@ -8,9 +8,9 @@ use mathlib.Core.List.{List, List·Memᴰ}
 use lib.Dec.{ltb, eqb}
 use lib.ListN.{length, length-map}
 use lib.Ieee.{Float}
-use borrow.Author.Tests.{ltb-true, ltb-false, lt-ltb, eq-eqb, ne-eqb}
+use borrow.Author.Tests.{ltb-true, ltb-false, lt-ltb, eq-eqb}
 use Rattle.float.specs.Arith.{if_then_else_}
-use Rattle.lists.specs.Turns.{Turn, goes, refuses, andThen, turns, told}
+use Rattle.lists.specs.Turns.{goes, turns, told}
 use Rattle.lists.proofs.Turns.{then-goes, then-refuses, turns-none, turns-more, turns-stopped, told-goes, told-refuses}
 use Rattle.queue.specs.declared.Entry.{Entry}
 use Rattle.run.specs.Run.{Ground, State, queue}
@@ -19,11 +19,11 @@ use Rattle.told.specs.Told.{refusedBy, Queued}
 use Rattle.queueing.proofs.Queues.{full, put-in}
 use Rattle.entries.specs.Row.{distances, cells, triangles, HeldRow, PushedRow}
 use Rattle.batch.specs.declared.Batch.{Batch}
-use Rattle.batch.specs.Batch.{entryIn, stopAt, queueAll, queuedBy}
+use Rattle.batch.specs.Batch.{entryIn, stopAt, queuedBy}
 use Rattle.records.specs.Records.{waitingIn, stateIn, stoppedBy, OneOf, QueuedAll}
 
 -- the room of a row
-long-row : (row : List Entry) → length (distances row) ≡ length row
+pub long-row : (row : List Entry) → length (distances row) ≡ length row
 long-row row = length-map row (λ e. e .distance)
 
 -- the counts by the test of the room
@@ -77,7 +77,7 @@ module _ (le : Entry → Entry → Bool) (b : Batch) (row : List Entry) (at : Pr
         let within : p .waiting < length row = had-room (length row) p z in
         let there : p .waiting < length (distances q) = omega (arith, within, h .long, long-row q) in
         let k : Queued le (entryIn b j) (distances q) (cells q) (triangles q) p (distances q′) (cells q′) (triangles q′) (record { number = 0; waiting = p .waiting + 1; pops = p .pops; peak = max (p .peak) (p .waiting + 1) }) =
-            put-in {peak = max (p .peak) (p .waiting + 1)} (h .held) there w refl in
+        put-in {peak = max (p .peak) (p .waiting + 1)} (h .held) there w refl in
         subst (λ (r : Progress). Pushing q′ r (j + 1)) (sym (with-room (length row) p within)) (record {
           fine = refl;
           long = e ∙ h .long;

@@ -1,6 +1,5 @@
 -- `cell_batch`: the test is the definition's, and the entry is what the cell holds. Assumes nothing.
 use borrow.Author.Needs.{needs}
-use native.Mathlib.Omega.{arith}
 use mathlib.Core.Path.{refl}
 use Rattle.batch.proofs.Considers.{less-no-nan, cell-none, cell-one}
 use Rattle.batch.proofs.cell_batch.Statement.{statement}

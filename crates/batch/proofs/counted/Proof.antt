@@ -1,6 +1,5 @@
 -- `counted`, by its test. Assumes nothing.
 use mathlib.Core.Path.{sym, ap}
-use mathlib.Core.Bool.{Bool}
 use borrow.Author.Needs.{needs}
 use Rattle.batch.specs.Batch.{countedBy}
 use Rattle.batch.proofs.counted.Statement.{statement}

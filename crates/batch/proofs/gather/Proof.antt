@@ -1,7 +1,7 @@
 -- `gather`: the invariant is that what was offered comes to the entries so far. Assumes nothing.
 use native.Mathlib.Omega.{arith}
 use Prim.Native.Nat.{_-_}
-use mathlib.Core.Path.{refl, _∙_}
+use mathlib.Core.Path.{refl}
 use Rattle.batch.proofs.Gathering.{Gathering, gathering-starts, may-pass, gathering-on, gathering-stops, gathering-ends}
 use Rattle.batch.proofs.gather.Statement.{statement}
 use Rattle.batch.proofs.gather.Tie as tie
