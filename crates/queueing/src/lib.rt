@@ -40,7 +40,7 @@ pub fn enqueue(
     if distances.len() <= n {
         return at.refused(7);
     }
-    queue::push(
+    pushing::push(
         distances,
         cells,
         triangles,

@@ -8,7 +8,7 @@ use lib.ListN.{length, length-replicate}
 use lib.Ieee.{Float}
 use Rattle.float.specs.Arith.{fMax}
 use Rattle.lists.specs.Turns.{Turn, goes, andThen, turns, told}
-use Rattle.lists.proofs.Turns.{then-goes, then-refuses, told-goes, told-refuses, turns-keep}
+use Rattle.lists.proofs.Turns.{then-goes, then-refuses, told-goes, told-refuses}
 use Rattle.grid.specs.declared.Grid.{Grid}
 use Rattle.grid.specs.Index.{total}
 use Rattle.grid.proofs.Facts.{bounds-of, on-axis}
@@ -16,28 +16,20 @@ use Rattle.mesh.specs.Mesh.{Mesh, trianglesIn}
 use Rattle.queue.specs.declared.Entry.{Entry}
 use Rattle.queue.specs.Queue.{waiting}
 use Rattle.queue.proofs.Uses.{none-waits, how-many}
-use Rattle.run.specs.Run.{Ground, State, none, bare, seeding, queueCell, queueing, spreading, run}
+use Rattle.run.specs.Run.{Ground, State, none, bare, seeding, queueing, spreading, run}
 use Rattle.run.specs.Ground.{groundOf}
 use Rattle.run.proofs.Values.{Fair, has-below}
-use Rattle.run.proofs.Offers.{Spread, over, pops, spreading-went, QueuedCell, notBelow, below, queueCell-went, run-went}
+use Rattle.run.proofs.Offers.{Spread, over, pops, spreading-went, run-went}
 use Rattle.run.proofs.Grounds.{fair-ground}
 use Rattle.run.proofs.Seeding.{seeding-good}
-use Rattle.seeding.specs.Parts.{seedState, overTriangle}
+use Rattle.placing.specs.Parts.{seedState, overTriangle}
 use Rattle.seeding.proofs.Whole.{seeding-is}
 use Rattle.told.specs.declared.Progress.{Progress}
 use Rattle.told.specs.Told.{orderIn, stateOf, Fit, AllKnown, Holds, Ran, Named, Told}
+use Rattle.told.proofs.Counts.{queueing-counts}
 use Rattle.running.specs.Running.{Leaves, Fresh, seeded}
 
 -- ---- of any ground
-
--- queueing takes nothing
-queueing-pops : (g : Ground) (s t : State) → queueing g s ≡ goes t → t .pops ≡ s .pops
-unfolding queueing
-queueing-pops g s t h = turns-keep (queueCell g) (λ i u. u .pops ≡ s .pops) (g .cells) s t refl (λ i u v l p w. kept u v (queueCell-went g i u v w) ∙ p) h
-  where
-    kept : {c : ℕ} (u v : State) → QueuedCell g c u v → v .pops ≡ u .pops
-    kept u v (notBelow b e) = ap (λ (x : State). x .pops) e
-    kept u v (below b q) = ap (λ (x : State). x .pops) (q .is)
 
 -- spreading ends only where nothing waits
 spreading-ends : (g : Ground) (left : ℕ) (s t : State) → spreading g left s ≡ goes t → t .waiting ≡ []
@@ -93,7 +85,7 @@ module _ {g : Grid} {m : Mesh} where
         }
 
     pub rest-begins : p .number ≡ 0 → s .pops ≡ 0 → p .pops ≡ 0
-    rest-begins z e = queueing-pops (groundOf g m room 0) s _ (h .is 0 ∙ told-goes (p .number) _ z) ∙ e
+    rest-begins z e = queueing-counts (groundOf g m room 0) s _ (h .is 0 ∙ told-goes (p .number) _ z) ∙ e
 
     pub rest-goes-on : {field′ : List Float} {names′ ds′ cs′ ts′ : List ℕ} {r : Progress} → p .number ≡ 0 → length ds ≡ room
         → Leaves g m (λ any. spreading (groundOf g m (length ds) any) limit (stateOf (orderIn m) field names ds cs ts p)) field′ names′ ds′ cs′ ts′ r

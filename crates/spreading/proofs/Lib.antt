@@ -1,2 +1,2 @@
 -- The laws that the proofs of the functions cite.
-mod Pops
+pub mod Pops

@@ -36,7 +36,7 @@ fn pop(
     ensures { λ r. ⌜ Told grid (meshOf (now (vertices .entry)) topology given (now (indices .entry))) (λ g s. takeFirst g goes (s .waiting) s) (now (field .entry)) (now (names .entry)) (now (distances .entry)) (now (cells .entry)) (now (triangles .entry)) at (now (field .exit)) (now (names .exit)) (now (distances .exit)) (now (cells .exit)) (now (triangles .exit)) r ⌝ }
 {
     let n = at.waiting;
-    let e = queue::take(
+    let e = taking::take(
         distances,
         cells,
         triangles,

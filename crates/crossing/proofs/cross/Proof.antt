@@ -1,4 +1,4 @@
--- `pass::cross`: the crossings are zero when the triangles begin, and the room that is lent is long enough. Assumes nothing.
+-- `crossing::cross`: the crossings are zero when the triangles begin, and the room that is lent is long enough. Assumes nothing.
 use borrow.Author.Needs.{needs}
 use Prim.Native.Nat.{ℕ}
 use mathlib.Core.Path.{ap, _∙_}

@@ -1,4 +1,4 @@
--- `pass::cross_all`: after k triangles each entry is the number of those that cross there (`proofs/Hits.antt`). Assumes nothing.
+-- `crossing::cross_all`: after k triangles each entry is the number of those that cross there (`crates/lines/proofs/Hits.antt`). Assumes nothing.
 use borrow.Author.Needs.{needs}
 use Prim.Native.Nat.{_+_, _*_, _-_, _≤_, _<_}
 use native.Mathlib.Omega.{arith}

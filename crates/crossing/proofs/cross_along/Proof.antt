@@ -1,4 +1,4 @@
--- `pass::cross_along`: the parts that are worked out make up the ray test of document 01 (`proofs/Hits.antt`). Assumes nothing.
+-- `crossing::cross_along`: the parts that are worked out make up the ray test of document 01 (`crates/lines/proofs/Hits.antt`). Assumes nothing.
 use borrow.Author.Needs.{needs}
 use native.Mathlib.Omega.{arith}
 use Rattle.ray.specs.Ray.{castOf}

@@ -1,4 +1,4 @@
--- `pass::cross_rows`: the rows before u are crossed (`proofs/Grown.antt`). Assumes nothing.
+-- `crossing::cross_rows`: the rows before u are crossed (`crates/lines/proofs/Grown.antt`). Assumes nothing.
 use borrow.Author.Needs.{needs}
 use Prim.Native.Nat.{ℕ, _-_, _≤_, _<_}
 use native.Mathlib.Omega.{arith}

@@ -1,4 +1,4 @@
--- `pass::cross_triangle`: three growths, each of its own axis's entries (`proofs/Grown.antt`). Assumes nothing.
+-- `crossing::cross_triangle`: three growths, each of its own axis's entries (`crates/lines/proofs/Grown.antt`). Assumes nothing.
 use borrow.Author.Needs.{needs}
 use native.Mathlib.Omega.{arith}
 use mathlib.Core.Path.{refl, _∙_}

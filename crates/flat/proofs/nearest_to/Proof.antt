@@ -1,4 +1,4 @@
--- `squares::nearest_to`: the steps with no branch, put together. Assumes nothing.
+-- `flat::nearest_to`: the steps with no branch, put together. Assumes nothing.
 use mathlib.Core.Path.{_∙_}
 use Rattle.closest.specs.Closest.{dotsOf}
 use Rattle.flat.proofs.Placed.{placed}

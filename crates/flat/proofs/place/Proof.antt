@@ -1,4 +1,4 @@
--- `squares::place`: the calls in turn, from the last. Assumes nothing.
+-- `flat::place`: the calls in turn, from the last. Assumes nothing.
 use Rattle.flat.specs.Flat.{place}
 use Rattle.flat.proofs.place.Statement.{statement}
 use Rattle.flat.proofs.place.Tie as tie

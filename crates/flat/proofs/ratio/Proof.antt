@@ -1,4 +1,4 @@
--- `squares::ratio`: the quotient of the two picks. Assumes nothing.
+-- `flat::ratio`: the quotient of the two picks. Assumes nothing.
 use Rattle.flat.specs.Flat.{ratio}
 use Rattle.flat.proofs.ratio.Statement.{statement}
 use Rattle.flat.proofs.ratio.Tie as tie

@@ -1,4 +1,4 @@
--- `squares::regions_of`: the six tests of the definition, as they stand. Assumes nothing.
+-- `flat::regions_of`: the six tests of the definition, as they stand. Assumes nothing.
 use mathlib.Core.Path.{refl}
 use Rattle.flat.specs.Flat.{regionsOf}
 use Rattle.flat.proofs.regions_of.Statement.{statement}

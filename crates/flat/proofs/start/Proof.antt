@@ -1,4 +1,4 @@
--- `squares::start`: one pick in another. Assumes nothing.
+-- `flat::start`: one pick in another. Assumes nothing.
 use Rattle.flat.specs.Flat.{start}
 use Rattle.flat.proofs.start.Statement.{statement}
 use Rattle.flat.proofs.start.Tie as tie

@@ -1,4 +1,4 @@
--- `squares::way`: one pick in another. Assumes nothing.
+-- `flat::way`: one pick in another. Assumes nothing.
 use Rattle.flat.specs.Flat.{way}
 use Rattle.flat.proofs.way.Statement.{statement}
 use Rattle.flat.proofs.way.Tie as tie

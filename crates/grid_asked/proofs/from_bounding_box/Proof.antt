@@ -1,4 +1,4 @@
--- `asked::from_bounding_box`: refused by the test of the grid that was made, else that grid. Assumes nothing.
+-- `grid_asked::from_bounding_box`: refused by the test of the grid that was made, else that grid. Assumes nothing.
 use Rattle.grid.proofs.Facts.{fails, passes}
 use Rattle.grid_asked.proofs.from_bounding_box.Statement.{statement}
 use Rattle.grid_asked.proofs.from_bounding_box.Tie as tie

@@ -1,4 +1,4 @@
--- `asked::get_bounding_box`: refused by the test of the grid, else the answer of the method. Assumes nothing.
+-- `grid_asked::get_bounding_box`: refused by the test of the grid, else the answer of the method. Assumes nothing.
 use Rattle.grid.proofs.Facts.{fails, passes}
 use Rattle.grid_asked.proofs.get_bounding_box.Statement.{statement}
 use Rattle.grid_asked.proofs.get_bounding_box.Tie as tie

@@ -1,4 +1,4 @@
--- `asked::get_cell_idx`: refused by the test of the grid, then by that of the cell, else the answer of the method. Assumes nothing.
+-- `grid_asked::get_cell_idx`: refused by the test of the grid, then by that of the cell, else the answer of the method. Assumes nothing.
 use Rattle.grid.proofs.Facts.{fails, passes, inside-of}
 use Rattle.grid_asked.proofs.get_cell_idx.Statement.{statement}
 use Rattle.grid_asked.proofs.get_cell_idx.Tie as tie

@@ -1,4 +1,4 @@
--- `asked::get_cell_integer_coordinates`: refused by the test of the grid, then by that of the index, else the answer of the method. Assumes nothing.
+-- `grid_asked::get_cell_integer_coordinates`: refused by the test of the grid, then by that of the index, else the answer of the method. Assumes nothing.
 use Rattle.grid.proofs.Facts.{fails, passes}
 use Rattle.grid_asked.proofs.get_cell_integer_coordinates.Statement.{statement}
 use Rattle.grid_asked.proofs.get_cell_integer_coordinates.Tie as tie

@@ -1,4 +1,4 @@
--- `asked::get_last_cell`: refused by the test of the grid, else the answer of the method. Assumes nothing.
+-- `grid_asked::get_last_cell`: refused by the test of the grid, else the answer of the method. Assumes nothing.
 use Rattle.grid.proofs.Facts.{fails, passes}
 use Rattle.grid_asked.proofs.get_last_cell.Statement.{statement}
 use Rattle.grid_asked.proofs.get_last_cell.Tie as tie

@@ -1,4 +1,4 @@
--- `asked::snap_point_to_grid`: refused by the test of the grid, else the answer of the method. Assumes nothing.
+-- `grid_asked::snap_point_to_grid`: refused by the test of the grid, else the answer of the method. Assumes nothing.
 use Rattle.grid.proofs.Facts.{fails, passes}
 use Rattle.grid_asked.proofs.snap_point_to_grid.Statement.{statement}
 use Rattle.grid_asked.proofs.snap_point_to_grid.Tie as tie

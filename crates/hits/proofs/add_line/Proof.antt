@@ -1,4 +1,4 @@
--- `pass::add_line`: the line's cells have their entries a step apart (`proofs/Grown.antt`). Assumes nothing.
+-- `hits::add_line`: the line's cells have their entries a step apart (`crates/lines/proofs/Grown.antt`). Assumes nothing.
 use borrow.Author.Needs.{needs}
 use native.Mathlib.Nat.{mul-pos}
 use native.Mathlib.Omega.{arith}

@@ -1,4 +1,4 @@
--- `pass::cross_line`: a miss reaches no cell; a hit reaches those up to the cell of its quotient (`proofs/Hits.antt`). Assumes nothing.
+-- `hits::cross_line`: a miss reaches no cell; a hit reaches those up to the cell of its quotient (`crates/lines/proofs/Hits.antt`). Assumes nothing.
 use borrow.Author.Needs.{needs}
 use Prim.Native.Nat.{ℕ}
 use mathlib.Core.Path.{_≡_, sym, ap, ap₂, _∙_}

@@ -1,5 +1,5 @@
--- `pass::cross_marked`: the lines before v are crossed. A line that is not marked is missed, so that nothing is to be added there
--- (`proofs/Grown.antt`, `proofs/Hits.antt`). Assumes nothing.
+-- `hits::cross_marked`: the lines before v are crossed. A line that is not marked is missed, so that nothing is to be added there
+-- (`crates/lines/proofs/Grown.antt`, `crates/lines/proofs/Hits.antt`). Assumes nothing.
 use borrow.Author.Needs.{needs}
 use Prim.Native.Nat.{ℕ, _-_, _≤_, _<_}
 use native.Mathlib.Omega.{arith}

@@ -1,4 +1,4 @@
--- `pass::cross_row`: where no line is marked every line is missed, and nothing is to be added. Assumes nothing.
+-- `hits::cross_row`: where no line is marked every line is missed, and nothing is to be added. Assumes nothing.
 use borrow.Author.Needs.{needs}
 use Prim.Native.Nat.{_≤_}
 use native.Mathlib.Omega.{arith}

@@ -1,4 +1,4 @@
--- `pass::fill_across`: the parts of the lines before i are there (`proofs/Marks.antt`). Assumes nothing.
+-- `marking::fill_across`: the parts of the lines before i are there (`crates/lines/proofs/Marks.antt`). Assumes nothing.
 use borrow.Author.Needs.{needs}
 use Prim.Native.Nat.{ℕ, _-_, _≤_, _<_}
 use native.Mathlib.Omega.{arith}

@@ -1,4 +1,4 @@
--- `pass::mark_row`: the lines before v are marked, and while none is, none of them may be hit (`proofs/Marks.antt`). Assumes nothing.
+-- `marking::mark_row`: the lines before v are marked, and while none is, none of them may be hit (`crates/lines/proofs/Marks.antt`). Assumes nothing.
 use borrow.Author.Needs.{needs}
 use Prim.Native.Nat.{ℕ, _-_, _≤_, _<_}
 use native.Mathlib.Nat.{not-suc-le-zero}

@@ -1,4 +1,4 @@
--- `pass::may_hit`: the tests of the definition, in its order. Assumes nothing.
+-- `marking::may_hit`: the tests of the definition, in its order. Assumes nothing.
 use mathlib.Core.Path.{refl}
 use Rattle.lines.specs.Pass.{mayHit}
 use Rattle.marking.proofs.may_hit.Statement.{statement}

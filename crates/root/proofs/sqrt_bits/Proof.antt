@@ -1,4 +1,4 @@
--- `root::sqrt_bits`: by the pattern (`proofs/Signs.antt`). Assumes nothing.
+-- `root::sqrt_bits`: by the pattern (`crates/float/proofs/Signs.antt`). Assumes nothing.
 use borrow.Author.Needs.{needs}
 use mathlib.Core.Path.{_≡_, sym, ap, _∙_}
 use Prim.Native.Nat.{ℕ}

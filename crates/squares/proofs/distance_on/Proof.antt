@@ -1,4 +1,4 @@
--- `distance::distance_on`: the calls in turn, from the last. Assumes nothing.
+-- `squares::distance_on`: the calls in turn, from the last. Assumes nothing.
 use mathlib.Core.Path.{_∙_, ap}
 use Rattle.float.specs.RootOf.{rootOf}
 use Rattle.squares.proofs.distance_on.Statement.{statement}

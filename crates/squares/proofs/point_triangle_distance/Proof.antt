@@ -1,4 +1,4 @@
--- `distance::point_triangle_distance`: the calls in turn, from the last. Assumes nothing.
+-- `squares::point_triangle_distance`: the calls in turn, from the last. Assumes nothing.
 use Rattle.squares.proofs.point_triangle_distance.Statement.{statement}
 use Rattle.squares.proofs.point_triangle_distance.Tie as tie
 

@@ -1,4 +1,4 @@
--- `distance::square`: the dot of the difference. Assumes nothing.
+-- `squares::square`: the dot of the difference. Assumes nothing.
 use Rattle.squares.proofs.square.Statement.{statement}
 use Rattle.squares.proofs.square.Tie as tie
 

@@ -1,4 +1,4 @@
--- `distance::squared_on`: the square from the closest point. Assumes nothing.
+-- `squares::squared_on`: the square from the closest point. Assumes nothing.
 use Rattle.squares.specs.Distance.{squaredOn}
 use Rattle.squares.proofs.squared_on.Statement.{statement}
 use Rattle.squares.proofs.squared_on.Tie as tie

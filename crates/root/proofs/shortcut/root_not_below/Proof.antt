@@ -1,4 +1,4 @@
--- `float::root_not_below`: `not-below`, of the wide values, which are the values themselves. Assumes nothing.
+-- `root::root_not_below`: `not-below`, of the wide values, which are the values themselves. Assumes nothing.
 use borrow.Author.Needs.{needs}
 use mathlib.Core.Path.{_≡_, sym, ap₂, _∙_, subst}
 use lib.Dec.{T}
