@@ -1,14 +1,14 @@
--- `listing::put_all` meets its contract. The invariant: the first i bytes of the word are put. Assumes nothing.
+-- `writing::put_all` meets its contract. The invariant: the first i bytes of the word are put. Assumes nothing.
 use borrow.Author.Needs.{needs}
 use Prim.Native.Nat.{_+_, _-_, _≤_}
 use native.Mathlib.Omega.{arith}
 use mathlib.Core.Path.{refl}
 use lib.ListN.{length, take}
 use lib.Seq.{take-all}
-use Rattle.listing.specs.Put.{Put}
-use Rattle.listing.proofs.Puts.{nothing, said, more}
-use Rattle.listing.proofs.put_all.Statement.{statement}
-use Rattle.listing.proofs.put_all.Tie as tie
+use Rattle.writing.specs.Put.{Put}
+use Rattle.writing.proofs.Puts.{nothing, said, more}
+use Rattle.writing.proofs.put_all.Statement.{statement}
+use Rattle.writing.proofs.put_all.Tie as tie
 
 abbrev Inv-loop : tie.InvT-loop
 Inv-loop out₀ at word i₀ out i = (i ≤ length word) × Put out₀ at (take i word) out (at + i)

@@ -1,8 +1,8 @@
--- `listing::put` meets its contract: a store is one byte. Assumes nothing.
+-- `writing::put` meets its contract: a store is one byte. Assumes nothing.
 use borrow.Author.Needs.{needs}
-use Rattle.listing.proofs.Puts.{one}
-use Rattle.listing.proofs.put.Statement.{statement}
-use Rattle.listing.proofs.put.Tie as tie
+use Rattle.writing.proofs.Puts.{one}
+use Rattle.writing.proofs.put.Statement.{statement}
+use Rattle.writing.proofs.put.Tie as tie
 
 slice-write-out : tie.Need-slice-write-out
 slice-write-out c = search needs

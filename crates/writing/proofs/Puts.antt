@@ -6,7 +6,7 @@ use mathlib.Core.Path.{_≡_, refl, sym, ap, _∙_}
 use mathlib.Core.List.{List, [], _∷_, _++_, append-assoc, append-nil}
 use lib.ListN.{length, take, drop, set, getD, length-set, length-append}
 use lib.Seq.{take-suc-set, drop-set-lt, drop-drop, take-suc}
-use Rattle.listing.specs.Put.{Put}
+use Rattle.writing.specs.Put.{Put}
 
 pub nothing : (old : List ℕ) (at : ℕ) → Put old at [] old at
 nothing old at = record { next = omega arith; long = refl; front = sym (append-nil (take at old)); back = refl }

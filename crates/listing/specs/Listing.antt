@@ -1,0 +1,93 @@
+-- What the job program prints (document 01, "One job, one listing"): a function of the job, whose outcome is that of
+-- `sdf::generate_grid_sdf`, and so one output for every input. Definitions only.
+use Prim.Native.Nat.{ℕ, _*_}
+use mathlib.Core.Path.{_≡_}
+use mathlib.Core.List.{List, _∷_, _++_, map}
+use lib.ListN.{length, getD, replicate}
+use lib.Ieee.{Float, binary32, ofBits, toBits}
+use Rattle.float.specs.Arith.{f0}
+use Rattle.point.specs.Point.{vec}
+use Rattle.point.specs.declared.Point.{Point}
+use Rattle.grid.specs.declared.Grid.{Grid}
+use Rattle.grid.specs.Index.{total}
+use Rattle.generate.specs.declared.Answer.{Answer}
+use Rattle.generate.specs.declared.Answer.the-variants.{Refused, Done}
+use Rattle.generate.specs.Job.{Job, Lent, jobOf}
+use Rattle.generate.specs.Outcome.{Outcome, outcome}
+use Rattle.text.specs.declared.Three.{Three}
+use Rattle.text.specs.Words.{space, decimal, hex8, spaced, line, linesBelow}
+use Rattle.text.specs.TextJob.{TextJob, Readable, jobText, indexList, givenOf, flat}
+
+-- ---- the job that a text asks for
+
+-- the floats that bit patterns stand for
+abbrev pub floatsOf : List ℕ → List Float
+floatsOf bs = map (ofBits binary32) bs
+
+abbrev pub pointOf : Three → Point
+pointOf t = vec (ofBits binary32 (t .x)) (ofBits binary32 (t .y)) (ofBits binary32 (t .z))
+
+abbrev pub gridOf : TextJob → Grid
+gridOf j =
+    record {
+      «first_cell» = pointOf (j .first);
+      «cell_size» = pointOf (j .size);
+      «count_x» = j .count .x;
+      «count_y» = j .count .y;
+      «count_z» = j .count .z;
+    }
+
+abbrev pub askedJob : TextJob → Job
+askedJob j =
+    jobOf (gridOf j) (floatsOf (flat (j .vertices))) (j .topology) (givenOf (j .indices)) (indexList (j .indices)) (j .limit)
+
+-- buffers of the lengths that refusal 5 asks for, and a queue of the room that the text gives; nothing depends on what they hold
+abbrev pub lentFor : TextJob → Lent
+lentFor j =
+    let cells = total (gridOf j) in
+    record {
+      field = replicate cells f0;
+      names = replicate cells 0;
+      crossings = replicate (3 * cells) 0;
+      rows = replicate (j .count .z) 0;
+      distances = replicate (j .room) 0;
+      cells = replicate (j .room) 0;
+      triangles = replicate (j .room) 0;
+    }
+
+abbrev pub outcomeOf : TextJob → Outcome
+outcomeOf j = outcome (askedJob j) (lentFor j)
+
+-- ---- the listing
+
+abbrev pub answerLine : ℕ → List ℕ
+answerLine n = line "answer=" (decimal n)
+
+-- "`cell`: index, distance bits, named triangle (4294967295 for none)."
+abbrev pub cellLine : Lent → ℕ → List ℕ
+cellLine b i = line "cell=" (spaced (decimal i) (hex8 (toBits binary32 (getD (b .field) i f0))) (decimal (getD (b .names) i 0)))
+
+-- "`row`: layer, count."
+abbrev pub rowLine : Lent → ℕ → List ℕ
+rowLine b z = line "row=" (decimal z ++ space ∷ decimal (getD (b .rows) z 0))
+
+-- a job that is done: a line for each cell and for each layer; a refusal: "Other refusals print one line too."
+unfoldable pub listed : Answer → Lent → List ℕ
+listed (Refused n) b = answerLine n
+listed (Done pops peak) b =
+    answerLine 0
+    ++ line "pops=" (decimal pops)
+    ++ line "peak=" (decimal peak)
+    ++ linesBelow (cellLine b) (length (b .field))
+    ++ linesBelow (rowLine b) (length (b .rows))
+
+abbrev pub listing : TextJob → List ℕ
+listing j = listed (outcomeOf j .answer) (outcomeOf j .left)
+
+-- ---- the program
+
+-- Input and output of the program: the listing of the job that the input is the text of, or, "a job it can't read, or above these
+-- limits, gives `answer=9` alone". A job has one text, and a text one job (`one-job`, crates/text/proofs/Reader.antt), so an input has one output.
+pub data Prints (input output : List ℕ) : Type 0 where
+  listing-of : (j : TextJob) → Readable j → input ≡ jobText j → output ≡ listing j → Prints input output
+  unreadable : ((j : TextJob) → Readable j → input ≡ jobText j → ⊥) → output ≡ answerLine 9 → Prints input output
