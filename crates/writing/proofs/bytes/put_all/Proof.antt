@@ -1,4 +1,4 @@
--- `writing::put_all` meets its contract. The invariant: the first i bytes of the word are put. Assumes nothing.
+-- `writing::bytes::put_all` meets its contract. The invariant: the first i bytes of the word are put. Assumes nothing.
 use borrow.Author.Needs.{needs}
 use Prim.Native.Nat.{_+_, _-_, _≤_}
 use native.Mathlib.Omega.{arith}
@@ -7,8 +7,8 @@ use lib.ListN.{length, take}
 use lib.Seq.{take-all}
 use Rattle.writing.specs.Put.{Put}
 use Rattle.writing.proofs.Puts.{nothing, said, more}
-use Rattle.writing.proofs.put_all.Statement.{statement}
-use Rattle.writing.proofs.put_all.Tie as tie
+use Rattle.writing.proofs.bytes.put_all.Statement.{statement}
+use Rattle.writing.proofs.bytes.put_all.Tie as tie
 
 abbrev Inv-loop : tie.InvT-loop
 Inv-loop out₀ at word i₀ out i = (i ≤ length word) × Put out₀ at (take i word) out (at + i)

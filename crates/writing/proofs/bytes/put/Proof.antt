@@ -1,8 +1,8 @@
--- `writing::put` meets its contract: a store is one byte. Assumes nothing.
+-- `writing::bytes::put` meets its contract: a store is one byte. Assumes nothing.
 use borrow.Author.Needs.{needs}
 use Rattle.writing.proofs.Puts.{one}
-use Rattle.writing.proofs.put.Statement.{statement}
-use Rattle.writing.proofs.put.Tie as tie
+use Rattle.writing.proofs.bytes.put.Statement.{statement}
+use Rattle.writing.proofs.bytes.put.Tie as tie
 
 slice-write-out : tie.Need-slice-write-out
 slice-write-out c = search needs
