@@ -6,6 +6,7 @@ use mathlib.Core.Path.{_≡_, refl, sym, ap, _∙_}
 use mathlib.Core.List.{List, [], _∷_, _++_, append-assoc, append-nil}
 use lib.ListN.{length, take, drop, set, getD, length-set, length-append}
 use lib.Seq.{take-suc-set, drop-set-lt, drop-drop, take-suc}
+use Rattle.text.specs.Words.{space, lf, spaced}
 use Rattle.writing.specs.Put.{Put}
 
 pub nothing : (old : List ℕ) (at : ℕ) → Put old at [] old at
@@ -46,3 +47,11 @@ pub more : {old mid : List ℕ} {at i : ℕ} (word : List ℕ) → i < length wo
     → Put old at (take (i + 1) word) (set mid (at + i) (getD word i 0)) (at + (i + 1))
 more {old} {mid} {at} {i} word h room p =
     said (rw (add-one, take-suc word i 0)) (omega arith) (andThen p (one mid (at + i) (getD word i 0) (omega (arith, p .long))))
+
+-- ---- words of a line, put one after the other
+
+pub three-words : (key a b c : List ℕ) → ((key ++ (a ++ space ∷ [])) ++ (b ++ space ∷ [])) ++ (c ++ lf ∷ []) ≡ key ++ spaced a b c ++ lf ∷ []
+three-words key a b c = simp append-assoc
+
+pub two-words : (key a b : List ℕ) → (key ++ (a ++ space ∷ [])) ++ (b ++ lf ∷ []) ≡ key ++ (a ++ space ∷ b) ++ lf ∷ []
+two-words key a b = simp append-assoc

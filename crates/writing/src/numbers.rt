@@ -3,6 +3,7 @@ use crate::bytes::put;
 ghost use Prim.Native.Nat.{_+_, _<_, _≤_};
 ghost use lib.ListN.{length};
 ghost use mathlib.Core.Path.{_≡_};
+ghost use mathlib.Core.List.{[], _∷_, _++_};
 ghost use Rattle.text.specs.Words.{digits, decimal, hexDigit, hex, hex8};
 ghost use Rattle.writing.specs.Put.{Put};
 ghost use Rattle.writing.specs.Digits.{Few};
@@ -53,4 +54,24 @@ pub fn put_hex8(out: &mut [u8], at: usize, b: u32) -> usize
     ensures { λ r. ⌜ r ≤ at + 8 ⌝ }
 {
     put_hex(out, at, b, 8)
+}
+
+// A number, and the byte after it: a space or the line's end.
+
+pub fn put_decimal_then(out: &mut [u8], at: usize, n: u32, b: u8) -> usize
+    requires { ⌜ at + 11 ≤ length (now out) ⌝ }
+    ensures { λ r. ⌜ Put (now (out .entry)) at (decimal n ++ b ∷ []) (now (out .exit)) r ⌝ }
+    ensures { λ r. ⌜ r ≤ at + 11 ⌝ }
+{
+    let next = put_decimal(out, at, n);
+    put(out, next, b)
+}
+
+pub fn put_hex8_then(out: &mut [u8], at: usize, n: u32, b: u8) -> usize
+    requires { ⌜ at + 9 ≤ length (now out) ⌝ }
+    ensures { λ r. ⌜ Put (now (out .entry)) at (hex8 n ++ b ∷ []) (now (out .exit)) r ⌝ }
+    ensures { λ r. ⌜ r ≤ at + 9 ⌝ }
+{
+    let next = put_hex8(out, at, n);
+    put(out, next, b)
 }
