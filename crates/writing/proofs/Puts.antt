@@ -6,7 +6,7 @@ use mathlib.Core.Path.{_≡_, refl, sym, ap, _∙_}
 use mathlib.Core.List.{List, [], _∷_, _++_, append-assoc, append-nil}
 use lib.ListN.{length, take, drop, set, getD, length-set, length-append}
 use lib.Seq.{take-suc-set, drop-set-lt, drop-drop, take-suc}
-use Rattle.text.specs.Words.{space, lf, spaced}
+use Rattle.text.specs.Words.{space, lf, spaced, linesBelow}
 use Rattle.writing.specs.Put.{Put}
 
 pub nothing : (old : List ℕ) (at : ℕ) → Put old at [] old at
@@ -55,3 +55,14 @@ three-words key a b c = simp append-assoc
 
 pub two-words : (key a b : List ℕ) → (key ++ (a ++ space ∷ [])) ++ (b ++ lf ∷ []) ≡ key ++ (a ++ space ∷ b) ++ lf ∷ []
 two-words key a b = simp append-assoc
+
+-- ---- lines, one after the other
+
+pub line-more : (f : ℕ → List ℕ) (i : ℕ) {old mid new : List ℕ} {at r s : ℕ} → Put old at (linesBelow f i) mid r → Put mid r (f i) new s
+    → Put old at (linesBelow f (i + 1)) new s
+unfolding linesBelow
+line-more f i p q = rw add-one (andThen p q)
+
+pub no-line : (f : ℕ → List ℕ) (old : List ℕ) (at : ℕ) → Put old at (linesBelow f 0) old at
+unfolding linesBelow
+no-line f old at = nothing old at
