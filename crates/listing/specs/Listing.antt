@@ -87,7 +87,7 @@ listing j = listed (outcomeOf j .answer) (outcomeOf j .left)
 -- ---- the program
 
 -- Input and output of the program: the listing of the job that the input is the text of, or, "a job it can't read, or above these
--- limits, gives `answer=9` alone". A job has one text, and a text one job (`one-job`, crates/text/proofs/Reader.antt), so an input has one output.
+-- limits, gives `answer=9` alone". A job has one text, and a text one job (`one-job`, crates/text/proofs/Job.antt), so an input has one output.
 pub data Prints (input output : List ℕ) : Type 0 where
   listing-of : (j : TextJob) → Readable j → input ≡ jobText j → output ≡ listing j → Prints input output
   unreadable : ((j : TextJob) → Readable j → input ≡ jobText j → ⊥) → output ≡ answerLine 9 → Prints input output

@@ -1,1 +1,7 @@
 pub mod Example
+pub mod Formats
+pub mod Digits
+pub mod Numbers
+pub mod Lines
+pub mod Job
+pub mod Places
