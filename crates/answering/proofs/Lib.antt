@@ -1,0 +1,3 @@
+-- Laws of answering.
+pub mod Patterns
+pub mod Same
