@@ -1,11 +1,21 @@
 -- What is listed of a job depends on the lengths of the lent buffers alone; and of a job that is done the peak keeps to the queue's
 -- room. Assumes nothing.
-use Prim.Native.Nat.{ℕ, zero, suc, _≤_}
+use Prim.Native.Nat.{ℕ, zero, suc, _*_, _≤_, _<_}
+use native.Mathlib.Nat.{zero-mul, suc-mul}
+use native.Mathlib.Decide.{decLt}
 use native.Mathlib.Omega.{arith}
-use mathlib.Core.Path.{_≡_, refl, ap, ap₂, _∙_}
+use mathlib.Core.Path.{_≡_, refl, sym, ap, ap₂, _∙_}
+use mathlib.Core.Bool.{Bool, true, false, not, _&&_}
 use mathlib.Core.List.{List}
-use lib.ListN.{length}
+use lib.ListN.{length, take, replicate, length-replicate}
+use lib.Seq.{length-take-le}
+use lib.Ieee.{Float}
+use Rattle.float.specs.Arith.{f0}
 use Rattle.lists.specs.Turns.{Turn, goes, refuses}
+use Rattle.grid.specs.declared.Grid.{Grid}
+use Rattle.grid.specs.Axes.{onEvery}
+use Rattle.grid.specs.Index.{total}
+use Rattle.grid.specs.Bounds.{isAxis, inBounds}
 use Rattle.grid.proofs.Facts.{bounds-of, on-axis}
 use Rattle.run.specs.Run.{State}
 use Rattle.run.specs.Ground.{groundOf}
@@ -13,16 +23,16 @@ use Rattle.run.proofs.Done.{run-done}
 use Rattle.run.proofs.Grounds.{fair-ground}
 use Rattle.generate.specs.declared.Answer.{Answer}
 use Rattle.generate.specs.declared.Answer.the-variants.{Refused, Done}
-use Rattle.generate.specs.Job.{Job, Lent, peakOf}
-use Rattle.generate.specs.Refusals.{refusal, refusalBy, lengthsOf}
+use Rattle.generate.specs.Job.{Job, Lent, lentOf, peakOf}
+use Rattle.generate.specs.Refusals.{wrongGrid, refusal, refusalBy, lengthsOf}
 use Rattle.generate.specs.Outcome.{Outcome, Gives, ended, runOf, unlessRefused, outcome}
 use Rattle.generate.proofs.Accepted.{accepted}
-use Rattle.generate.proofs.Lengths.{same-ended, same-run}
+use Rattle.generate.proofs.Lengths.{same-ended, same-run, lengths-same}
 use Rattle.listing.specs.Listing.{listed}
 use Rattle.writing.specs.Put.{Put}
 use Rattle.writing.proofs.Puts.{said}
 use Rattle.listing.specs.Written.{shown, Few, Listable}
-use Rattle.answering.specs.Answering.{listedOf}
+use Rattle.answering.specs.Answering.{listedOf, lentBy}
 
 -- a listing shows no other buffers
 pub as-shown : (a : Answer) (b : Lent) → listed a (shown (b .field) (b .names) (b .rows)) ≡ listed a b
@@ -78,3 +88,57 @@ module _ {o : Outcome} {left : Lent} {answer : Answer} (given : Gives o answer l
   pub can-be-listed : {out : List ℕ} → peakOf (o .answer) ≤ 2048 → Few (left .field) (left .names) (left .rows) out
       → Listable answer (left .field) (left .names) (left .rows) out
   can-be-listed low few = record { few = few; peak-fits = omega (arith, ap peakOf (given .answers), low) }
+
+-- ---- buffers cut to a length
+
+pub prefix : {A : Type 0} (l : List A) (n m : ℕ) → m ≡ length l → n ≤ m → length (take n l) ≡ n
+prefix l n m e h = length-take-le n l (omega arith)
+
+pub as-long : {A : Type 0} (l : List A) (a : A) (n m : ℕ) → m ≡ length l → n ≤ m → length (take n l) ≡ length (replicate n a)
+as-long l a n m e h = prefix l n m e h ∙ sym (length-replicate n a)
+
+-- what is listed over buffers that are cut to a job's size
+pub cut-listed : (j : Job) (field : List Float) (names crossings rows ds cs ts : List ℕ) (cells layers room : ℕ) {old new : List ℕ} {n : ℕ}
+    → 512 ≡ length field → 512 ≡ length names → 1536 ≡ length crossings → 512 ≡ length rows → 2048 ≡ length ds → 2048 ≡ length cs → 2048 ≡ length ts
+    → cells ≤ 512 → layers ≤ 512 → room ≤ 2048
+    → Put old 0 (listedOf j (lentOf (take cells field) (take cells names) (take (3 * cells) crossings) (take layers rows) (take room ds) (take room cs) (take room ts))) new n
+    → Put old 0 (listedOf j (lentBy cells layers room)) new n
+cut-listed j field names crossings rows ds cs ts cells layers room f n k r d c t hc hl hr p =
+    let cut = lentOf (take cells field) (take cells names) (take (3 * cells) crossings) (take layers rows) (take room ds) (take room cs) (take room ts) in
+    let made = lentBy cells layers room in
+    said
+    (same-listed j cut made
+    (lengths-same cut made (as-long field f0 cells 512 f hc) (as-long names 0 cells 512 n hc) (as-long crossings 0 (3 * cells) 1536 k (omega arith))
+    (as-long rows 0 layers 512 r hl)
+    (as-long ds 0 room 2048 d hr)
+    (as-long cs 0 room 2048 c hr)
+    (as-long ts 0 room 2048 t hr)))
+    refl
+    p
+
+-- ---- a grid with no cells
+
+never-both : (t : Bool) → not (t && false) ≡ true
+never-both true = refl
+never-both false = refl
+
+no-cells : (g : Grid) → total g ≡ 0 → wrongGrid g ≡ true
+unfolding inBounds
+no-cells g e = rw e (never-both (onEvery (isAxis g)))
+
+pub refused-first : (j : Job) (b c : Lent) → total (j .grid) ≡ 0 → listedOf j b ≡ listedOf j c
+unfolding listedOf outcome unlessRefused listed refusalBy
+refused-first j b c e = rw (no-cells (j .grid) e)
+
+-- with at most 512 cells, more than 512 layers are those of a grid with no cells
+wide : (m z : ℕ) → m * z ≤ 512 → 512 < z → m * z ≡ 0
+wide zero z h k = zero-mul z
+wide (suc m) z h k = absurd (omega (arith, suc-mul m z))
+
+pub same-layers : (j : Job) (m z layers room : ℕ) → total (j .grid) ≡ m * z → m * z ≤ 512 → (z ≤ 512 → layers ≡ z)
+    → listedOf j (lentBy (m * z) layers room) ≡ listedOf j (lentBy (m * z) z room)
+same-layers j m z layers room t h e = by (decLt 512 z)
+  where
+    by : Dec (512 < z) → listedOf j (lentBy (m * z) layers room) ≡ listedOf j (lentBy (m * z) z room)
+    by (yes w) = refused-first j (lentBy (m * z) layers room) (lentBy (m * z) z room) (t ∙ wide m z h w)
+    by (no w) = ap (λ (k : ℕ). listedOf j (lentBy (m * z) k room)) (e (omega arith))

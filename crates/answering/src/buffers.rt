@@ -70,6 +70,12 @@ fn floats_512() -> [f32; 512]
     [0.0; 512]
 }
 
+fn floats_768() -> [f32; 768]
+    ensures { λ r. ⌜ 768 ≡ length r ⌝ }
+{
+    [0.0; 768]
+}
+
 fn words_512() -> [u32; 512]
     ensures { λ r. ⌜ 512 ≡ length r ⌝ }
 {
@@ -151,4 +157,49 @@ fn grid_of(count: Three, first: Three, size: Three) -> Grid
         count_y: count.y,
         count_z: count.z,
     }
+}
+
+// The length of the buffer for the rows. More than 512 layers are those of a grid with no cells, which is
+// refused before the buffer is asked for.
+fn layers_of(z: u32) -> usize
+    ensures { λ r. ⌜ (r ≤ 512) × (z ≤ 512 → r ≡ z) ⌝ }
+{
+    if 512 < z { 0 } else { z as usize }
+}
+
+// Answers the job of these parts, which is within the program's limits.
+pub fn answer_job(
+    count: Three,
+    first: Three,
+    size: Three,
+    topology: Topology,
+    bits: &[u32],
+    given: Indices,
+    indices: &[u32],
+    room: u32,
+    limit: u32,
+    out: &mut [u8],
+) -> usize
+    requires { ⌜ (count .x * count .y * count .z ≤ 512) × (length (now bits) ≤ 768) × (room ≤ 2048) × (32768 ≤ length (now out)) ⌝ }
+    ensures { λ r. ⌜ Put (now (out .entry)) 0 (listedOf (jobOf (gridBy count first size) (floatsOf (now (bits .entry))) topology given (now (indices .entry)) limit) (lentBy (count .x * count .y * count .z) (count .z) room)) (now (out .exit)) r ⌝ }
+{
+    let grid = grid_of(count, first, size);
+    let mut floats = floats_768();
+    let n = bits.len();
+    fill(bits, &mut floats[..n]);
+    let total = (count.x as usize) * (count.y as usize) * (count.z as usize);
+    let layers = layers_of(count.z);
+    let entries = room as usize;
+    list_run(
+        grid,
+        &floats[..n],
+        topology,
+        given,
+        indices,
+        total,
+        layers,
+        entries,
+        limit,
+        out,
+    )
 }
