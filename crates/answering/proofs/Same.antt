@@ -1,15 +1,15 @@
 -- What is listed of a job depends on the lengths of the lent buffers alone; and of a job that is done the peak keeps to the queue's
 -- room. Assumes nothing.
 use Prim.Native.Nat.{ℕ, zero, suc, _*_, _≤_, _<_}
-use native.Mathlib.Nat.{zero-mul, suc-mul}
+use native.Mathlib.Nat.{zero-mul, suc-mul, mul-le-mul}
 use native.Mathlib.Decide.{decLt}
 use native.Mathlib.Omega.{arith}
 use mathlib.Core.Path.{_≡_, refl, sym, ap, ap₂, _∙_}
 use mathlib.Core.Bool.{Bool, true, false, not, _&&_}
-use mathlib.Core.List.{List}
-use lib.ListN.{length, take, replicate, length-replicate}
-use lib.Seq.{length-take-le}
-use lib.Ieee.{Float}
+use mathlib.Core.List.{List, _++_}
+use lib.ListN.{length, take, replicate, length-replicate, length-map}
+use lib.Seq.{length-take-le, take-at}
+use lib.Ieee.{Float, binary32, ofBits}
 use Rattle.float.specs.Arith.{f0}
 use Rattle.lists.specs.Turns.{Turn, goes, refuses}
 use Rattle.grid.specs.declared.Grid.{Grid}
@@ -28,7 +28,7 @@ use Rattle.generate.specs.Refusals.{wrongGrid, refusal, refusalBy, lengthsOf}
 use Rattle.generate.specs.Outcome.{Outcome, Gives, ended, runOf, unlessRefused, outcome}
 use Rattle.generate.proofs.Accepted.{accepted}
 use Rattle.generate.proofs.Lengths.{same-ended, same-run, lengths-same}
-use Rattle.listing.specs.Listing.{listed}
+use Rattle.listing.specs.Listing.{floatsOf, listed}
 use Rattle.writing.specs.Put.{Put}
 use Rattle.writing.proofs.Puts.{said}
 use Rattle.listing.specs.Written.{shown, Few, Listable}
@@ -142,3 +142,15 @@ same-layers j m z layers room t h e = by (decLt 512 z)
     by : Dec (512 < z) → listedOf j (lentBy (m * z) layers room) ≡ listedOf j (lentBy (m * z) z room)
     by (yes w) = refused-first j (lentBy (m * z) layers room) (lentBy (m * z) z room) (t ∙ wide m z h w)
     by (no w) = ap (λ (k : ℕ). listedOf j (lentBy (m * z) k room)) (e (omega arith))
+
+-- ---- the floats of a job, at the front of their buffer
+
+pub long-as : {floats : List Float} (bits : List ℕ) → floats ≡ floatsOf bits → length floats ≡ length bits
+long-as bits e = ap length e ∙ length-map bits (ofBits binary32)
+
+pub front-of : {floats : List Float} (bits : List ℕ) (rest : List Float) → floats ≡ floatsOf bits → take (length bits) (floats ++ rest) ≡ floatsOf bits
+front-of {floats} bits rest e = take-at floats rest (length bits) (long-as bits e) ∙ e
+
+-- the product of two counts
+pub wide-product : {x y : ℕ} → x < 4294967296 → y < 4294967296 → x * y < 18446744073709551616
+wide-product {x} {y} h k = omega (arith, mul-le-mul {n₁ = x} {m₁ = y} {n₂ = 4294967295} {m₂ = 4294967295} (omega arith) (omega arith))
