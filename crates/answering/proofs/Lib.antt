@@ -1,3 +1,4 @@
 -- Laws of answering.
 pub mod Patterns
 pub mod Same
+pub mod Read

@@ -1,7 +1,8 @@
 -- The listing of a job by its parts, and what the whole answer promises. Definitions only.
-use Prim.Native.Nat.{ℕ, _*_}
+use Prim.Native.Nat.{ℕ, _*_, _≤_}
+use mathlib.Core.Path.{_≡_}
 use mathlib.Core.List.{List}
-use lib.ListN.{replicate}
+use lib.ListN.{length, take, replicate}
 use Rattle.float.specs.Arith.{f0}
 use Rattle.grid.specs.declared.Grid.{Grid}
 use Rattle.generate.specs.Job.{Job, Lent, lentOf}
@@ -34,3 +35,7 @@ pub record Answered (input old new : List ℕ) (n : ℕ) : Type 0 where
   pub output : List ℕ
   pub prints : Prints input output
   pub put : Put old 0 output new n
+
+-- n counts bytes at the front of xs. The second part follows from the first; a caller that cuts xs there asks for both.
+abbrev pub Within : ℕ → List ℕ → Type 0
+Within n xs = (n ≤ length xs) × (n ≡ length (take n xs))

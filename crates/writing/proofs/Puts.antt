@@ -1,11 +1,12 @@
 -- Laws on what is put: nothing, one byte, one thing after the other. Assumes nothing.
 use Prim.Native.Nat.{ℕ, suc, _+_, _-_, _≤_, _<_}
+use native.Mathlib.Decide.{decLt}
 use native.Mathlib.Omega.{arith}
 use native.Mathlib.Numerals.{add-one}
 use mathlib.Core.Path.{_≡_, refl, sym, ap, _∙_}
 use mathlib.Core.List.{List, [], _∷_, _++_, append-assoc, append-nil}
 use lib.ListN.{length, take, drop, set, getD, length-set, length-append}
-use lib.Seq.{take-suc-set, drop-set-lt, drop-drop, take-suc}
+use lib.Seq.{take-suc-set, drop-set-lt, drop-drop, take-suc, take-all, length-take-le}
 use Rattle.text.specs.Words.{space, lf, spaced, linesBelow}
 use Rattle.writing.specs.Put.{Put}
 
@@ -66,3 +67,15 @@ line-more f i p q = rw add-one (andThen p q)
 pub no-line : (f : ℕ → List ℕ) (old : List ℕ) (at : ℕ) → Put old at (linesBelow f 0) old at
 unfolding linesBelow
 no-line f old at = nothing old at
+
+-- ---- what was put lies within
+
+pub cut : {old new : List ℕ} {at r : ℕ} {xs : List ℕ} → at ≤ length old → Put old at xs new r → r ≡ length (take r new)
+cut {old} {new} {at} {r} {xs} h p = omega (arith, p .next, ap length (p .front), length-append (take at old) xs, length-take-le at old h)
+
+pub inside : {old new : List ℕ} {at r : ℕ} {xs : List ℕ} → at ≤ length old → Put old at xs new r → r ≤ length new
+inside {new = new} {r = r} h p = by (decLt (length new) r)
+  where
+    by : Dec (length new < r) → r ≤ length new
+    by (yes w) = omega (arith, cut h p, ap length (take-all r new (omega arith)))
+    by (no w) = omega arith
