@@ -5,3 +5,4 @@ pub mod Numbers
 pub mod Lines
 pub mod Job
 pub mod Places
+pub mod Calls

@@ -1,5 +1,5 @@
 -- Lines in a row, one for each value of a list: a reader of one line reads them all. The last laws are for a loop that has read some of them.
-use Prim.Native.Nat.{ℕ, zero, suc, _+_, _-_, _<_}
+use Prim.Native.Nat.{ℕ, zero, suc, _+_, _-_, _≤_, _<_}
 use native.Mathlib.Omega.{arith}
 use mathlib.Core.Path.{_≡_, refl, sym, ap, _∙_, subst}
 use mathlib.Core.List.{List, [], _∷_, _++_, append-assoc, append-nil}
@@ -47,7 +47,7 @@ module _ {A : Type 0} {In : A → Type 0} {f : A → List ℕ} {p : List ℕ →
   pub lines-reads : (n : ℕ) → Reads (λ l. (length l ≡ n) × All In l) (lines f) (linesAt n p)
   lines-reads n = record { sound = lines-sound n; complete = lines-complete n }
 
--- ---- a loop over the lines: `done` are those that it has read, n are left
+-- ---- a loop over n lines: `done` are the i that it has read
 
 module _ {A : Type 0} (p : List ℕ → Got A) where
   unfoldable pub afterwards : List A → ℕ → List ℕ → Got (List A)
@@ -59,24 +59,36 @@ module _ {A : Type 0} (p : List ℕ → Got A) where
   joins done a (took l s) = ap (λ (k : List A). took k s) (sym (append-assoc done (a ∷ []) l))
   joins done a nothing = refl
 
-  pub lines-begin : (n : ℕ) (s : List ℕ) → afterwards [] n s ≡ linesAt n p s
+  pub lines-begin : (n : ℕ) (s : List ℕ) → linesAt n p s ≡ afterwards [] (n - 0) s
   unfolding afterwards follow
-  lines-begin n s = by (linesAt n p s)
+  lines-begin n s = let z : n - 0 ≡ n = omega arith in rw z (by (linesAt n p s))
     where
-      by : (g : Got (List A)) → follow g (λ l s. took l s) ≡ g
+      by : (g : Got (List A)) → g ≡ follow g (λ l s. took l s)
       by (took l s) = refl
       by nothing = refl
 
-  pub lines-more : (done : List A) (n : ℕ) (s : List ℕ) (a : A) (t : List ℕ)
-      → p s ≡ took a t
-      → afterwards done (suc n) s ≡ afterwards (done ++ a ∷ []) n t
-  unfolding afterwards linesAt
-  lines-more done n s a t e = ap (λ (g : Got (List A)). follow g (λ l s. took (done ++ l) s)) (follows _ e) ∙ joins done a (linesAt n p t)
+  module _ (n i : ℕ) (done : List A) (s : List ℕ) where
+    pub lines-more : {a : A} {t : List ℕ} {now : List A}
+        → i < n
+        → took a t ≡ p s
+        → now ≡ done ++ a ∷ []
+        → afterwards done (n - i) s ≡ afterwards now (n - (i + 1)) t
+    unfolding afterwards linesAt
+    lines-more {a = a} {t = t} h e g =
+        let q : n - i ≡ suc (n - (i + 1)) = omega arith in
+        ap (λ (k : ℕ). afterwards done k s) q
+        ∙ ap (λ (g : Got (List A)). follow g (λ l s. took (done ++ l) s)) (follows _ (sym e))
+        ∙ joins done a (linesAt (n - (i + 1)) p t)
+        ∙ ap (λ (l : List A). afterwards l (n - (i + 1)) t) (sym g)
 
-  pub lines-not : (done : List A) (n : ℕ) (s : List ℕ) → p s ≡ nothing → afterwards done (suc n) s ≡ nothing
-  unfolding afterwards linesAt
-  lines-not done n s e = follows-not _ (follows-not _ e)
+    pub lines-not : i < n → nothing ≡ p s → afterwards done (n - i) s ≡ nothing
+    unfolding afterwards linesAt
+    lines-not h e =
+        let q : n - i ≡ suc (n - (i + 1)) = omega arith in
+        ap (λ (k : ℕ). afterwards done k s) q ∙ follows-not _ (follows-not _ (sym e))
 
-  pub lines-end : (done : List A) (s : List ℕ) → afterwards done 0 s ≡ took done s
-  unfolding afterwards linesAt follow
-  lines-end done s = ap (λ (k : List A). took k s) (append-nil done)
+    pub lines-end : {all : List A} → n ≤ i → all ≡ done → afterwards done (n - i) s ≡ took all s
+    unfolding afterwards linesAt follow
+    lines-end h g =
+        let q : n - i ≡ 0 = omega arith in
+        ap (λ (k : ℕ). afterwards done k s) q ∙ ap (λ (k : List A). took k s) (append-nil done ∙ sym g)
