@@ -1,13 +1,17 @@
 -- How the reader's functions tell what they found: a value, and a place of the text, behind which the rest stands. Definitions only.
-use Prim.Native.Nat.{ℕ, zero, suc, _+_, _*_}
+use Prim.Native.Nat.{ℕ, zero, suc, _+_, _*_, _≤_}
+use mathlib.Core.Path.{_≡_}
 use mathlib.Core.List.{List, [], _∷_, _++_}
 use lib.ListN.{getD, take, drop}
 use Rattle.topology.specs.declared.Topology.{Topology}
+use Rattle.topology.specs.declared.Indices.{Indices}
+use Rattle.topology.specs.declared.Indices.the-variants.{Given, None}
 use Rattle.text.specs.declared.Three.{Three}
 use Rattle.text.specs.declared.Head.{Head}
 use Rattle.text.specs.declared.Tail.{Tail}
-use Rattle.text.specs.TextJob.{Listed, none, these}
-use Rattle.text.specs.Reader.{Got, took, nothing, three}
+use Rattle.text.specs.TextJob.{TextJob, Listed, none, these}
+use Rattle.text.specs.Reader.{Got, took, nothing, three, head, tail, assembled}
+use Rattle.job.specs.declared.Asked.{Asked}
 use Rattle.job.specs.declared.words.Next.{Next}
 use Rattle.job.specs.declared.words.Next.the-variants.{At, Not}
 use Rattle.job.specs.declared.words.Number.{Number}
@@ -59,7 +63,31 @@ gotVertices out text (Number.Is n k) = took (threesIn n out) (drop k text)
 gotVertices out text Number.Not = nothing
 
 -- indices that were stored in `out`
+abbrev pub listedAs : Indices → List ℕ → Listed
+listedAs Given l = these l
+listedAs None l = none
+
 abbrev pub gotRow : List ℕ → List ℕ → Row → Got Listed
-gotRow out text (Row.Given n k) = took (these (take n out)) (drop k text)
-gotRow out text (Row.None k) = took none (drop k text)
+gotRow out text (Row.Are given n k) = took (listedAs given (take n out)) (drop k text)
 gotRow out text Row.Not = nothing
+
+-- how many can have been stored
+abbrev pub stored : Indices → ℕ → Type 0
+stored Given n = n ≤ 768
+stored None n = n ≡ 0
+
+abbrev pub storedIn : Row → Type 0
+storedIn (Row.Are given n k) = stored given n
+storedIn Row.Not = Unit
+
+pub record RowIs (out text : List ℕ) (r : Row) (found : Got Listed) : Type 0 where
+  pub is : gotRow out text r ≡ found
+  pub few : storedIn r
+
+-- ---- the whole
+
+-- the job that a record and the lent slices hold
+abbrev pub jobIn : Asked → List ℕ → List ℕ → TextJob
+jobIn a vertices indices =
+    assembled (head (a .count) (a .first) (a .size) (a .topology)) (threesIn (a .vertices) vertices) (listedAs (a .given) (take (a .indices) indices))
+    (tail (a .room) (a .limit))

@@ -1,6 +1,92 @@
 // The reader of the job's text (document 01, "One job, one listing"): functions on lent bytes, which take
 // the text of every job within the program's limits, and nothing else. A part of the port: users run the
 // job program.
+//
+//   read_job     the whole text: the job that it is the text of, or that it is none
+//   words        words and numbers
+//   lines        lines by their keys
+//   parts        the head, the vertices, the indices, the tail
 mod lines;
 mod parts;
 mod words;
+
+use parts::Back;
+use parts::Front;
+use parts::Row;
+use text::Three;
+use topology::Indices;
+use topology::Topology;
+use words::Number;
+ghost use Prim.Native.Nat.{_≤_};
+ghost use lib.ListN.{length};
+ghost use Rattle.job.specs.Reading.{Reads};
+
+// A job as its text gives it. Floats are bit patterns. The vertices, three numbers each, and the indices
+// stand in the lent slices, so many of them; without indices there are 0.
+pub struct Asked {
+    pub count: Three,
+    pub first: Three,
+    pub size: Three,
+    pub topology: Topology,
+    pub vertices: usize,
+    pub given: Indices,
+    pub indices: usize,
+    pub room: u32,
+    pub limit: u32,
+}
+
+// What a text is read as. `Unreadable` is document 01's answer 9.
+pub enum Reading {
+    Job(Asked),
+    Unreadable,
+}
+
+// Reads a whole text. The lent slices have room for 256 vertices, three numbers each, and for 768 indices.
+pub fn read_job(text: &[u8], vertices: &mut [u32], indices: &mut [u32]) -> Reading
+    requires { ⌜ (768 ≤ length (now vertices)) × (768 ≤ length (now indices)) ⌝ }
+    ensures { λ r. ⌜ Reads (now (text .entry)) (now (vertices .exit)) (now (indices .exit)) r ⌝ }
+{
+    let Front::Is {
+        head,
+        next: behind_head,
+    } = parts::head(text, 0)
+    else {
+        return Reading::Unreadable;
+    };
+    let Number::Is {
+        value,
+        next: behind_vertices,
+    } = parts::vertices(text, behind_head, vertices)
+    else {
+        return Reading::Unreadable;
+    };
+    let Row::Are {
+        given,
+        count,
+        next: behind_indices,
+    } = parts::indices(text, behind_vertices, indices)
+    else {
+        return Reading::Unreadable;
+    };
+    let Back::Is { tail, next } = parts::tail(text, behind_indices) else {
+        return Reading::Unreadable;
+    };
+    if next < text.len() {
+        return Reading::Unreadable;
+    }
+    let cells = head.count;
+    let first = head.first;
+    let size = head.size;
+    let topology = head.topology;
+    Reading::Job(Asked {
+        count: cells,
+        first,
+        size,
+        topology,
+        vertices: value as usize,
+        given,
+        indices: count,
+        room: tail.room,
+        limit: tail.limit,
+    })
+}

@@ -7,11 +7,12 @@ use crate::words::Next;
 use crate::words::Number;
 use text::Head;
 use text::Tail;
+use topology::Indices;
 ghost use mathlib.Core.Path.{_≡_};
 ghost use Prim.Native.Nat.{_*_, _≤_};
 ghost use lib.ListN.{length, take, drop};
 ghost use Rattle.text.specs.Reader.{headAt, vertexAt, verticesAt, indexAt, indicesAt, tailAt, linesAt};
-ghost use Rattle.job.specs.Told.{gotNext, gotNumber, gotTriple, gotHead, gotTail, gotVertices, gotRow, threesIn};
+ghost use Rattle.job.specs.Told.{gotNext, gotNumber, gotTriple, gotHead, gotTail, gotVertices, RowIs, threesIn};
 
 // The lines before the vertices, and the place behind them.
 pub enum Front {
@@ -19,10 +20,13 @@ pub enum Front {
     Not,
 }
 
-// The indices: how many were stored, or none, and the place behind them.
+// Whether indices are given, how many were stored, and the place behind them.
 pub enum Row {
-    Given { count: usize, next: usize },
-    None { next: usize },
+    Are {
+        given: Indices,
+        count: usize,
+        next: usize,
+    },
     Not,
 }
 
@@ -141,10 +145,14 @@ fn index_lines(text: &[u8], at: usize, n: usize, out: &mut [u32]) -> Next
 // That there are no indices; or how many, at most 768, and their lines.
 pub fn indices(text: &[u8], at: usize, out: &mut [u32]) -> Row
     requires { ⌜ 768 ≤ length (now out) ⌝ }
-    ensures { λ r. ⌜ gotRow (now (out .exit)) (now (text .entry)) r ≡ indicesAt (drop at (now (text .entry))) ⌝ }
+    ensures { λ r. ⌜ RowIs (now (out .exit)) (now (text .entry)) r (indicesAt (drop at (now (text .entry)))) ⌝ }
 {
     if let Next::At(next) = words::after(text, at, b"indices=none\n") {
-        return Row::None { next };
+        return Row::Are {
+            given: Indices::None,
+            count: 0,
+            next,
+        };
     }
     let Number::Is {
         value,
@@ -157,7 +165,11 @@ pub fn indices(text: &[u8], at: usize, out: &mut [u32]) -> Row
     let Next::At(next) = index_lines(text, behind, count, out) else {
         return Row::Not;
     };
-    Row::Given { count, next }
+    Row::Are {
+        given: Indices::Given,
+        count,
+        next,
+    }
 }
 
 pub fn tail(text: &[u8], at: usize) -> Back

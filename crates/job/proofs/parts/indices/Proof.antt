@@ -1,7 +1,7 @@
 -- `job::parts::indices`: that there are none, or the count and as many lines, as in the reader on lists. Assumes nothing.
 use borrow.Author.Needs.{needs}
 use native.Mathlib.Omega.{arith}
-use mathlib.Core.Path.{_∙_}
+use mathlib.Core.Path.{refl, _∙_}
 use Rattle.text.specs.Reader.{indicesAt}
 use Rattle.text.proofs.Calls.{onward, stopped, bounded, the-first, the-second}
 use Rattle.job.proofs.parts.indices.Statement.{statement}
@@ -11,14 +11,14 @@ returns : tie.Need-returns
 unfolding indicesAt
 returns c =
     let n = c .before in
-    the-first _ (onward _ (rw (n .next .given .1) at (n .before .before .after .ensures)))
+    record { is = the-first _ (onward _ (rw (n .next .given .1) at (n .before .before .after .ensures))); few = refl }
 
 returns-2 : tie.Need-returns-2
 unfolding indicesAt
 returns-2 c =
     let d = c .before .before in
     let a = d .before .before in
-    the-second (stopped _ (rw (a .enum-told .given .1) at (a .before .before .after .ensures))) (stopped _ (rw (c .enum-told2 .given .1) at (d .number-line .ensures)))
+    record { is = the-second (stopped _ (rw (a .enum-told .given .1) at (a .before .before .after .ensures))) (stopped _ (rw (c .enum-told2 .given .1) at (d .number-line .ensures))); few = tt }
 
 index-lines-requires : tie.Need-index-lines-requires
 index-lines-requires c κs =
@@ -32,8 +32,7 @@ returns-3 c =
     let d = c .before .before .before .before in
     let v = d .before .before .before in
     let a = v .before .before .before .before in
-    the-second (stopped _ (rw (a .enum-told .given .1) at (a .before .before .after .ensures)))
-    (stopped _ (rw (c .enum-told3 .given .1) at (d .index-lines .ensures)) ∙ onward _ (rw (v .value .given .1) at (v .before .before .number-line .ensures)))
+    record { is = the-second (stopped _ (rw (a .enum-told .given .1) at (a .before .before .after .ensures))) (stopped _ (rw (c .enum-told3 .given .1) at (d .index-lines .ensures)) ∙ onward _ (rw (v .value .given .1) at (v .before .before .number-line .ensures))); few = tt }
 
 returns-4 : tie.Need-returns-4
 unfolding indicesAt
@@ -42,8 +41,7 @@ returns-4 c =
     let d = n .before .before .before .before in
     let v = d .before .before .before in
     let a = v .before .before .before .before in
-    the-second (stopped _ (rw (a .enum-told .given .1) at (a .before .before .after .ensures)))
-    (onward _ (rw (n .next2 .given .1) at (d .index-lines .ensures)) ∙ onward _ (rw (v .value .given .1) at (v .before .before .number-line .ensures)))
+    record { is = the-second (stopped _ (rw (a .enum-told .given .1) at (a .before .before .after .ensures))) (onward _ (rw (n .next2 .given .1) at (d .index-lines .ensures)) ∙ onward _ (rw (v .value .given .1) at (v .before .before .number-line .ensures))); few = bounded _ _ _ (rw (v .value .given .1) at (v .before .before .number-line .ensures)) }
 
 pub indices-spec : {M : Type 1} → statement M
 indices-spec =
