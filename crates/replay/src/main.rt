@@ -6,6 +6,7 @@ ghost use mathlib.Core.Path.{_≡_};
 ghost use mathlib.Core.Bool.{true};
 ghost use Prim.Native.Nat.{_+_, _<_, _≤_};
 ghost use lib.ListN.{length};
+ghost use Rattle.io.specs.Counts.{Counts};
 ghost use Rattle.listing.specs.Listing.{Prints};
 
 fn room() -> [u8; 32768]
@@ -26,14 +27,16 @@ fn read_line(line: &mut [u8]) -> usize
 {
     let mut i = 0;
     while i < line.len() {
-        let e = i + 1;
-        let got = io::read_full(0, &mut line[i..e]);
+        let mut one = [0u8; 1];
+        let got = io::read_full(0, &mut one);
         if got == 0 {
             return i;
         }
-        if line[i] == 10 {
+        let b = one[0];
+        if b == 10 {
             return i;
         }
+        line[i] = b;
         i += 1;
     }
     i
@@ -54,6 +57,13 @@ fn word_start(line: &[u8], end: usize) -> usize
     0
 }
 
+// Where the word ends that stands before the one that begins at `start`.
+fn before_space(start: usize) -> usize
+    ensures { λ r. ⌜ r ≤ start ⌝ }
+{
+    if 0 < start { start - 1 } else { 0 }
+}
+
 // The number whose digits stand from `from` to `to`; 65,536 for any that is larger.
 fn number(line: &[u8], from: usize, to: usize) -> usize
     requires { ⌜ to ≤ length (now line) ⌝ }
@@ -70,6 +80,14 @@ fn number(line: &[u8], from: usize, to: usize) -> usize
         i += 1;
     }
     value
+}
+
+// Reads n bytes of standard input to the front of `buf`, or as many as there are.
+fn read_part(buf: &mut [u8], n: usize) -> usize
+    requires { ⌜ n ≤ length (now buf) ⌝ }
+    ensures { λ r. ⌜ Counts r (now (buf .exit)) ⌝ }
+{
+    io::read_full(0, &mut buf[..n])
 }
 
 // Whether the program answers the text by the stored listing.
@@ -92,18 +110,15 @@ fn differs(line: &[u8], n: usize, job: u64) -> u64
     ensures { λ r. ⌜ r ≤ 1 ⌝ }
 {
     let last = word_start(line, n);
-    let mut end: usize = 0;
-    if 0 < last {
-        end = last - 1;
-    }
+    let end = before_space(last);
     let before = word_start(line, end);
     let listing_bytes = number(line, last, n);
     let text_bytes = number(line, before, end);
     let mut text = io::large_buffer();
     let mut owed = io::large_buffer();
     let mut out = room();
-    let t = io::read_full(0, &mut text[..text_bytes]);
-    let o = io::read_full(0, &mut owed[..listing_bytes]);
+    let t = read_part(&mut text, text_bytes);
+    let o = read_part(&mut owed, listing_bytes);
     if is_owed(&text[..t], &owed[..o], &mut out) {
         return 0;
     }
