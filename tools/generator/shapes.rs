@@ -37,6 +37,42 @@ pub fn cuboid_face(axis: usize) -> std::ops::Range<usize> {
     [8..10, 4..6, 0..2][axis].clone()
 }
 
+/// A closed hull: a profile of (radius, height) turned about an upright axis in so many segments. Its first and its
+/// last point lie on the axis, whatever their radius.
+pub fn turned(centre: [f64; 3], profile: &[(f64, f64)], segments: u32) -> Mesh {
+    let mut mesh = Mesh::default();
+    let ends = [profile[0].1, profile[profile.len() - 1].1];
+    let inner = &profile[1..profile.len() - 1];
+    let low = mesh.vertex([centre[0], centre[1], centre[2] + ends[0]]);
+    let high = mesh.vertex([centre[0], centre[1], centre[2] + ends[1]]);
+    for (radius, height) in inner {
+        for segment in 0..segments {
+            let (s, c) = turn(f64::from(segment) / f64::from(segments));
+            mesh.vertex([centre[0] + radius * c, centre[1] + radius * s, centre[2] + height]);
+        }
+    }
+    for segment in 0..segments {
+        let next = (segment + 1) % segments;
+        mesh.triangles.push([low, 2 + next, 2 + segment]);
+        for band in 0..inner.len() as u32 - 1 {
+            let row = 2 + band * segments;
+            mesh.quad(row + segment, row + next, row + segments + next, row + segments + segment);
+        }
+        let last = 2 + (inner.len() as u32 - 1) * segments;
+        mesh.triangles.push([last + segment, last + next, high]);
+    }
+    mesh
+}
+
+/// The profile of an upright tank: rings on the floor, bands up the wall, and as many rings on the roof.
+pub fn tank_profile(radius: f64, half_height: f64, rings: u32, bands: u32) -> Vec<(f64, f64)> {
+    let ring = |k: u32| radius * f64::from(k) / f64::from(rings);
+    let floor = (0..rings).map(|k| (ring(k), -half_height));
+    let wall = (0..=bands).map(|k| (radius, half_height * (2.0 * f64::from(k) / f64::from(bands) - 1.0)));
+    let roof = (0..rings).rev().map(|k| (ring(k), half_height));
+    floor.chain(wall).chain(roof).collect()
+}
+
 /// A closed sphere (an ellipsoid) of bands and segments.
 pub fn sphere(centre: [f64; 3], radius: [f64; 3], bands: u32, segments: u32) -> Mesh {
     let mut mesh = Mesh::default();

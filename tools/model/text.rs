@@ -34,7 +34,7 @@ pub fn listing(text: &[u8], large: bool, crossings: bool) -> String {
 }
 
 /// Its own limits: 256 vertices, 768 indices, 512 cells, 2,048 entries.
-fn within_limits(job: &Job) -> bool {
+pub fn within_limits(job: &Job) -> bool {
     job.vertices.len() <= 256
         && job.indices.as_ref().is_none_or(|indices| indices.len() <= 768)
         && bounds::cells(job.grid.count) <= 512

@@ -31,7 +31,7 @@ size_t oracle_panic_words(char *buffer, size_t room);
 
 /* The whole job with signs by Raycast. field: one float a cell. steps: propagation steps (document 01's pops).
  * times: milliseconds of seeding (with queueing and the making of the arrays), spreading, crossings (with
- * signs), as the source's log lines give them. */
+ * signs), as the source's log lines give them; of the processor's time, see stand-ins/web-time. */
 int32_t oracle_job(const oracle_grid *grid, const oracle_mesh *mesh, float *field, uint32_t *steps, double times[3]);
 /* What seeding leaves: a distance (FLT_MAX: none) and the triangle's three vertex numbers for each cell. */
 int32_t oracle_seeding(const oracle_grid *grid, const oracle_mesh *mesh, float *distances, uint32_t *triples);

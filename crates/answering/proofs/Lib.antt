@@ -1,4 +1,2 @@
 -- Laws of answering.
-pub mod Patterns
-pub mod Same
 pub mod Read

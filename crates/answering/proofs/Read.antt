@@ -4,7 +4,7 @@ use native.Mathlib.Omega.{arith}
 use mathlib.Core.Path.{_≡_, refl, sym, ap, _∙_, subst}
 use mathlib.Core.List.{List}
 use lib.ListN.{length, take}
-use Rattle.generate.specs.Job.{jobOf}
+use Rattle.checks.specs.Job.{jobOf}
 use Rattle.text.specs.declared.Three.{Three}
 use Rattle.text.specs.TextJob.{TextJob, Readable, jobText}
 use Rattle.text.proofs.Job.{one-job}
@@ -13,7 +13,8 @@ use Rattle.job.specs.Reading.{Holds}
 use Rattle.writing.specs.Put.{Put}
 use Rattle.writing.proofs.Puts.{said}
 use Rattle.listing.specs.Listing.{floatsOf, listing, Prints, listing-of, unreadable}
-use Rattle.answering.specs.Answering.{listedOf, gridBy, lentBy, Answered}
+use Rattle.listing_run.specs.Parts.{listedOf, gridBy, lentBy}
+use Rattle.answering.specs.Answering.{Answered}
 
 abbrev cellsOf : Three → ℕ
 cellsOf n = n .x * n .y * n .z

@@ -1,11 +1,8 @@
 // A job's text answered by its listing (document 01, "One job, one listing"): what the job program does with
 // its input, as one function on lent bytes. A part of the port: users run the job program.
-mod buffers;
-mod floats;
-
-use buffers::answer_job;
 use job::Reading;
 use job::read_job;
+use listing_run::answer_job;
 use writing::put_number;
 ghost use mathlib.Core.Path.{_≡_};
 ghost use Prim.Native.Nat.{_<_, _≤_};

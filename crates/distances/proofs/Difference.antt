@@ -17,6 +17,7 @@ use borrow.Author.Tests.{lt-ltb, le-ltb}
 use Rattle.float.specs.Arith.{_⊖_, _≦_}
 use Rattle.float.specs.Distance.{Distance, unsigned}
 use Rattle.float.proofs.Order.{unsigned-distance, distance-le}
+use Rattle.float.proofs.NoSign.{round-unsigned}
 use Rattle.distances.specs.Compare.{magnitude, apart}
 
 -- ---- a rounded fraction has the sign that it is given
@@ -36,22 +37,6 @@ units-magnitude s q k = go (ltb (q * 2 ^ k) (2 ^ (149 + 128)))
 
 pub round-magnitude : (s : Bool) (a c : ℕ) → magnitude (round binary32 s a c) ≡ round binary32 false a c
 round-magnitude s a c = ap magnitude (round-is binary32 s a c) ∙ units-magnitude s _ _ ∙ sym (round-is binary32 false a c)
-
-odd-unsigned : (d q k l : ℕ) → T (unsigned (odd d false q k l))
-unfolding odd
-odd-unsigned d zero k l = tt
-odd-unsigned d (suc q) k l = tt
-
-units-unsigned : (q k : ℕ) → T (unsigned (units binary32 false q k))
-unfolding units
-units-unsigned q k = go (ltb (q * 2 ^ k) (2 ^ (149 + 128)))
-  where
-    go : (b : Bool) → T (unsigned (cond b (odd 25 false q k 149) (inf false)))
-    go true = odd-unsigned 25 q k 149
-    go false = tt
-
-pub round-unsigned : (a c : ℕ) → T (unsigned (round binary32 false a c))
-round-unsigned a c = subst (λ (v : Float). T (unsigned v)) (sym (round-is binary32 false a c)) (units-unsigned _ _)
 
 pub round-distance : (a c : ℕ) → Distance (round binary32 false a c)
 round-distance a c = unsigned-distance (round binary32 false a c) (round-fits binary32 false a c) (round-unsigned a c)

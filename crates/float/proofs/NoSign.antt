@@ -31,7 +31,7 @@ units-unsigned : (q k : ℕ) → T (unsigned (units binary32 false q k))
 unfolding units
 units-unsigned q k = pick (ltb (q * 2 ^ k) (2 ^ 277)) (odd 25 false q k 149) (inf false) (odd-unsigned 25 q k 149) tt
 
-round-unsigned : (a c : ℕ) → T (unsigned (round binary32 false a c))
+pub round-unsigned : (a c : ℕ) → T (unsigned (round binary32 false a c))
 unfolding round
 round-unsigned a c =
     let n = a * 2 ^ 149 in

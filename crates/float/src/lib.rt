@@ -1,12 +1,6 @@
 // The port's own float steps: what Rust's f32 offers as methods and Rattle does not. A part of the
-// public face `sdf`, not called by users on its own.
-mod root;
-mod shortcut;
-mod table;
-
-pub use root::sqrt;
-pub use root::sqrt_bits;
-pub use shortcut::root_not_below;
+// public face `sdf`, not called by users on its own. The definitions and laws of the square root stand here; its
+// code is the crate `root`.
 ghost use mathlib.Core.Path.{_≡_};
 ghost use Rattle.float.specs.Arith.{f0, f1};
 ghost use Rattle.float.specs.Cell.{Snapped};

@@ -13,10 +13,10 @@ use Rattle.float.proofs.Bools.{and-first, and-second}
 use Rattle.point.specs.Point.{turned}
 use Rattle.point.specs.declared.Point.{Point}
 use Rattle.point.specs.declared.Axis.{Axis}
-use Rattle.geo.specs.Box.{margin, leastOf3, greatestOf3, boxOf}
-use Rattle.geo.specs.Ray.{weightsX, reachX, allBelow, allAbove, reply, rayX, rayAligned}
+use Rattle.bounding.specs.Box.{margin, leastOf3, greatestOf3, boxOf}
+use Rattle.ray.specs.Ray.{weightsX, reachX, allBelow, allAbove, reply, rayX, rayAligned}
 use Rattle.geo.specs.Asked.{bound, within, pointNan, boxNan, rayNan, answered, refused, value}
-use Rattle.geo.specs.declared.ray.RayHit.the-variants.{Miss, Hit}
+use Rattle.ray.specs.declared.RayHit.the-variants.{Miss, Hit}
 
 -- ---- the three answers, by the checks that led there
 

@@ -7,13 +7,13 @@ use Rattle.float.specs.Arith.{if_then_else_}
 use Rattle.float.specs.Steps.{finiteAtMost}
 use Rattle.point.specs.declared.Point.{Point}
 use Rattle.point.specs.declared.Axis.{Axis}
-use Rattle.geo.specs.Closest.{closestPointSegment, closestPointTriangle}
-use Rattle.geo.specs.Distance.{distance}
-use Rattle.geo.specs.Box.{boxOf}
-use Rattle.geo.specs.Ray.{rayAligned}
-use Rattle.geo.specs.declared.bounding.TriangleBox.{TriangleBox}
-use Rattle.geo.specs.declared.ray.RayHit.{RayHit}
-use Rattle.geo.specs.declared.ray.RayHit.the-variants.{Miss, Hit}
+use Rattle.closest.specs.Closest.{closestPointSegment, closestPointTriangle}
+use Rattle.squares.specs.Distance.{distance}
+use Rattle.bounding.specs.Box.{boxOf}
+use Rattle.ray.specs.Ray.{rayAligned}
+use Rattle.bounding.specs.declared.TriangleBox.{TriangleBox}
+use Rattle.ray.specs.declared.RayHit.{RayHit}
+use Rattle.ray.specs.declared.RayHit.the-variants.{Miss, Hit}
 use Rattle.geo.specs.declared.asked.BoxAnswer.{BoxAnswer}
 use Rattle.geo.specs.declared.asked.BoxAnswer.the-variants as Boxes
 use Rattle.geo.specs.declared.asked.PointAnswer.{PointAnswer}

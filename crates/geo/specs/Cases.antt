@@ -9,11 +9,11 @@ use Rattle.float.specs.RootOf.{rootOf}
 use Rattle.point.specs.Point.{vec, turned}
 use Rattle.point.specs.declared.Point.{Point}
 use Rattle.point.specs.declared.Axis.the-variants.{Z}
-use Rattle.geo.specs.Closest.{facetOf, closestOn, dotsOf, nearest}
-use Rattle.geo.specs.Distance.{squaredOn, distance}
-use Rattle.geo.specs.Ray.{weightsX, reachX, rayX, rayAligned}
-use Rattle.geo.specs.declared.ray.RayHit.{RayHit}
-use Rattle.geo.specs.declared.ray.RayHit.the-variants.{Miss, Hit}
+use Rattle.closest.specs.Closest.{facetOf, closestOn, dotsOf, nearest}
+use Rattle.squares.specs.Distance.{squaredOn, distance}
+use Rattle.ray.specs.Ray.{weightsX, reachX, rayX, rayAligned}
+use Rattle.ray.specs.declared.RayHit.{RayHit}
+use Rattle.ray.specs.declared.RayHit.the-variants.{Miss, Hit}
 
 -- the corners of T: (0,0,0), (4,0,0), (0,4,0)
 abbrev four : Float

@@ -2,10 +2,10 @@
 // is above 2,097,152 in magnitude is refused by 2, and then a NaN in the result by 6.
 ghost use mathlib.Core.Path.{_≡_};
 ghost use Rattle.geo.specs.Asked as Asked;
-use crate::bounding::TriangleBox;
-use crate::ray::RayHit;
+use bounding::TriangleBox;
 use point::Axis;
 use point::Point;
+use ray::RayHit;
 
 pub enum BoxAnswer {
     OutOfBounds,
@@ -61,7 +61,7 @@ pub fn triangle_bounding_box(a: Point, b: Point, c: Point) -> BoxAnswer
 {
     let inside = within(a) & within(b) & within(c);
     if inside {
-        return BoxAnswer::Is(crate::bounding::triangle_bounding_box(a, b, c));
+        return BoxAnswer::Is(bounding::triangle_bounding_box(a, b, c));
     }
     BoxAnswer::OutOfBounds
 }
@@ -70,14 +70,14 @@ pub fn closest_point_segment(p: Point, a: Point, b: Point) -> PointAnswer
     ensures { λ r. ⌜ Asked.pointAnswer r ≡ Asked.askedSegment p a b ⌝ }
 {
     let inside = within(p) & within(a) & within(b);
-    answer_point(inside, crate::closest::closest_point_segment(p, a, b))
+    answer_point(inside, closest::closest_point_segment(p, a, b))
 }
 
 pub fn closest_point_triangle(p: Point, a: Point, b: Point, c: Point) -> PointAnswer
     ensures { λ r. ⌜ Asked.pointAnswer r ≡ Asked.askedTriangle p a b c ⌝ }
 {
     let inside = within(p) & within(a) & within(b) & within(c);
-    answer_point(inside, crate::closest::closest_point_triangle(p, a, b, c))
+    answer_point(inside, closest::closest_point_triangle(p, a, b, c))
 }
 
 pub fn point_triangle_distance(p: Point, a: Point, b: Point, c: Point) -> DistanceAnswer
@@ -85,7 +85,7 @@ pub fn point_triangle_distance(p: Point, a: Point, b: Point, c: Point) -> Distan
 {
     let inside = within(p) & within(a) & within(b) & within(c);
     if inside {
-        let d = crate::distance::point_triangle_distance(p, a, b, c);
+        let d = squares::point_triangle_distance(p, a, b, c);
         if d != d {
             return DistanceAnswer::NotANumber;
         }
@@ -105,7 +105,7 @@ pub fn ray_triangle_intersection_aligned(
 {
     let inside = within(o) & within(v0) & within(v1) & within(v2);
     if inside {
-        return RayAnswer::Is(crate::ray::ray_triangle_intersection_aligned(o, v0, v1, v2, axis));
+        return RayAnswer::Is(ray::ray_triangle_intersection_aligned(o, v0, v1, v2, axis));
     }
     RayAnswer::OutOfBounds
 }

@@ -2,5 +2,4 @@ pub mod Axes
 pub mod Index
 pub mod Place
 pub mod Bounds
-pub mod Reply
 pub mod Cases

@@ -1,8 +1,6 @@
 // The grid of cells that a field is worked out on, after `grid.rs` (document 01, "Grid"). Its questions
-// are methods that take the grid by value. Those of `asked` refuse what is out of bounds; those of this
-// file are its parts, and some ask their caller for the bounds. A part of the port: users call `sdf`.
-pub mod asked;
-
+// are methods that take the grid by value. Those of the crate `grid_asked` refuse what is out of bounds; those of
+// this file are its parts, and some ask their caller for the bounds. A part of the port: users call `sdf`.
 use float::Place;
 use point::Axis;
 use point::Point;

@@ -1,2 +1,1 @@
-pub mod Threes
 pub mod Whole

@@ -14,9 +14,10 @@ use Rattle.text.proofs.Calls.{onward, stopped}
 use Rattle.text.proofs.Places.{here, past}
 use Rattle.job.specs.declared.Asked.{Asked}
 use Rattle.job.specs.declared.Reading.the-variants.{Job}
-use Rattle.job.specs.Told.{listedAs, stored, jobIn}
+use Rattle.reader_parts.specs.Told.{listedAs, stored}
+use Rattle.job.specs.Told.{jobIn}
 use Rattle.job.specs.Reading.{Reads}
-use Rattle.job.proofs.Threes.{threes-flat, threes-length}
+use Rattle.reader_parts.proofs.Threes.{threes-flat, threes-length}
 
 given-told : (g : Indices) (l : List ℕ) → g ≡ givenOf (listedAs g l)
 given-told Given l = refl

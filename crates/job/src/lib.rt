@@ -2,21 +2,17 @@
 // the text of every job within the program's limits, and nothing else. A part of the port: users run the
 // job program.
 //
-//   read_job     the whole text: the job that it is the text of, or that it is none
-//   words        words and numbers
-//   lines        lines by their keys
-//   parts        the head, the vertices, the indices, the tail
-mod lines;
-mod parts;
-mod words;
-
-use parts::Back;
-use parts::Front;
-use parts::Row;
+//   reader_words   words and numbers
+//   reader_lines   lines by their keys
+//   reader_parts   the head, the vertices, the indices, the tail
+//   job            the whole text: the job that it is the text of, or that it is none
+use reader_parts::Back;
+use reader_parts::Front;
+use reader_parts::Row;
+use reader_words::Number;
 use text::Three;
 use topology::Indices;
 use topology::Topology;
-use words::Number;
 ghost use Prim.Native.Nat.{_≤_};
 ghost use lib.ListN.{length};
 ghost use Rattle.job.specs.Reading.{Reads};
@@ -49,14 +45,14 @@ pub fn read_job(text: &[u8], vertices: &mut [u32], indices: &mut [u32]) -> Readi
     let Front::Is {
         head,
         next: behind_head,
-    } = parts::head(text, 0)
+    } = reader_parts::head(text, 0)
     else {
         return Reading::Unreadable;
     };
     let Number::Is {
         value,
         next: behind_vertices,
-    } = parts::vertices(text, behind_head, vertices)
+    } = reader_parts::vertices(text, behind_head, vertices)
     else {
         return Reading::Unreadable;
     };
@@ -64,11 +60,11 @@ pub fn read_job(text: &[u8], vertices: &mut [u32], indices: &mut [u32]) -> Readi
         given,
         count,
         next: behind_indices,
-    } = parts::indices(text, behind_vertices, indices)
+    } = reader_parts::indices(text, behind_vertices, indices)
     else {
         return Reading::Unreadable;
     };
-    let Back::Is { tail, next } = parts::tail(text, behind_indices) else {
+    let Back::Is { tail, next } = reader_parts::tail(text, behind_indices) else {
         return Reading::Unreadable;
     };
     if next < text.len() {

@@ -4,9 +4,9 @@ use native.Mathlib.Omega.{arith}
 use mathlib.Core.Path.{_≡_, refl, ap, sym, subst}
 use mathlib.Core.List.{List, [], _∷_, _++_}
 use lib.Ieee.{Float}
-use Rattle.generate.specs.declared.Answer.{Answer}
-use Rattle.generate.specs.declared.Answer.the-variants.{Refused, Done}
-use Rattle.generate.specs.Job.{peakOf}
+use Rattle.outcome.specs.declared.Answer.{Answer}
+use Rattle.outcome.specs.declared.Answer.the-variants.{Refused, Done}
+use Rattle.outcome.specs.Outcome.{peakOf}
 use Rattle.text.specs.Words.{bytes, decimal, lf, line}
 use Rattle.writing.specs.Put.{Put}
 use Rattle.listing.specs.Listing.{listed}

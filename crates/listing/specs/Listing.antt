@@ -10,10 +10,10 @@ use Rattle.point.specs.Point.{vec}
 use Rattle.point.specs.declared.Point.{Point}
 use Rattle.grid.specs.declared.Grid.{Grid}
 use Rattle.grid.specs.Index.{total}
-use Rattle.generate.specs.declared.Answer.{Answer}
-use Rattle.generate.specs.declared.Answer.the-variants.{Refused, Done}
-use Rattle.generate.specs.Job.{Job, Lent, jobOf}
-use Rattle.generate.specs.Outcome.{Outcome, outcome}
+use Rattle.outcome.specs.declared.Answer.{Answer}
+use Rattle.outcome.specs.declared.Answer.the-variants.{Refused, Done}
+use Rattle.checks.specs.Job.{Job, Lent, jobOf}
+use Rattle.outcome.specs.Outcome.{Outcome, outcome}
 use Rattle.text.specs.declared.Three.{Three}
 use Rattle.text.specs.Words.{space, decimal, hex8, spaced, line, linesBelow}
 use Rattle.text.specs.TextJob.{TextJob, Readable, jobText, indexList, givenOf, flat}

@@ -4,8 +4,9 @@ use mathlib.Core.Path.{_≡_}
 use mathlib.Core.List.{List, []}
 use lib.ListN.{length}
 use lib.Ieee.{Float}
-use Rattle.generate.specs.declared.Answer.{Answer}
-use Rattle.generate.specs.Job.{Lent, lentOf, peakOf}
+use Rattle.outcome.specs.declared.Answer.{Answer}
+use Rattle.checks.specs.Job.{Lent, lentOf}
+use Rattle.outcome.specs.Outcome.{peakOf}
 use Rattle.writing.specs.Put.{Put}
 use Rattle.listing.specs.declared.Written.{Written}
 use Rattle.listing.specs.declared.Written.the-variants.{Nothing, Bytes}

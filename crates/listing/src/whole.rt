@@ -2,12 +2,12 @@
 use crate::Written;
 use crate::cells::put_cells;
 use crate::cells::put_rows;
-use generate::Answer;
+use outcome::Answer;
 use writing::put_number;
 ghost use Prim.Native.Nat.{_≤_, _<_};
 ghost use lib.ListN.{length};
 ghost use mathlib.Core.Path.{_≡_};
-ghost use Rattle.generate.specs.declared.Answer.the-variants.{Done};
+ghost use Rattle.outcome.specs.declared.Answer.the-variants.{Done};
 ghost use Rattle.writing.specs.Put.{Put};
 ghost use Rattle.listing.specs.Listing.{listed};
 ghost use Rattle.listing.specs.Written.{shown, Few, Writes};

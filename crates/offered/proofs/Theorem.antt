@@ -2,7 +2,7 @@
 -- gone to its end; the buffers are then filled from its last state, and Cells.antt says what they hold. Assumes nothing.
 use Prim.Native.Nat.{ℕ, zero, suc, _≤_, _<_}
 use native.Mathlib.Omega.{arith}
-use mathlib.Core.Path.{_≡_, refl}
+use mathlib.Core.Path.{_≡_, refl, sym, _∙_}
 use mathlib.Core.Bool.{Bool, true, false, cond}
 use lib.ListN.{length}
 use borrow.Author.Tests.{ltb-false, not-false}
@@ -12,11 +12,12 @@ use Rattle.grid.specs.Axes.{countOn}
 use Rattle.grid.proofs.Facts.{bounds-of, on-axis}
 use Rattle.mesh.specs.Mesh.{trianglesIn}
 use Rattle.run.specs.Run.{State, none}
-use Rattle.generate.specs.declared.Answer.the-variants.{Refused, Done}
-use Rattle.generate.specs.Job.{Job, Lent}
-use Rattle.generate.specs.Refusals.{wrongGrid, wrongVertices, wrongTriangles, refusal, refusalBy}
-use Rattle.generate.specs.Outcome.{filled, ended, runOf, unlessRefused, outcome}
-use Rattle.offered.specs.Demand3.{Demand3}
+use Rattle.outcome.specs.declared.Answer.{Answer}
+use Rattle.outcome.specs.declared.Answer.the-variants.{Refused, Done}
+use Rattle.checks.specs.Job.{Job, Lent}
+use Rattle.checks.specs.Refusals.{wrongGrid, wrongVertices, wrongTriangles, refusal, refusalBy}
+use Rattle.outcome.specs.Outcome.{filled, ended, runOf, unlessRefused, outcome}
+use Rattle.offered.specs.Demand3.{Demand3, AfterCall}
 use Rattle.offered.proofs.Cells.{run-means}
 
 -- ---- a job answered Done
@@ -70,3 +71,8 @@ demand-3 j b pops peak h c v =
     let E = done-ended j b pops peak h in
     let p = checks-passed j b (E .passed) in
     rw (E .fills) (run-means (j .grid) (j .mesh) (length (b .distances)) (j .limit) (p .some) (p .few) (E .last) (E .ran) c v)
+
+-- ---- the corollary, of the lent buffers after a call
+
+pub after-a-call : (j : Job) (b : Lent) (answer : Answer) (left : Lent) → AfterCall j b answer left
+after-a-call j b answer left gives pops peak done c v = rw (gives .leaves) (demand-3 j b pops peak (sym (gives .answers) ∙ done) c v)

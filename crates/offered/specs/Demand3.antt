@@ -1,5 +1,6 @@
 -- Demand 3, of the outcome that the public job's contract names: for every job answered Done, with no other condition, and for each
--- cell of its grid. Definitions only; proofs/Theorem.antt shows that it holds.
+-- cell of its grid; and the same of the lent buffers after a call. Definitions only; proofs/Theorem.antt shows that both hold
+-- (`demand-3`, `after-a-call`).
 use Prim.Native.Nat.{ℕ}
 use mathlib.Core.Path.{_≡_}
 use lib.ListN.{length}
@@ -7,9 +8,10 @@ use Rattle.grid.specs.declared.Cell.{Cell}
 use Rattle.grid.specs.Index.{Inside}
 use Rattle.run.specs.Run.{Ground}
 use Rattle.run.specs.Ground.{groundOf}
-use Rattle.generate.specs.declared.Answer.the-variants.{Done}
-use Rattle.generate.specs.Job.{Job, Lent}
-use Rattle.generate.specs.Outcome.{outcome}
+use Rattle.outcome.specs.declared.Answer.{Answer}
+use Rattle.outcome.specs.declared.Answer.the-variants.{Done}
+use Rattle.checks.specs.Job.{Job, Lent}
+use Rattle.outcome.specs.Outcome.{Gives, outcome}
 use Rattle.offered.specs.Meaning.{CellMeans}
 
 -- what the run of a job is told: the queue's room is the length of the lent queue
@@ -20,3 +22,10 @@ abbrev pub Demand3 : Job → Lent → Type 0
 Demand3 j b =
     (pops peak : ℕ) → outcome j b .answer ≡ Done pops peak → (c : Cell) → Inside (j .grid) c
     → CellMeans (j .grid) (j .mesh) (groundFor j b) (outcome j b .left .field) (outcome j b .left .names) (outcome j b .left .crossings) c
+
+-- Of a call of the public function, by its contract: it was given the job j and lent the buffers b, and it answered and left what the
+-- contract says. If it answered Done, then what it left means this.
+abbrev pub AfterCall : Job → Lent → Answer → Lent → Type 0
+AfterCall j b answer left =
+    Gives (outcome j b) answer left → (pops peak : ℕ) → answer ≡ Done pops peak → (c : Cell) → Inside (j .grid) c
+    → CellMeans (j .grid) (j .mesh) (groundFor j b) (left .field) (left .names) (left .crossings) c

@@ -14,9 +14,9 @@ use Rattle.grid.specs.declared.Cell.{Cell}
 use Rattle.grid.specs.Axes.{countOn, firstOn, sizeOn, cellOn, cell, cellBy}
 use Rattle.grid.specs.Index.{indexOf, cellAt, total}
 use Rattle.grid.specs.Place.{centreOn, centreOf, snapCell}
-use Rattle.geo.specs.declared.bounding.TriangleBox.{TriangleBox}
-use Rattle.geo.specs.Box as Triangle
-use Rattle.geo.specs.Distance.{distance}
+use Rattle.bounding.specs.declared.TriangleBox.{TriangleBox}
+use Rattle.bounding.specs.Box as Triangle
+use Rattle.squares.specs.Distance.{distance}
 use Rattle.mesh.specs.declared.Corners.{Corners}
 use Rattle.mesh.specs.Mesh.{Mesh, vertexCount, trianglesIn, cornersAt}
 use Rattle.queue.specs.Order.{orderOf}

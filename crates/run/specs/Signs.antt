@@ -20,9 +20,9 @@ use Rattle.grid.specs.declared.Cell.{Cell}
 use Rattle.grid.specs.Axes.{countOn, sizeOn, cellOn, cell}
 use Rattle.grid.specs.Index.{cellAt, total}
 use Rattle.grid.specs.Place.{centreOf}
-use Rattle.geo.specs.declared.ray.RayHit.{RayHit}
-use Rattle.geo.specs.declared.ray.RayHit.the-variants.{Miss, Hit}
-use Rattle.geo.specs.Ray.{rayAligned}
+use Rattle.ray.specs.declared.RayHit.{RayHit}
+use Rattle.ray.specs.declared.RayHit.the-variants.{Miss, Hit}
+use Rattle.ray.specs.Ray.{rayAligned}
 use Rattle.mesh.specs.declared.Corners.{Corners}
 use Rattle.mesh.specs.Mesh.{Mesh, trianglesIn, cornersAt}
 

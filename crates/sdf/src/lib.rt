@@ -1,12 +1,10 @@
 // The public face of the port: this is what users call. No function of it has a `requires`: what is out
 // of bounds is refused, by a number of document 01. The crates below it are its parts.
 //
-//   generate_grid_sdf      the whole job, over lent buffers (its contract stands in crate `generate`)
-//   questions              the grid, the geometry, the comparison and the root asked by themselves
-//   c, c_grid, c_geometry  the same for C: functions `sdf_..` and the records that they hand over
-pub mod c;
-pub mod c_geometry;
-pub mod c_grid;
+//   generate_grid_sdf  the whole job, over lent buffers (its contract stands in crate `generate`)
+//   questions          the grid, the geometry, the comparison and the root asked by themselves
+//
+// The same for C stands in crate `sdf_c`.
 mod questions;
 
 // ---- what is asked about, and answered with
@@ -24,13 +22,13 @@ pub use grid::Cell;
 pub use grid::Counts;
 pub use grid::Grid;
 pub use grid::SnapResult;
-pub use grid::asked::BoxAnswer as GridBoxAnswer;
-pub use grid::asked::CellAnswer;
-pub use grid::asked::CountsAnswer;
-pub use grid::asked::GridAnswer;
-pub use grid::asked::NumberAnswer;
-pub use grid::asked::PointAnswer as GridPointAnswer;
-pub use grid::asked::SnapAnswer;
+pub use grid_asked::BoxAnswer as GridBoxAnswer;
+pub use grid_asked::CellAnswer;
+pub use grid_asked::CountsAnswer;
+pub use grid_asked::GridAnswer;
+pub use grid_asked::NumberAnswer;
+pub use grid_asked::PointAnswer as GridPointAnswer;
+pub use grid_asked::SnapAnswer;
 pub use point::Axis;
 pub use point::Point;
 

@@ -10,13 +10,13 @@ use geo::asked::RayAnswer;
 use grid::Cell;
 use grid::Counts;
 use grid::Grid;
-use grid::asked::BoxAnswer as GridBoxAnswer;
-use grid::asked::CellAnswer;
-use grid::asked::CountsAnswer;
-use grid::asked::GridAnswer;
-use grid::asked::NumberAnswer;
-use grid::asked::PointAnswer as GridPointAnswer;
-use grid::asked::SnapAnswer;
+use grid_asked::BoxAnswer as GridBoxAnswer;
+use grid_asked::CellAnswer;
+use grid_asked::CountsAnswer;
+use grid_asked::GridAnswer;
+use grid_asked::NumberAnswer;
+use grid_asked::PointAnswer as GridPointAnswer;
+use grid_asked::SnapAnswer;
 use point::Axis;
 use point::Point;
 ghost use mathlib.Core.Path.{_≡_};
@@ -25,7 +25,7 @@ ghost use Rattle.distances.specs.Asked.{Answered};
 ghost use Rattle.grid.specs.Axes.{countsOf};
 ghost use Rattle.grid.specs.Index.{indexOf, cellAt, total};
 ghost use Rattle.grid.specs.Place as Place;
-ghost use Rattle.grid.specs.Reply as Reply;
+ghost use Rattle.grid_asked.specs.Reply as Reply;
 ghost use Rattle.geo.specs.Asked as Asked;
 
 // ---- the root and the comparison
@@ -33,13 +33,13 @@ ghost use Rattle.geo.specs.Asked as Asked;
 pub fn sqrt(x: f32) -> f32
     ensures { λ r. ⌜ IsRoot x r ⌝ }
 {
-    float::sqrt(x)
+    root::sqrt(x)
 }
 
 pub fn sqrt_bits(b: u32) -> u32
     ensures { λ r. ⌜ r ≡ rootBits b ⌝ }
 {
-    float::sqrt_bits(b)
+    root::sqrt_bits(b)
 }
 
 pub fn compare(a: f32, b: f32) -> Comparison
@@ -53,67 +53,67 @@ pub fn compare(a: f32, b: f32) -> Comparison
 pub fn get_first_cell(grid: Grid) -> GridPointAnswer
     ensures { λ r. ⌜ Reply.point r ≡ Reply.ofGrid grid (grid .«first_cell») ⌝ }
 {
-    grid::asked::get_first_cell(grid)
+    grid_asked::get_first_cell(grid)
 }
 
 pub fn get_last_cell(grid: Grid) -> GridPointAnswer
     ensures { λ r. ⌜ Reply.point r ≡ Reply.ofGrid grid (Place.lastCell grid) ⌝ }
 {
-    grid::asked::get_last_cell(grid)
+    grid_asked::get_last_cell(grid)
 }
 
 pub fn get_cell_size(grid: Grid) -> GridPointAnswer
     ensures { λ r. ⌜ Reply.point r ≡ Reply.ofGrid grid (grid .«cell_size») ⌝ }
 {
-    grid::asked::get_cell_size(grid)
+    grid_asked::get_cell_size(grid)
 }
 
 pub fn get_cell_count(grid: Grid) -> CountsAnswer
     ensures { λ r. ⌜ Reply.counts r ≡ Reply.ofGrid grid (countsOf grid) ⌝ }
 {
-    grid::asked::get_cell_count(grid)
+    grid_asked::get_cell_count(grid)
 }
 
 pub fn get_total_cell_count(grid: Grid) -> NumberAnswer
     ensures { λ r. ⌜ Reply.number r ≡ Reply.ofGrid grid (total grid) ⌝ }
 {
-    grid::asked::get_total_cell_count(grid)
+    grid_asked::get_total_cell_count(grid)
 }
 
 pub fn get_bounding_box(grid: Grid) -> GridBoxAnswer
     ensures { λ r. ⌜ Reply.box r ≡ Reply.ofGrid grid (Place.boxOf grid) ⌝ }
 {
-    grid::asked::get_bounding_box(grid)
+    grid_asked::get_bounding_box(grid)
 }
 
 pub fn get_cell_idx(grid: Grid, cell: Cell) -> NumberAnswer
     ensures { λ r. ⌜ Reply.number r ≡ Reply.ofCell grid cell (indexOf grid cell) ⌝ }
 {
-    grid::asked::get_cell_idx(grid, cell)
+    grid_asked::get_cell_idx(grid, cell)
 }
 
 pub fn get_cell_integer_coordinates(grid: Grid, cell_idx: u32) -> CellAnswer
     ensures { λ r. ⌜ Reply.cell r ≡ Reply.ofIndex grid «cell_idx» (cellAt grid «cell_idx») ⌝ }
 {
-    grid::asked::get_cell_integer_coordinates(grid, cell_idx)
+    grid_asked::get_cell_integer_coordinates(grid, cell_idx)
 }
 
 pub fn get_cell_center(grid: Grid, cell: Cell) -> GridPointAnswer
     ensures { λ r. ⌜ Reply.point r ≡ Reply.ofCell grid cell (Place.centreOf grid cell) ⌝ }
 {
-    grid::asked::get_cell_center(grid, cell)
+    grid_asked::get_cell_center(grid, cell)
 }
 
 pub fn snap_point_to_grid(grid: Grid, point: Point) -> SnapAnswer
     ensures { λ r. ⌜ Reply.snapped r ≡ Reply.ofGrid grid (Place.snap grid point) ⌝ }
 {
-    grid::asked::snap_point_to_grid(grid, point)
+    grid_asked::snap_point_to_grid(grid, point)
 }
 
 pub fn from_bounding_box(bbox_min: Point, bbox_max: Point, cell_count: Counts) -> GridAnswer
     ensures { λ r. ⌜ Reply.grid r ≡ Reply.made (Place.fromBox «bbox_min» «bbox_max» «cell_count») ⌝ }
 {
-    grid::asked::from_bounding_box(bbox_min, bbox_max, cell_count)
+    grid_asked::from_bounding_box(bbox_min, bbox_max, cell_count)
 }
 
 // ---- the geometry

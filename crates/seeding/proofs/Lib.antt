@@ -1,4 +1,2 @@
--- Laws of the crate's proofs.
-pub mod Offers
-pub mod Boxes
+-- Laws that the crates above cite.
 pub mod Whole

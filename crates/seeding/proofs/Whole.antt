@@ -8,7 +8,7 @@ use Rattle.grid.specs.Index.{total}
 use Rattle.mesh.specs.Mesh.{Mesh, trianglesIn}
 use Rattle.run.specs.Run.{bare, offer, seedLine, seedPlane, seedTriangle, seeding}
 use Rattle.run.specs.Ground.{distanceFrom, groundOf}
-use Rattle.seeding.specs.Parts.{offerTo, alongLine, alongPlane, alongBox, overBox, overTriangle}
+use Rattle.placing.specs.Parts.{offerTo, alongLine, alongPlane, alongBox, overBox, overTriangle}
 
 module _ (g : Grid) (m : Mesh) (room limit : ℕ) where
   pub seeding-is : turns (overTriangle g m) (length (trianglesIn m)) (bare (total g)) ≡ seeding (groundOf g m room limit)

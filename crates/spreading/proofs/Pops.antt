@@ -17,9 +17,9 @@ use Rattle.queue.specs.Queue.{Taken, waiting}
 use Rattle.queue.proofs.Uses.{how-many, none-waits}
 use Rattle.run.specs.Run.{Ground, State, taken, spreadAround, takeFirst, mayStop, spreading}
 use Rattle.run.specs.Ground.{groundOf}
-use Rattle.spreading.specs.declared.Progress.{Progress}
-use Rattle.spreading.specs.Told.{refusedBy, orderIn, stateOf, Known, Holds, Told}
-use Rattle.spreading.proofs.Counts.{pop-counts}
+use Rattle.told.specs.declared.Progress.{Progress}
+use Rattle.told.specs.Told.{refusedBy, orderIn, stateOf, Known, Holds, Told}
+use Rattle.told.proofs.Counts.{pop-counts}
 
 -- ---- one pop
 

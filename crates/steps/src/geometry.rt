@@ -6,7 +6,7 @@ use crate::words::is_word;
 use crate::words::point;
 use crate::words::real;
 use crate::words::word;
-use sdf::c_geometry;
+use sdf_c::geometry as c_geometry;
 
 pub fn sqrt(text: &[u8], base: usize) -> bool {
     let x = real(text, base, 1);

@@ -7,7 +7,7 @@ use crate::words::is_point;
 use crate::words::is_word;
 use crate::words::point;
 use crate::words::word;
-use sdf::c_grid;
+use sdf_c::grids as c_grid;
 
 pub fn first(text: &[u8], base: usize) -> bool {
     let r = c_grid::sdf_grid_first(grid(text, base));

@@ -1,8 +1,8 @@
 // The text of the sample: words of eight hex digits, each with one space or line feed after it, so word n
 // begins at byte 9 n. What is past the end of the text reads as 0.
-use sdf::c::SdfCell;
-use sdf::c::SdfGrid;
-use sdf::c::SdfPoint;
+use c_records::SdfCell;
+use c_records::SdfGrid;
+use c_records::SdfPoint;
 ghost use mathlib.Core.Path.{_≡_};
 ghost use Prim.Native.Nat.{_+_, _<_};
 ghost use lib.ListN.{length};

@@ -7,7 +7,7 @@ use Rattle.lists.specs.Turns.{goes, turns, told}
 use Rattle.lists.proofs.Turns.{turns-none, turns-on, turns-stop, turns-end}
 use Rattle.mesh.specs.declared.Corners.{Corners}
 use Rattle.mesh.specs.Mesh.{meshOf, trianglesIn}
-use Rattle.seeding.specs.Parts.{seedState, overBox, overTriangle}
+use Rattle.placing.specs.Parts.{seedState, overBox, overTriangle}
 use Rattle.seeding.proofs.seed.Statement.{statement}
 use Rattle.seeding.proofs.seed.Tie as tie
 

@@ -7,7 +7,7 @@ use lib.ListN.{length}
 use Rattle.lists.specs.Turns.{Turn, goes, between}
 use Rattle.lists.proofs.Turns.{between-none, between-on, between-stop, between-end}
 use Rattle.grid.proofs.Facts.{bounds-of}
-use Rattle.seeding.specs.Parts.{seedState, alongPlane, alongBox}
+use Rattle.placing.specs.Parts.{seedState, alongPlane, alongBox}
 use Rattle.seeding.proofs.seed_box.Statement.{statement}
 use Rattle.seeding.proofs.seed_box.Tie as tie
 

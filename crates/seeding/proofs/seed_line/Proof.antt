@@ -10,9 +10,9 @@ use Rattle.grid.specs.declared.Grid.{Grid}
 use Rattle.grid.specs.Axes.{cell}
 use Rattle.grid.specs.Index.{indexOf}
 use Rattle.grid.proofs.Facts.{bounds-of}
-use Rattle.geo.specs.declared.closest.Facet.{Facet}
+use Rattle.closest.specs.declared.Facet.{Facet}
 use Rattle.run.specs.Run.{State}
-use Rattle.seeding.specs.Parts.{seedState, offerTo, alongLine}
+use Rattle.placing.specs.Parts.{seedState, offerTo, alongLine}
 use Rattle.seeding.proofs.seed_line.Statement.{statement}
 use Rattle.seeding.proofs.seed_line.Tie as tie
 

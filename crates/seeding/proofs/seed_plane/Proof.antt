@@ -7,7 +7,7 @@ use lib.ListN.{length}
 use Rattle.lists.specs.Turns.{Turn, goes, between}
 use Rattle.lists.proofs.Turns.{between-none, between-on, between-stop, between-end}
 use Rattle.grid.proofs.Facts.{bounds-of}
-use Rattle.seeding.specs.Parts.{seedState, alongLine, alongPlane}
+use Rattle.placing.specs.Parts.{seedState, alongLine, alongPlane}
 use Rattle.seeding.proofs.seed_plane.Statement.{statement}
 use Rattle.seeding.proofs.seed_plane.Tie as tie
 

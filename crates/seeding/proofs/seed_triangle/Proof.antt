@@ -5,7 +5,7 @@ use Rattle.grid.specs.Index.{Inside}
 use Rattle.grid.proofs.Facts.{bounds-of, on-axis}
 use Rattle.run.specs.Ground.{boxOf}
 use Rattle.run.proofs.Grounds.{last-inside}
-use Rattle.seeding.specs.Parts.{overBox}
+use Rattle.placing.specs.Parts.{overBox}
 use Rattle.seeding.proofs.seed_triangle.Statement.{statement}
 use Rattle.seeding.proofs.seed_triangle.Tie as tie
 

@@ -1,7 +1,7 @@
 -- `asked::point_triangle_distance`: each return by the checks that led there. Assumes nothing.
 use lib.Ieee.{isNan}
 use Rattle.float.proofs.Magnitude.{ne-itself}
-use Rattle.geo.specs.Distance.{distance}
+use Rattle.squares.specs.Distance.{distance}
 use Rattle.geo.proofs.Answers.{outside, no-number, given}
 use Rattle.geo.proofs.asked.point_triangle_distance.Statement.{statement}
 use Rattle.geo.proofs.asked.point_triangle_distance.Tie as tie

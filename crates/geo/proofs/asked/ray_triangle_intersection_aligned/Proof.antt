@@ -1,6 +1,6 @@
 -- `asked::ray_triangle_intersection_aligned`: each return by the check that led there, and a ray's reply holds no NaN. Assumes nothing.
 use Rattle.geo.specs.Asked.{rayNan}
-use Rattle.geo.specs.Ray.{rayAligned}
+use Rattle.ray.specs.Ray.{rayAligned}
 use Rattle.geo.proofs.Answers.{outside, given, ray-no-nan}
 use Rattle.geo.proofs.asked.ray_triangle_intersection_aligned.Statement.{statement}
 use Rattle.geo.proofs.asked.ray_triangle_intersection_aligned.Tie as tie

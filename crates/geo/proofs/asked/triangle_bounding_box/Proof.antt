@@ -1,6 +1,6 @@
 -- `asked::triangle_bounding_box`: each return by the check that led there, and a box holds no NaN. Assumes nothing.
 use Rattle.geo.specs.Asked.{boxNan}
-use Rattle.geo.specs.Box.{boxOf}
+use Rattle.bounding.specs.Box.{boxOf}
 use Rattle.geo.proofs.Answers.{outside, given, box-no-nan}
 use Rattle.geo.proofs.asked.triangle_bounding_box.Statement.{statement}
 use Rattle.geo.proofs.asked.triangle_bounding_box.Tie as tie

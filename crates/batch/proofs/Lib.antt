@@ -1,0 +1,4 @@
+-- The laws of batches.
+pub mod Batches
+mod Considers
+mod Gathering

@@ -1,0 +1,163 @@
+-- How a question reaches C and its answer comes back: as records with C's layout. An answer has document 01's number, 0 where
+-- a value is given, and the value, all zero where it is refused. Definitions only.
+use mathlib.Core.Bool.{Bool, _||_}
+use Prim.Native.Nat.{ℕ}
+use lib.Dec.{eqb}
+use lib.IntN.{ℤ, pos, negsuc}
+use lib.Ieee.{Float, isNan}
+use Rattle.float.specs.Arith.{f0, if_then_else_}
+use Rattle.point.specs.declared.Point.{Point}
+use Rattle.point.specs.declared.Axis.{Axis}
+use Rattle.point.specs.declared.Axis.the-variants.{X, Y, Z}
+use Rattle.point.specs.Point.{vec}
+use Rattle.distances.specs.Compare.{order}
+use Rattle.distances.specs.declared.Order.{Order}
+use Rattle.distances.specs.declared.Order.the-variants.{Less, Equal, Greater}
+use Rattle.distances.specs.declared.Comparison.{Comparison}
+use Rattle.distances.specs.declared.Comparison.the-variants.{Is, NotANumber}
+use Rattle.grid.specs.declared.Grid.{Grid}
+use Rattle.grid.specs.declared.Cell.{Cell}
+use Rattle.grid.specs.declared.Counts.{Counts}
+use Rattle.grid.specs.declared.BoundingBox.{BoundingBox}
+use Rattle.grid.specs.declared.SnapResult.{SnapResult}
+use Rattle.grid.specs.declared.SnapResult.the-variants.{Inside, Outside}
+use Rattle.grid_asked.specs.Reply.{Reply, refused, given}
+use Rattle.bounding.specs.declared.TriangleBox.{TriangleBox}
+use Rattle.ray.specs.declared.RayHit.{RayHit}
+use Rattle.ray.specs.declared.RayHit.the-variants.{Miss, Hit}
+use Rattle.geo.specs.Asked as Asked
+use Rattle.geo.specs.Asked.{Answer, value}
+use Rattle.c_records.specs.declared.SdfPoint.{SdfPoint}
+use Rattle.c_records.specs.declared.SdfCell.{SdfCell}
+use Rattle.c_records.specs.declared.SdfGrid.{SdfGrid}
+use Rattle.c_records.specs.declared.SdfNumberAnswer.{SdfNumberAnswer}
+use Rattle.c_records.specs.declared.SdfCellAnswer.{SdfCellAnswer}
+use Rattle.c_records.specs.declared.SdfPointAnswer.{SdfPointAnswer}
+use Rattle.c_records.specs.declared.SdfBoxAnswer.{SdfBoxAnswer}
+use Rattle.c_records.specs.declared.SdfSnapAnswer.{SdfSnapAnswer}
+use Rattle.c_records.specs.declared.SdfGridAnswer.{SdfGridAnswer}
+use Rattle.c_records.specs.declared.SdfDistanceAnswer.{SdfDistanceAnswer}
+use Rattle.c_records.specs.declared.SdfRayAnswer.{SdfRayAnswer}
+use Rattle.c_records.specs.declared.SdfOrderAnswer.{SdfOrderAnswer}
+
+-- ---- what C hands in, and the same handed out
+
+abbrev pub pointIn : SdfPoint → Point
+pointIn p = vec (p .x) (p .y) (p .z)
+
+abbrev pub pointOut : Point → SdfPoint
+pointOut p = record { x = p .x; y = p .y; z = p .z }
+
+abbrev pub cellIn : SdfCell → Cell
+cellIn c = record { x = c .x; y = c .y; z = c .z }
+
+abbrev pub cellOut : Cell → SdfCell
+cellOut c = record { x = c .x; y = c .y; z = c .z }
+
+abbrev pub countsIn : SdfCell → Counts
+countsIn c = record { x = c .x; y = c .y; z = c .z }
+
+abbrev pub countsOut : Counts → SdfCell
+countsOut n = record { x = n .x; y = n .y; z = n .z }
+
+abbrev pub gridIn : SdfGrid → Grid
+gridIn g = record {
+  «first_cell» = pointIn (g .first);
+  «cell_size» = pointIn (g .size);
+  «count_x» = g .count .x;
+  «count_y» = g .count .y;
+  «count_z» = g .count .z;
+}
+
+abbrev pub gridOut : Grid → SdfGrid
+gridOut g = record {
+  first = pointOut (g .«first_cell»);
+  size = pointOut (g .«cell_size»);
+  count = record { x = g .«count_x»; y = g .«count_y»; z = g .«count_z» };
+}
+
+-- 0 is x, 1 is y, and any other number z
+abbrev pub axisIn : ℕ → Axis
+axisIn n =
+    if eqb n 0 then X
+    else if eqb n 1 then Y
+    else Z
+
+-- ---- the zeros that a refusal has for a value
+
+abbrev pub noPoint : SdfPoint
+noPoint = record { x = f0; y = f0; z = f0 }
+
+abbrev pub noCell : SdfCell
+noCell = record { x = 0; y = 0; z = 0 }
+
+abbrev pub noGrid : SdfGrid
+noGrid = record { first = noPoint; size = noPoint; count = noCell }
+
+-- ---- the answers of the grid's questions
+
+unfoldable pub number : Reply ℕ → SdfNumberAnswer
+number (refused n) = record { number = n; value = 0 }
+number (given i) = record { number = 0; value = i }
+
+unfoldable pub cell : Reply Cell → SdfCellAnswer
+cell (refused n) = record { number = n; cell = noCell }
+cell (given c) = record { number = 0; cell = cellOut c }
+
+unfoldable pub counts : Reply Counts → SdfCellAnswer
+counts (refused n) = record { number = n; cell = noCell }
+counts (given c) = record { number = 0; cell = countsOut c }
+
+unfoldable pub point : Reply Point → SdfPointAnswer
+point (refused n) = record { number = n; point = noPoint }
+point (given p) = record { number = 0; point = pointOut p }
+
+unfoldable pub box : Reply BoundingBox → SdfBoxAnswer
+box (refused n) = record { number = n; min = noPoint; max = noPoint }
+box (given b) = record { number = 0; min = pointOut (b .min); max = pointOut (b .max) }
+
+-- inside is 1 for Inside and 0 for Outside
+unfoldable pub snap : Reply SnapResult → SdfSnapAnswer
+snap (refused n) = record { number = n; inside = 0; cell = noCell }
+snap (given (Inside c)) = record { number = 0; inside = 1; cell = cellOut c }
+snap (given (Outside c)) = record { number = 0; inside = 0; cell = cellOut c }
+
+unfoldable pub grid : Reply Grid → SdfGridAnswer
+grid (refused n) = record { number = n; grid = noGrid }
+grid (given g) = record { number = 0; grid = gridOut g }
+
+-- ---- the answers of the geometry
+
+unfoldable pub triangleBox : Answer TriangleBox → SdfBoxAnswer
+triangleBox (Asked.refused n) = record { number = n; min = noPoint; max = noPoint }
+triangleBox (value b) = record { number = 0; min = pointOut (b .low); max = pointOut (b .high) }
+
+unfoldable pub closest : Answer Point → SdfPointAnswer
+closest (Asked.refused n) = record { number = n; point = noPoint }
+closest (value p) = record { number = 0; point = pointOut p }
+
+unfoldable pub distance : Answer Float → SdfDistanceAnswer
+distance (Asked.refused n) = record { number = n; distance = f0 }
+distance (value d) = record { number = 0; distance = d }
+
+-- hit is 1 with its t, and 0 for a miss
+unfoldable pub ray : Answer RayHit → SdfRayAnswer
+ray (Asked.refused n) = record { number = n; hit = 0; t = f0 }
+ray (value Miss) = record { number = 0; hit = 0; t = f0 }
+ray (value (Hit t)) = record { number = 0; hit = 1; t = t }
+
+-- ---- the answer of the comparison
+
+-- -1, 0 and 1
+abbrev pub sign : Order → ℤ
+sign Less = negsuc 0
+sign Equal = pos 0
+sign Greater = pos 1
+
+unfoldable pub comparison : Comparison → SdfOrderAnswer
+comparison NotANumber = record { number = 6; order = pos 0 }
+comparison (Is o) = record { number = 0; order = sign o }
+
+-- to a question of a and b
+abbrev pub compared : Float → Float → SdfOrderAnswer
+compared a b = comparison (if isNan a || isNan b then NotANumber else Is (order a b))

@@ -1,0 +1,2 @@
+pub mod Job
+pub mod Refusals

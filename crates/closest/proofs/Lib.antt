@@ -1,0 +1,3 @@
+-- What crates above cite.
+pub mod Picks
+pub mod Laws

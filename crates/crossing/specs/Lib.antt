@@ -1,4 +1,0 @@
-pub mod Counts
-pub mod Lines
-pub mod Pass
-pub mod Sign

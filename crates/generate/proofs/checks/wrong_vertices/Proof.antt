@@ -1,6 +1,0 @@
--- `generate::checks::wrong_vertices`: the three tests are the definition's. Assumes nothing.
-use Rattle.generate.proofs.checks.wrong_vertices.Statement.{statement}
-use Rattle.generate.proofs.checks.wrong_vertices.Tie as tie
-
-pub wrong-vertices-spec : {M : Type 1} → statement M
-wrong-vertices-spec = tie.close (tie.spec (λ c κs. tt) (λ c. rw (c .all-coordinates .ensures)))

@@ -1,4 +1,0 @@
-pub mod Job
-pub mod Refusals
-pub mod Outcome
-pub mod Parts

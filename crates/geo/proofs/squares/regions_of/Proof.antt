@@ -1,9 +1,0 @@
--- `squares::regions_of`: the six tests of the definition, as they stand. Assumes nothing.
-use mathlib.Core.Path.{refl}
-use Rattle.geo.specs.Flat.{regionsOf}
-use Rattle.geo.proofs.squares.regions_of.Statement.{statement}
-use Rattle.geo.proofs.squares.regions_of.Tie as tie
-
-pub regions-of-spec : {M : Type 1} → statement M
-unfolding regionsOf
-regions-of-spec = tie.close (tie.spec (λ c. refl))

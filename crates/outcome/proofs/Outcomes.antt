@@ -1,0 +1,78 @@
+-- What the end of a run gives: a refusal, or a run that is done; and that it is told by the lengths of the lent buffers alone. Assumes
+-- nothing.
+use Prim.Native.Nat.{ℕ}
+use mathlib.Core.Path.{_≡_, refl, sym, ap, _∙_, subst}
+use mathlib.Core.List.{List}
+use lib.ListN.{replicate}
+use lib.Ieee.{Float}
+use Rattle.lists.specs.Turns.{Turn, goes, refuses, told}
+use Rattle.lists.proofs.Turns.{told-goes, told-refuses}
+use Rattle.grid.specs.declared.Grid.{Grid}
+use Rattle.mesh.specs.Mesh.{Mesh}
+use Rattle.queue.specs.Queue.{Held}
+use Rattle.queue.proofs.Uses.{left-zero}
+use Rattle.run.specs.Run.{State, run}
+use Rattle.run.specs.Ground.{groundOf}
+use Rattle.told.specs.declared.Progress.{Progress}
+use Rattle.told.specs.Told.{orderIn, stateOf, Ran}
+use Rattle.checks.specs.declared.Lengths.{Lengths}
+use Rattle.checks.specs.Job.{Job, Lent, lentOf}
+use Rattle.checks.specs.Refusals.{lengthsOf}
+use Rattle.clearing.specs.Cleared.{cleared}
+use Rattle.clearing.proofs.Lengths.{same-cleared, cleared-long}
+use Rattle.outcome.specs.declared.Answer.{Answer}
+use Rattle.outcome.specs.declared.Answer.the-variants.{Refused, Done}
+use Rattle.outcome.specs.Outcome.{Outcome, Gives, filled, ended, runOf}
+use Rattle.outcome.specs.Finished.{Finished}
+
+-- ---- what follows the run
+
+pub gives-refused : (j : Job) (b : Lent) {n : ℕ} (s : State) {left : Lent} → (n ≡ 0 → ⊥) → left ≡ cleared b → Gives (ended j b (told n s)) (Refused n) left
+unfolding ended
+gives-refused j b {n} s z e = rw (told-refuses n s z) (record { answers = refl; leaves = e })
+
+pub gives-done : {g : Grid} {m : Mesh} (limit : ℕ) (field : List Float) (names crossings rows ds cs ts : List ℕ) (p : Progress) {field′ : List Float} {crossings′ rows′ : List ℕ}
+    → p .number ≡ 0 → Ran g m field names ds cs ts p → Finished g m field field′ crossings′ rows′
+    → Gives (ended (record { grid = g; mesh = m; limit = limit }) (lentOf field names crossings rows ds cs ts) (told (p .number) (stateOf (orderIn m) field names ds cs ts p)))
+    (Done (p .pops) (p .peak))
+    (lentOf field′ names crossings′ rows′ ds cs ts)
+unfolding ended
+gives-done {g} {m} limit field names crossings rows ds cs ts p z ran f =
+    let h = subst (Held (orderIn m) ds cs ts) (ran .over z) (ran .holds .held) in
+    let q = left-zero ds cs ts h in
+    rw (told-goes (p .number) (stateOf (orderIn m) field names ds cs ts p) z)
+    (record {
+      answers = refl;
+      leaves = λ i. lentOf (f .field i) names (f .crossings i) (f .rows i) (q .0 i) (q .1 i) (q .2 i);
+    })
+
+-- ---- the same of buffers of the same lengths
+
+pub same-ended : (j : Job) (b c : Lent) (o : Turn State) → lengthsOf b ≡ lengthsOf c → ended j b o ≡ ended j c o
+unfolding ended
+same-ended j b c (goes s) e =
+    let f = filled j s b in
+    λ i. record {
+      answer = Done (s .pops) (s .peak);
+      left =
+          lentOf (f .field) (f .names) (f .crossings) (f .rows) (replicate (e i .distances) 0) (replicate (e i .cells) 0) (replicate (e i .triangles) 0);
+    }
+same-ended j b c (refuses n) e = λ i. record { answer = Refused n; left = same-cleared b c e i }
+
+pub same-run : (j : Job) (b c : Lent) → lengthsOf b ≡ lengthsOf c → runOf j b ≡ runOf j c
+same-run j b c e = ap (λ (l : Lengths). run (groundOf (j .grid) (j .mesh) (l .distances) (j .limit))) e
+
+pub gives-run : (j : Job) (b c : Lent) {r : Answer} {left : Lent} {o : Turn State} → lengthsOf b ≡ lengthsOf c → runOf j c ≡ o → Gives (ended j b o) r left
+    → Gives (ended j c (runOf j c)) r left
+gives-run j b c {r} {left} {o} e q h =
+    subst (λ (x : Outcome). Gives x r left) (same-ended j b c o e ∙ ap (ended j c) (sym q)) h
+
+pub gives-cleared : (j : Job) (b c : Lent) {r : Answer} {left : Lent} → c ≡ cleared b → Gives (ended j c (runOf j c)) r left → Gives (ended j b (runOf j b)) r left
+gives-cleared j b c e h =
+    let l = ap lengthsOf e ∙ cleared-long b in
+    gives-run j c b l (sym (same-run j c b l)) h
+
+-- ---- "One call has one possible outcome"
+
+pub one-outcome : {o : Outcome} {r r′ : Answer} {left left′ : Lent} → Gives o r left → Gives o r′ left′ → (r ≡ r′) × (left ≡ left′)
+one-outcome p q = (p .answers ∙ sym (q .answers), p .leaves ∙ sym (q .leaves))

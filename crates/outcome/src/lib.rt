@@ -1,0 +1,85 @@
+// What a job comes to (document 01, "Reply numbers" and "The run", 4): the answer, and what follows the run. A part
+// of the port: users call `sdf`.
+use grid::Grid;
+use told::Progress;
+use topology::Indices;
+use topology::Topology;
+ghost use mathlib.Core.Path.{_≡_};
+ghost use lib.ListN.{length};
+ghost use Rattle.lists.specs.Turns.{told};
+ghost use Rattle.grid.specs.Index.{total};
+ghost use Rattle.mesh.specs.Mesh.{meshOf};
+ghost use Rattle.told.specs.Told.{orderIn, stateOf, Fit, Ran};
+ghost use Rattle.checks.specs.Job.{jobOf, lentOf};
+ghost use Rattle.outcome.specs.Outcome.{Gives, ended};
+ghost use Rattle.outcome.specs.Finished.{Long, Finished};
+
+// What a job is answered: refused by its number, or done, with the entries taken and the most that waited
+// at once.
+pub enum Answer {
+    Refused(u32),
+    Done { pops: u32, peak: usize },
+}
+
+// What follows a run that is not refused: the crossings, the signs and the rows.
+fn finish(
+    grid: Grid,
+    vertices: &[f32],
+    topology: Topology,
+    given: Indices,
+    indices: &[u32],
+    field: &mut [f32],
+    crossings: &mut [u32],
+    rows: &mut [u32],
+)
+    requires { ⌜ Fit grid (meshOf (now vertices) topology given (now indices)) ⌝ }
+    requires { ⌜ length (now field) ≡ total grid ⌝ }
+    requires { ⌜ Long grid (now crossings) (now rows) ⌝ }
+    ensures { λ _. ⌜ Finished grid (meshOf (now (vertices .entry)) topology given (now (indices .entry))) (now (field .entry)) (now (field .exit)) (now (crossings .exit)) (now (rows .exit)) ⌝ }
+{
+    crossing::cross(grid, vertices, topology, given, indices, crossings);
+    signs::sign(crossings, field);
+    rows::count_rows(grid, field, rows);
+}
+
+// After the run, which came to `ran`: a refusal clears what it left, else the field is signed and counted.
+pub fn conclude(
+    grid: Grid,
+    vertices: &[f32],
+    topology: Topology,
+    given: Indices,
+    indices: &[u32],
+    field: &mut [f32],
+    names: &mut [u32],
+    crossings: &mut [u32],
+    rows: &mut [u32],
+    distances: &mut [u32],
+    cells: &mut [u32],
+    triangles: &mut [u32],
+    limit: u32,
+    ran: Progress,
+) -> Answer
+    requires { ⌜ Fit grid (meshOf (now vertices) topology given (now indices)) ⌝ }
+    requires { ⌜ Ran grid (meshOf (now vertices) topology given (now indices)) (now field) (now names) (now distances) (now cells) (now triangles) ran ⌝ }
+    requires { ⌜ Long grid (now crossings) (now rows) ⌝ }
+    ensures { λ r. ⌜ Gives (ended (jobOf grid (now (vertices .entry)) topology given (now (indices .entry)) limit) (lentOf (now (field .entry)) (now (names .entry)) (now (crossings .entry)) (now (rows .entry)) (now (distances .entry)) (now (cells .entry)) (now (triangles .entry))) (told (ran .number) (stateOf (orderIn (meshOf (now (vertices .entry)) topology given (now (indices .entry)))) (now (field .entry)) (now (names .entry)) (now (distances .entry)) (now (cells .entry)) (now (triangles .entry)) ran))) r (lentOf (now (field .exit)) (now (names .exit)) (now (crossings .exit)) (now (rows .exit)) (now (distances .exit)) (now (cells .exit)) (now (triangles .exit))) ⌝ }
+{
+    if ran.number != 0 {
+        clearing::clear_all(field, names, crossings, rows, distances, cells, triangles);
+        return Answer::Refused(ran.number);
+    }
+    finish(
+        grid,
+        vertices,
+        topology,
+        given,
+        indices,
+        field,
+        crossings,
+        rows,
+    );
+    Answer::Done {
+        pops: ran.pops,
+        peak: ran.peak,
+    }
+}

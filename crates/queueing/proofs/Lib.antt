@@ -1,0 +1,2 @@
+-- The laws that the proofs of the functions cite, and those of the crates above.
+pub mod Queues

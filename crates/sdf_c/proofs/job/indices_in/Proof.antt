@@ -1,0 +1,11 @@
+-- `job::indices_in`: by the test that led there. Assumes nothing.
+use borrow.Author.Tests.{eq-eqb, ne-eqb}
+use Rattle.sdf_c.proofs.job.indices_in.Statement.{statement}
+use Rattle.sdf_c.proofs.job.indices_in.Tie as tie
+
+pub indices-in-spec : {M : Type 1} → statement M
+indices-in-spec =
+    tie.close
+    (tie.spec
+    (λ c. rw (eq-eqb _ 0 (c .if1 .taken)))
+    (λ c. rw (ne-eqb _ 0 (c .if1 .left))))

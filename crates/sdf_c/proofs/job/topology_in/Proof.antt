@@ -1,0 +1,11 @@
+-- `job::topology_in`: by the test that led there. Assumes nothing.
+use borrow.Author.Tests.{eq-eqb, ne-eqb}
+use Rattle.sdf_c.proofs.job.topology_in.Statement.{statement}
+use Rattle.sdf_c.proofs.job.topology_in.Tie as tie
+
+pub topology-in-spec : {M : Type 1} → statement M
+topology-in-spec =
+    tie.close
+    (tie.spec
+    (λ c. rw (eq-eqb _ 0 (c .if1 .taken)))
+    (λ c. rw (ne-eqb _ 0 (c .if1 .left))))

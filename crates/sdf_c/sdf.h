@@ -1,0 +1,187 @@
+/* The signed distance field of a triangle mesh on a grid, for C: the whole job, and the questions of it asked by
+ * themselves. What they owe is document 01, the specification; every function is proved to meet it.
+ *
+ * Build: `rt staticlib sdf_c` leaves target/staticlib/libsdf_c.a, for x86-64 Linux. It needs no other library.
+ * No function keeps anything between calls, allocates, prints, or needs another call before it. Two calls may run
+ * at the same time on two threads if no buffer that one of them writes is lent to the other.
+ *
+ * The questions take everything by value, and any values: NaNs too. The whole job borrows arrays; what C owes it
+ * stands with it below. Each answer begins with document 01's number: 0, and the value follows; or a refusal, and
+ * all that follows is zero. Floats are IEEE 754 binary32.
+ *
+ * Numbers of the whole job, in the order in which they are checked; the first that applies is given:
+ *
+ *   1  the grid is out of bounds: a count outside 1 .. 1,024, more than 1,048,576 cells, a first coordinate
+ *      not finite or above 1,048,576 in magnitude, a size outside 1/1,024 .. 1,024
+ *   2  the coordinates are not a multiple of three, more than 393,216 vertices, or a coordinate (of an unused
+ *      vertex too) not finite or above 1,048,576 in magnitude
+ *   3  more than 131,072 triangles
+ *   4  an index that a triangle uses is not below the count of vertices
+ *   5  a buffer's length is not the one that the grid asks for, or the queue's three lengths differ
+ *   6  a distance met in seeding or spreading is a NaN
+ *   7  an entry had to be queued and the queue was full
+ *   8  entries waited and the pops taken were the limit
+ *   0  done
+ *
+ * Numbers of a question asked by itself: 1 for the grid, as above; 2 for a coordinate not finite or above
+ * 2,097,152 in magnitude; 4 for a cell or an index outside the counts; 6 for a NaN compared or in the result. */
+#ifndef SDF_H
+#define SDF_H
+
+#include <stddef.h>
+#include <stdint.h>
+
+#ifdef __cplusplus
+extern "C" {
+#endif
+
+typedef struct {
+    float x, y, z;
+} sdf_point;
+
+/* A cell by its number along each axis, or how many cells there are along each. */
+typedef struct {
+    uint32_t x, y, z;
+} sdf_cell;
+
+/* The centre of the first cell, the size of every cell, and the counts. */
+typedef struct {
+    sdf_point first, size;
+    sdf_cell count;
+} sdf_grid;
+
+typedef struct {
+    uint32_t number, value;
+} sdf_number_answer;
+
+typedef struct {
+    uint32_t number;
+    sdf_cell cell;
+} sdf_cell_answer;
+
+typedef struct {
+    uint32_t number;
+    sdf_point point;
+} sdf_point_answer;
+
+typedef struct {
+    uint32_t number;
+    sdf_point min, max;
+} sdf_box_answer;
+
+/* inside: 1, or 0 for a point outside the grid, whose nearest cell is given. */
+typedef struct {
+    uint32_t number, inside;
+    sdf_cell cell;
+} sdf_snap_answer;
+
+typedef struct {
+    uint32_t number;
+    sdf_grid grid;
+} sdf_grid_answer;
+
+typedef struct {
+    uint32_t number;
+    float distance;
+} sdf_distance_answer;
+
+/* hit: 1 with its t, or 0 and t is 0. */
+typedef struct {
+    uint32_t number, hit;
+    float t;
+} sdf_ray_answer;
+
+/* order: -1 less, 0 equal, 1 greater. */
+typedef struct {
+    uint32_t number;
+    int32_t order;
+} sdf_order_answer;
+
+/* pops: the entries taken. peak: the most entries that waited at once. Both are 0 on a refusal. */
+typedef struct {
+    uint32_t number, pops;
+    size_t peak;
+} sdf_job_answer;
+
+/* How the corners make triangles, and whether indices are given. For C these are plain numbers: 0 is a list, and
+ * any other number a strip; 0 is no indices, and any other number that they are given. */
+enum { SDF_LIST = 0, SDF_STRIP = 1 };
+enum { SDF_NO_INDICES = 0, SDF_INDICES = 1 };
+/* The name of a cell that took no triangle. */
+#define SDF_NONE UINT32_C(4294967295)
+
+/* The whole job: field, names, crossings and rows of a mesh on a grid, signs by rays.
+ *
+ * Lent to be read, for the call alone:
+ *   vertices     coordinate_count floats, x, y, z of each vertex in turn
+ *   indices      index_count vertex numbers; looked at only if `given` is not 0. Without them the vertices are
+ *                taken in their order
+ * topology       SDF_LIST: consecutive threes, one or two left over are ignored. SDF_STRIP: every window of three
+ * Lent to be written, with n cells in the grid (sdf_grid_total, the product of the counts):
+ *   field        n floats: the signed distance of each cell, by the cell's index, z fastest (sdf_grid_index)
+ *   names        n numbers: the triangle, counted from 0, that the distance is to; SDF_NONE with none
+ *   crossings    3 n numbers: the rays' hits along x, y, z of each cell in turn
+ *   rows         as many as the z count: how many cells of each layer have a distance less than zero
+ *   distances, cells, triangles
+ *                the queue: three arrays of one length, its room. Any length, 0 too
+ * limit          how many entries may be taken
+ *
+ * What is left in the buffers that are written, whatever they held before:
+ *   0            field, names, crossings and rows as above; the queue all zero
+ *   1 to 5       nothing was changed
+ *   6 to 8       the field all FLT_MAX, the names all SDF_NONE, crossings, rows and queue all zero
+ * With no triangle the answer is 0, the field all FLT_MAX and the names all SDF_NONE.
+ *
+ * What C owes, and no function can check: a pointer is not null, not even with a length of 0; it is aligned for
+ * its type and points to at least as many elements as the length beside it; no byte of a buffer that is written
+ * is in another of the nine; and no other thread writes any of the nine during the call. Every value in them is
+ * allowed. */
+sdf_job_answer sdf_generate_grid_sdf(sdf_grid grid, const float *vertices, size_t coordinate_count, uint32_t topology,
+                                     uint32_t given, const uint32_t *indices, size_t index_count, float *field,
+                                     size_t field_length, uint32_t *names, size_t names_length, uint32_t *crossings,
+                                     size_t crossings_length, uint32_t *rows, size_t rows_length, uint32_t *distances,
+                                     size_t distances_length, uint32_t *cells, size_t cells_length,
+                                     uint32_t *triangles, size_t triangles_length, uint32_t limit);
+
+/* The square root, rounded to nearest. No refusal: what is below zero, and a NaN, gives a NaN. */
+float sdf_sqrt(float x);
+/* The same on bit patterns; a NaN comes out as 7fc00000. */
+uint32_t sdf_sqrt_bits(uint32_t bits);
+
+/* The order of two distances. Refuses by 6. */
+sdf_order_answer sdf_compare_distances(float a, float b);
+
+/* Geometry. All refuse by 2; those with a point or a distance for an answer then by 6. */
+sdf_box_answer sdf_triangle_bounding_box(sdf_point a, sdf_point b, sdf_point c);
+sdf_point_answer sdf_closest_point_segment(sdf_point p, sdf_point a, sdf_point b);
+sdf_point_answer sdf_closest_point_triangle(sdf_point p, sdf_point a, sdf_point b, sdf_point c);
+sdf_distance_answer sdf_point_triangle_distance(sdf_point p, sdf_point a, sdf_point b, sdf_point c);
+/* A ray from o along an axis: 0 is x, 1 is y, any other number z. */
+sdf_ray_answer sdf_ray_triangle_intersection_aligned(sdf_point o, sdf_point v0, sdf_point v1, sdf_point v2,
+                                                     uint32_t axis);
+
+/* The grid's questions. All refuse by 1. */
+sdf_point_answer sdf_grid_first(sdf_grid grid);
+/* One cell past the last, as the source computes it. */
+sdf_point_answer sdf_grid_last(sdf_grid grid);
+sdf_point_answer sdf_grid_size(sdf_grid grid);
+sdf_cell_answer sdf_grid_counts(sdf_grid grid);
+/* How many cells there are. */
+sdf_number_answer sdf_grid_total(sdf_grid grid);
+/* The box that the cells fill. */
+sdf_box_answer sdf_grid_box(sdf_grid grid);
+/* The index of a cell, z fastest, and the cell of an index. Both refuse by 4 after 1. */
+sdf_number_answer sdf_grid_index(sdf_grid grid, sdf_cell cell);
+sdf_cell_answer sdf_grid_coordinates(sdf_grid grid, uint32_t index);
+/* The centre of a cell. Refuses by 4 after 1. */
+sdf_point_answer sdf_grid_centre(sdf_grid grid, sdf_cell cell);
+/* The cell that a point lies in. Any point may be asked for. */
+sdf_snap_answer sdf_grid_snap(sdf_grid grid, sdf_point point);
+/* The grid of so many cells that fills a box. Refuses by 1 what it would make. */
+sdf_grid_answer sdf_grid_from_bounding_box(sdf_point min, sdf_point max, sdf_cell count);
+
+#ifdef __cplusplus
+}
+#endif
+
+#endif

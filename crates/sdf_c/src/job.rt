@@ -1,0 +1,91 @@
+// The whole job for C: `sdf::generate_grid_sdf`, with its answer as a record. A slice is two parameters in C, a
+// pointer and a count.
+use c_records::SdfGrid;
+use sdf::Answer;
+use sdf::Indices;
+use sdf::Topology;
+ghost use mathlib.Core.Path.{_≡_};
+ghost use Rattle.c_records.specs.C.{gridIn};
+ghost use Rattle.checks.specs.Job.{jobOf, lentOf};
+ghost use Rattle.outcome.specs.Outcome.{outcome};
+ghost use Rattle.sdf_c.specs.Job.{topologyIn, indicesIn, answerOut, GivesC};
+
+// Document 01's number, 0 where the job is done, with the entries taken and the most that waited at once;
+// on a refusal both are 0.
+#[repr(C)]
+pub struct SdfJobAnswer {
+    pub number: u32,
+    pub pops: u32,
+    pub peak: usize,
+}
+
+fn topology_in(topology: u32) -> Topology
+    ensures { λ r. ⌜ r ≡ topologyIn topology ⌝ }
+{
+    if topology == 0 {
+        return Topology::TriangleList;
+    }
+    Topology::TriangleStrip
+}
+
+fn indices_in(given: u32) -> Indices
+    ensures { λ r. ⌜ r ≡ indicesIn given ⌝ }
+{
+    if given == 0 {
+        return Indices::None;
+    }
+    Indices::Given
+}
+
+fn answer_out(a: Answer) -> SdfJobAnswer
+    ensures { λ r. ⌜ r ≡ answerOut a ⌝ }
+{
+    match a {
+        Answer::Refused(n) => SdfJobAnswer {
+            number: n,
+            pops: 0,
+            peak: 0,
+        },
+        Answer::Done { pops, peak } => SdfJobAnswer {
+            number: 0,
+            pops: pops,
+            peak: peak,
+        },
+    }
+}
+
+// `topology` is 0 for a list and any other number for a strip; `given` is 0 where there are no indices.
+#[no_mangle]
+pub extern "C" fn sdf_generate_grid_sdf(
+    grid: SdfGrid,
+    vertices: &[f32],
+    topology: u32,
+    given: u32,
+    indices: &[u32],
+    field: &mut [f32],
+    names: &mut [u32],
+    crossings: &mut [u32],
+    rows: &mut [u32],
+    distances: &mut [u32],
+    cells: &mut [u32],
+    triangles: &mut [u32],
+    limit: u32,
+) -> SdfJobAnswer
+    ensures { λ r. ⌜ GivesC (outcome (jobOf (gridIn grid) (now (vertices .entry)) (topologyIn topology) (indicesIn given) (now (indices .entry)) limit) (lentOf (now (field .entry)) (now (names .entry)) (now (crossings .entry)) (now (rows .entry)) (now (distances .entry)) (now (cells .entry)) (now (triangles .entry)))) r (lentOf (now (field .exit)) (now (names .exit)) (now (crossings .exit)) (now (rows .exit)) (now (distances .exit)) (now (cells .exit)) (now (triangles .exit))) ⌝ }
+{
+    answer_out(sdf::generate_grid_sdf(
+        grid.grid(),
+        vertices,
+        topology_in(topology),
+        indices_in(given),
+        indices,
+        field,
+        names,
+        crossings,
+        rows,
+        distances,
+        cells,
+        triangles,
+        limit,
+    ))
+}

@@ -1,0 +1,2 @@
+-- What crates above cite.
+pub mod Parity

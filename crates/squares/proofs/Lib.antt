@@ -1,0 +1,3 @@
+mod Runs
+-- what crates above cite
+pub mod Laws

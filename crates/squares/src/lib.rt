@@ -1,0 +1,90 @@
+// The distance of a point to a triangle, and its square, which spares the root where it is not needed; and the
+// squares for many points, the run's inner loop, which takes a triangle of three different corners with no branch.
+// A part of `geo`.
+ghost use mathlib.Core.Path.{_≡_};
+ghost use mathlib.Core.Bool.{false};
+ghost use lib.ListN.{length};
+ghost use Rattle.point.specs.Point.{_-ᵥ_, _·_};
+ghost use Rattle.squares.specs.Distance as Distance;
+ghost use Rattle.squares.specs.Distance.{squaredOn, Squares};
+use closest::Facet;
+use point::Point;
+
+// The squared length of p - q.
+pub fn square(p: Point, q: Point) -> f32
+    ensures { λ r. ⌜ r ≡ (p -ᵥ q) · (p -ᵥ q) ⌝ }
+{
+    let v = p.sub(q);
+    v.dot(v)
+}
+
+pub fn squared_on(f: Facet, p: Point) -> f32
+    ensures { λ r. ⌜ r ≡ Distance.squaredOn f p ⌝ }
+{
+    square(p, closest::closest_on(f, p))
+}
+
+pub fn distance_on(f: Facet, p: Point) -> f32
+    ensures { λ r. ⌜ r ≡ Distance.distanceOn f p ⌝ }
+{
+    root::sqrt(squared_on(f, p))
+}
+
+pub fn point_triangle_distance(p: Point, a: Point, b: Point, c: Point) -> f32
+    ensures { λ r. ⌜ r ≡ Distance.distance p a b c ⌝ }
+{
+    distance_on(closest::facet_of(a, b, c), p)
+}
+
+// A triangle of three different corners.
+fn squared_proper(f: Facet, p: Point) -> f32
+    requires { ⌜ f .equal ≡ false ⌝ }
+    ensures { λ r. ⌜ r ≡ squaredOn f p ⌝ }
+{
+    square(p, flat::nearest_to(f, p))
+}
+
+fn squares_proper(f: Facet, xs: &[f32], ys: &[f32], zs: &[f32], out: &mut [f32])
+    requires { ⌜ (f .equal ≡ false) × (length (now ys) ≡ length (now xs)) × (length (now zs) ≡ length (now xs)) × (length (now out) ≡ length (now xs)) ⌝ }
+    ensures { λ r. ⌜ Squares f (now (xs .entry)) (now (ys .entry)) (now (zs .entry)) (now (out .exit)) ⌝ }
+{
+    let mut i = 0;
+    while i < xs.len() {
+        let p = Point {
+            x: xs[i],
+            y: ys[i],
+            z: zs[i],
+        };
+        out[i] = squared_proper(f, p);
+        i += 1;
+    }
+}
+
+fn squares_equal(f: Facet, xs: &[f32], ys: &[f32], zs: &[f32], out: &mut [f32])
+    requires { ⌜ (length (now ys) ≡ length (now xs)) × (length (now zs) ≡ length (now xs)) × (length (now out) ≡ length (now xs)) ⌝ }
+    ensures { λ r. ⌜ Squares f (now (xs .entry)) (now (ys .entry)) (now (zs .entry)) (now (out .exit)) ⌝ }
+{
+    let mut i = 0;
+    while i < xs.len() {
+        let p = Point {
+            x: xs[i],
+            y: ys[i],
+            z: zs[i],
+        };
+        out[i] = squared_on(f, p);
+        i += 1;
+    }
+}
+
+// The squared distances to `f` of the points whose coordinates stand in xs, ys and zs.
+pub fn squares_on(f: Facet, xs: &[f32], ys: &[f32], zs: &[f32], out: &mut [f32])
+    requires { ⌜ (length (now ys) ≡ length (now xs)) × (length (now zs) ≡ length (now xs)) × (length (now out) ≡ length (now xs)) ⌝ }
+    ensures { λ r. ⌜ Squares f (now (xs .entry)) (now (ys .entry)) (now (zs .entry)) (now (out .exit)) ⌝ }
+{
+    let equal = f.equal;
+    if equal {
+        squares_equal(f, xs, ys, zs, out);
+    } else {
+        squares_proper(f, xs, ys, zs, out);
+    }
+}

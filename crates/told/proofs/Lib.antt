@@ -1,0 +1,3 @@
+-- Laws of what is told, which the crates above cite.
+pub mod Loops
+pub mod Counts

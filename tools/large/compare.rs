@@ -1,0 +1,303 @@
+//! compare N SEED [SET [FIRST]]: N jobs through the library against the unmodified Rust, from job FIRST (0) on. Prints
+//! each difference with what makes it again, up to 20, and how much was compared; ends with 1 if there was any.
+//!
+//!   small    the kinds of tools/jobs within the job program's limits, and lent buffers of other lengths: every
+//!            answer 0 to 8, with every buffer, against the model of document 01; then against the Rust
+//!   middle   to 64 x 64 x 64 cells and 6,000 triangles
+//!   large    to 100 x 100 x 100 cells and 20,000 triangles (the default); the crossing counts of every second
+//!            job, since the Rust works them out again for it
+//!   bounds   one job at each bound of document 01; N and SEED do not matter
+
+#[path = "../generator/damage.rs"]
+mod damage;
+#[path = "../generator/kinds.rs"]
+mod kinds;
+mod meshes;
+mod port;
+#[path = "../generator/random.rs"]
+mod random;
+mod rust;
+#[path = "../generator/shapes.rs"]
+mod shapes;
+
+use model::{bounds, text, topology, Done, Job};
+use port::{Answer, Lent};
+use random::Random;
+use rust::Held;
+use std::collections::BTreeMap;
+
+/// What a run has seen.
+#[derive(Default)]
+struct Seen {
+    jobs: u64,
+    kinds: BTreeMap<String, u64>,
+    answers: BTreeMap<u32, u64>,
+    to_rust: u64,
+    nans: u64,
+    cells: u64,
+    triangles: u64,
+    most: [u64; 2],
+    pops: u64,
+    ours: f64,
+    theirs: f64,
+    differences: u64,
+}
+
+impl Seen {
+    /// One job held to the Rust.
+    fn hold(&mut self, job: &Job, lent: &mut Lent, with_crossings: bool) -> Result<Held, String> {
+        let held = rust::hold(job, lent, with_crossings)?;
+        let (cells, triangles) = (u64::from(job.grid.cells()), topology::triangles(job).len() as u64);
+        self.to_rust += 1;
+        self.nans += u64::from(held.answer.number == 6);
+        self.cells += cells;
+        self.triangles += triangles;
+        self.most = [self.most[0].max(cells), self.most[1].max(triangles)];
+        self.pops += u64::from(held.answer.pops);
+        self.ours += held.ours;
+        self.theirs += held.theirs;
+        Ok(held)
+    }
+
+    fn print(&self) {
+        for (kind, jobs) in &self.kinds {
+            println!("{jobs:>7}  {kind}");
+        }
+        for (number, jobs) in &self.answers {
+            println!("{jobs:>7}  answer={number}");
+        }
+        println!(
+            "held to the Rust: {} jobs ({} of them end at a NaN), {} cells, {} triangles, {} pops; \
+             the largest {} cells, the most {} triangles",
+            self.to_rust, self.nans, self.cells, self.triangles, self.pops, self.most[0], self.most[1]
+        );
+        println!("seconds: {:.1} the library, {:.1} the Rust", self.ours, self.theirs);
+        println!("{} jobs, {} differences", self.jobs, self.differences);
+    }
+}
+
+fn main() {
+    let args: Vec<String> = std::env::args().skip(1).collect();
+    let number = |i: usize| args.get(i).and_then(|a| a.parse::<u64>().ok());
+    let (Some(jobs), Some(seed)) = (number(0), number(1)) else {
+        eprintln!("usage: compare-large N SEED [small|middle|large|bounds [FIRST]]");
+        std::process::exit(2);
+    };
+    let set = args.get(2).map_or("large", String::as_str);
+    let first = number(3).unwrap_or(0);
+    mesh_oracle::begin();
+    let mut seen = Seen::default();
+    if set == "bounds" {
+        at_bounds(&mut seen);
+    } else {
+        for index in first..first + jobs {
+            // Two numbers of one generator seed another: seeds and jobs do not run into each other.
+            let start = Random::new(seed, 0).next().wrapping_add(index);
+            let mut r = Random::new(Random::new(start, 0).next(), index);
+            let (kind, verdict) = match set {
+                "small" => small(index, &mut r, &mut seen),
+                "middle" => large(index, sizes_to_64, true, &mut r, &mut seen),
+                "large" => large(index, sizes_to_100, index % 2 == 0, &mut r, &mut seen),
+                _ => panic!("no such set: {set}"),
+            };
+            seen.jobs += 1;
+            if seen.jobs % 32 == 0 && set != "small" {
+                eprintln!("{} jobs, {} differences", seen.jobs, seen.differences);
+            }
+            *seen.kinds.entry(kind.clone()).or_default() += 1;
+            if let Err(words) = verdict {
+                seen.differences += 1;
+                if seen.differences <= 20 {
+                    println!("job {index} ({kind}), seed {seed}: {words}");
+                    println!("    again: tools/compare-large 1 {seed} {set} {index}");
+                }
+            }
+        }
+    }
+    seen.print();
+    std::process::exit(i32::from(seen.differences > 0));
+}
+
+// Jobs as the job program may be given.
+
+/// One job over buffers that hold noise, some of them of a wrong length: answer and buffers are the model's. Then the
+/// same with room and pops lifted, against the Rust.
+fn small(index: u64, r: &mut Random, seen: &mut Seen) -> (String, Result<(), String>) {
+    let turns = kinds::KINDS.len() as u64;
+    let kind = match index % 100 {
+        // Beyond the program's limits, for the two bounds that they keep out of sight.
+        98 => "large-too-many-triangles",
+        99 => "large-too-many-vertices",
+        _ => kinds::KINDS[(index % turns) as usize].0,
+    };
+    let mut of_kind = Random::new(r.next(), index / turns);
+    let made = kinds::make(kind, &mut of_kind).expect("a kind of the table");
+    let Some(job) = text::read(&made).filter(|job| text::within_limits(job) || bounds::check(job).is_err()) else {
+        return ("unreadable, or beyond the program's limits".to_string(), Ok(()));
+    };
+    let verdict = hold_to_model(&job, r, seen).and_then(|number| {
+        if matches!(number, 0 | 6 | 7 | 8) {
+            seen.hold(&job, &mut Lent::fitting(&job.grid, 4_096), true)?;
+        }
+        Ok(())
+    });
+    (kind.to_string(), verdict)
+}
+
+fn hold_to_model(job: &Job, r: &mut Random, seen: &mut Seen) -> Result<u32, String> {
+    let cells = bounds::cells(job.grid.count).min(512) as usize;
+    let room = job.queue.min(2_048) as usize;
+    let lengths = [cells, cells, 3 * cells, job.grid.count[2].min(512) as usize, room, room, room];
+    let wrong = r.once_in(10).then(|| (r.below(7) as usize, r.once_in(2)));
+    let uneven = r.once_in(40) && !job.vertices.is_empty();
+    let before = noise(lengths, wrong, r);
+    let owed = owed(job, uneven, before.lengths != lengths);
+    let mut lent = before.lent;
+    let kept = lent.clone();
+    let coordinates = job.vertices.as_flattened();
+    let coordinates = &coordinates[..coordinates.len() - usize::from(uneven)];
+    let answer = port::ask_with(job, coordinates, &mut lent, job.pops);
+    *seen.answers.entry(answer.number).or_default() += 1;
+    let (number, pops, peak, left) = match owed {
+        Ok(done) => (0, done.pops, done.peak as usize, filled(done, kept)),
+        Err(number) if number < 6 => (number, 0, 0, kept),
+        Err(number) => (number, 0, 0, cleared(kept)),
+    };
+    if (answer.number, answer.pops, answer.peak) != (number, pops, peak) {
+        let Answer { number: n, pops: p, peak: k } = answer;
+        return Err(format!("answer {n} with pops {p}, peak {k}; the model gives {number}, {pops}, {peak}"));
+    }
+    if lent.bits() != left.bits() {
+        return Err(format!("answer {number}, and a buffer is not as the model leaves it"));
+    }
+    Ok(if uneven || before.lengths != lengths { 5 } else { number })
+}
+
+/// Document 01's answer. A job's text lends no buffers and has whole vertices: those two are added here.
+fn owed(job: &Job, uneven: bool, wrong: bool) -> Result<Done, u32> {
+    let checked = bounds::check(job);
+    if uneven && checked != Err(1) {
+        return Err(2);
+    }
+    checked?;
+    if wrong {
+        return Err(5);
+    }
+    model::run::run(job)
+}
+
+struct Noise {
+    lent: Lent,
+    lengths: [usize; 7],
+}
+
+/// Buffers of these lengths, one of them perhaps one more or one less, that hold anything.
+fn noise(mut lengths: [usize; 7], wrong: Option<(usize, bool)>, r: &mut Random) -> Noise {
+    if let Some((which, more)) = wrong {
+        lengths[which] = if more { lengths[which] + 1 } else { lengths[which].saturating_sub(1) };
+    }
+    let mut lent = Lent::default();
+    lent.field = (0..lengths[0]).map(|_| f32::from_bits(r.next() as u32)).collect();
+    for (list, length) in lent.numbers().into_iter().zip(&lengths[1..]) {
+        *list = (0..*length).map(|_| r.next() as u32).collect();
+    }
+    Noise { lent, lengths }
+}
+
+fn cleared(mut lent: Lent) -> Lent {
+    lent.field.fill(f32::MAX);
+    lent.numbers().into_iter().for_each(|list| list.fill(0));
+    lent.names.fill(model::NONE);
+    lent
+}
+
+fn filled(done: Done, lent: Lent) -> Lent {
+    let Done { field, names, crossings, rows, .. } = done;
+    Lent { field, names, crossings: crossings.as_flattened().to_vec(), rows, ..cleared(lent) }
+}
+
+// Large jobs.
+
+fn sizes_to_64(index: u64, r: &mut Random) -> ([u32; 3], u32) {
+    match index % 20 {
+        0 => ([64; 3], r.between(2_000, 6_000)),
+        1..=5 => ([0; 3].map(|_| r.between(40, 64)), r.between(1_000, 6_000)),
+        _ => ([0; 3].map(|_| r.between(8, 48)), r.between(1_000, 5_000)),
+    }
+}
+
+/// In 96 jobs: one of the largest and two near it, nine of long or flat grids, six to 90 cells on an axis, eighteen to
+/// 60, and sixty to 36. The numbers of triangles go with them.
+fn sizes_to_100(index: u64, r: &mut Random) -> ([u32; 3], u32) {
+    match index % 32 {
+        0 if index % 96 == 0 => ([100; 3], 20_000),
+        0 => ([0; 3].map(|_| r.between(80, 100)), r.between(4_000, 8_000)),
+        1 => ([r.between(200, 1_024), r.between(4, 12), r.between(4, 12)], r.between(500, 2_000)),
+        2 => ([r.between(4, 12), r.between(200, 1_024), r.between(4, 12)], r.between(500, 2_000)),
+        3 => ([r.between(4, 12), r.between(4, 12), r.between(200, 1_024)], r.between(500, 2_000)),
+        4..=5 => ([0; 3].map(|_| r.between(64, 90)), r.between(2_000, 8_000)),
+        6..=11 => ([0; 3].map(|_| r.between(36, 60)), r.between(1_000, 5_000)),
+        _ => ([0; 3].map(|_| r.between(12, 36)), r.between(300, 4_000)),
+    }
+}
+
+fn large(
+    index: u64,
+    sizes: fn(u64, &mut Random) -> ([u32; 3], u32),
+    with_crossings: bool,
+    r: &mut Random,
+    seen: &mut Seen,
+) -> (String, Result<(), String>) {
+    let (count, triangles) = sizes(index, r);
+    // The kinds turn at another pace than the sizes, so that each meets each.
+    let kind = ((index + index / 32) % meshes::KINDS.len() as u64) as usize;
+    let grid = meshes::grid(count, r);
+    let mut lent = Lent::fitting(&grid, 2 * grid.cells() as usize + 4_096);
+    let job = meshes::make(kind, grid, triangles, r);
+    let verdict = seen.hold(&job, &mut lent, with_crossings);
+    let verdict = verdict.map(|held| *seen.answers.entry(held.answer.number).or_default() += 1);
+    (meshes::KINDS[kind].0.to_string(), verdict)
+}
+
+// One job at each bound.
+
+fn at_bounds(seen: &mut Seen) {
+    // Soups with as many corners as there may be vertices; with 131,072 triangles these are 393,216.
+    let jobs: [([u32; 3], u32); 5] = [
+        ([1_024, 1_024, 1], 2_000),
+        ([1, 1_024, 1_024], 2_000),
+        ([102, 102, 100], 20_000),
+        ([32, 32, 32], 131_072),
+        ([102, 102, 100], 131_072),
+    ];
+    println!("counts | triangles | answer | pops | peak | seconds, the library | the Rust | lent MB, room for the peak");
+    for (count, triangles) in jobs {
+        let mut r = Random::new(1, 0);
+        let grid = meshes::grid(count, &mut r);
+        let mut lent = Lent::fitting(&grid, 2 * grid.cells() as usize);
+        let mesh = meshes::soup_of(&grid, triangles, 1.0, &mut r);
+        let job = meshes::plain(grid, mesh);
+        seen.jobs += 1;
+        match seen.hold(&job, &mut lent, false) {
+            Ok(held) => {
+                let Answer { number, pops, peak } = held.answer;
+                *seen.answers.entry(number).or_default() += 1;
+                let words = job.vertices.len() * 3
+                    + job.indices.map_or(0, |list| list.len())
+                    + lent.field.len() * 5
+                    + lent.rows.len()
+                    + 3 * peak;
+                println!(
+                    "{count:?} | {triangles} | {number} | {pops} | {peak} | {:.2} | {:.2} | {:.1}",
+                    held.ours,
+                    held.theirs,
+                    (4 * words) as f64 / 1e6
+                );
+            }
+            Err(words) => {
+                seen.differences += 1;
+                println!("{count:?} | {triangles} | {words}");
+            }
+        }
+    }
+}

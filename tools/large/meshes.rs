@@ -1,0 +1,211 @@
+//! Large jobs of every kind that a tank's scan may be: closed, noisy, open, without order, degenerate.
+
+use crate::random::Random;
+use crate::shapes::{self, Mesh};
+use model::grid::Grid;
+use model::topology::Topology;
+use model::Job;
+
+pub const KINDS: [(&str, fn(&Grid, u32, &mut Random) -> Mesh); 10] = [
+    ("closed-tank", |grid, n, r| tank(grid, n, 0.9, r)),
+    ("noisy-scan", noisy),
+    ("open-tank", open),
+    ("soup", soup),
+    ("degenerate", degenerate),
+    ("repeated-facets", repeated),
+    ("sphere", sphere),
+    ("strip", strip),
+    ("lattice-tank", lattice),
+    ("tank-beyond-grid", |grid, n, r| tank(grid, n, 1.4, r)),
+];
+
+/// A job of the kind, of about so many triangles.
+pub fn make(kind: usize, grid: Grid, triangles: u32, r: &mut Random) -> Job {
+    let (name, mesh) = KINDS[kind];
+    let Mesh { vertices, mut triangles } = mesh(&grid, triangles, r);
+    let mut vertices: Vec<[f32; 3]> = vertices.iter().map(|v| place(&grid, *v)).collect();
+    if name == "strip" {
+        // Its mesh has a triangle for each vertex number after the second, in order.
+        let indices = r.once_in(2).then(|| (0..vertices.len() as u32).collect());
+        return lifted(grid, Topology::Strip, vertices, indices);
+    }
+    if r.once_in(2) {
+        for i in (1..triangles.len()).rev() {
+            triangles.swap(i, r.below(i as u64 + 1) as usize);
+        }
+    }
+    if r.once_in(4) {
+        // As a binary STL has it: corners one after the other, and no indices.
+        vertices = triangles.iter().flatten().map(|&v| vertices[v as usize]).collect();
+        return lifted(grid, Topology::List, vertices, None);
+    }
+    let indices = triangles.into_iter().flatten().collect();
+    lifted(grid, Topology::List, vertices, Some(indices))
+}
+
+/// A job of a mesh in cell units, with its triangles in order and indices.
+pub fn plain(grid: Grid, Mesh { vertices, triangles }: Mesh) -> Job {
+    let vertices = vertices.iter().map(|v| place(&grid, *v)).collect();
+    lifted(grid, Topology::List, vertices, Some(triangles.into_iter().flatten().collect()))
+}
+
+fn lifted(grid: Grid, topology: Topology, vertices: Vec<[f32; 3]>, indices: Option<Vec<u32>>) -> Job {
+    Job { grid, topology, vertices, indices, queue: u32::MAX, pops: u32::MAX }
+}
+
+/// A grid of these counts: plain or odd measures, cubes or not.
+pub fn grid(count: [u32; 3], r: &mut Random) -> Grid {
+    let (first, size) = match r.below(5) {
+        0 => ([0.0; 3], [1.0; 3]),
+        1 => ([0.5; 3], [0.5; 3]),
+        2 => ([0; 3].map(|_| r.unit() * 10.0), [0.1; 3]),
+        3 => ([0; 3].map(|_| r.unit() * 100.0), [0; 3].map(|_| 0.05 + r.unit().abs() * 0.1)),
+        _ => ([0; 3].map(|_| r.unit() * 1000.0), [0; 3].map(|_| 0.5 + r.unit().abs() * 3.0)),
+    };
+    Grid { first, size, count }
+}
+
+/// A place in cell units as a point.
+fn place(grid: &Grid, at: [f64; 3]) -> [f32; 3] {
+    [0, 1, 2].map(|axis| (f64::from(grid.first[axis]) + at[axis] * f64::from(grid.size[axis])) as f32)
+}
+
+fn part(r: &mut Random) -> f64 {
+    (f64::from(r.unit()) + 1.0) / 2.0
+}
+
+/// The middle of the grid, moved by up to a cell, and half its extent times a part.
+fn body(grid: &Grid, size: f64, r: &mut Random) -> ([f64; 3], [f64; 3]) {
+    let half = grid.count.map(|n| f64::from(n) / 2.0 * size * (0.7 + 0.3 * part(r)));
+    let middle = grid.count.map(|n| (f64::from(n) - 1.0) / 2.0 + f64::from(r.unit()));
+    (middle, half)
+}
+
+/// An upright tank of panels, closed.
+pub fn tank(grid: &Grid, triangles: u32, size: f64, r: &mut Random) -> Mesh {
+    let (middle, half) = body(grid, size, r);
+    let segments = (f64::from(triangles / 2).sqrt() * (0.7 + 0.6 * part(r))).max(3.0) as u32;
+    let rows = (triangles / 2 / segments).max(3);
+    let rings = 1 + r.below(u64::from(rows / 3)) as u32;
+    // Rows of vertices: the rings but the axis, twice, and the wall's.
+    let bands = (rows + 1).saturating_sub(2 * rings).max(1);
+    shapes::turned(middle, &shapes::tank_profile(half[0].min(half[1]), half[2], rings, bands), segments)
+}
+
+fn noisy(grid: &Grid, triangles: u32, r: &mut Random) -> Mesh {
+    let noise = [0.01, 0.1, 0.5, 1.5][r.below(4) as usize];
+    scan(grid, triangles, noise, r)
+}
+
+/// A tank as a scanner sees it: every vertex off by up to so many cells.
+pub fn scan(grid: &Grid, triangles: u32, noise: f64, r: &mut Random) -> Mesh {
+    let mut mesh = tank(grid, triangles, 0.9, r);
+    for vertex in &mut mesh.vertices {
+        *vertex = vertex.map(|x| x + noise * f64::from(r.unit()));
+    }
+    mesh
+}
+
+/// A scan without its roof, or with facets missing here and there.
+fn open(grid: &Grid, triangles: u32, r: &mut Random) -> Mesh {
+    let mut mesh = noisy(grid, triangles, r);
+    if r.once_in(2) {
+        return without_roof(mesh);
+    }
+    let once_in = 2 + r.below(30);
+    mesh.triangles.retain(|_| !r.once_in(once_in));
+    mesh
+}
+
+pub fn without_roof(mut mesh: Mesh) -> Mesh {
+    let top = mesh.vertices.iter().map(|v| v[2]).fold(f64::MIN, f64::max) - 1.0;
+    let vertices = &mesh.vertices;
+    mesh.triangles.retain(|t| t.iter().any(|&v| vertices[v as usize][2] < top));
+    mesh
+}
+
+/// The triangles are smaller the more there are.
+fn soup(grid: &Grid, triangles: u32, r: &mut Random) -> Mesh {
+    let reach = [0.3, 1.0, 3.0, if triangles < 3_000 { 10.0 } else { 3.0 }][r.below(4) as usize];
+    soup_of(grid, triangles, reach, r)
+}
+
+/// Triangles anywhere, with corners up to so many cells from their middle on each axis.
+pub fn soup_of(grid: &Grid, triangles: u32, reach: f64, r: &mut Random) -> Mesh {
+    let mut mesh = Mesh::default();
+    for n in 0..triangles {
+        let near = grid.count.map(|n| (f64::from(n) + 4.0) * part(r) - 2.0);
+        for _ in 0..3 {
+            mesh.vertices.push(near.map(|x| x + reach * f64::from(r.unit())));
+        }
+        mesh.triangles.push([3 * n, 3 * n + 1, 3 * n + 2]);
+    }
+    mesh
+}
+
+/// A scan with facets that have no area: equal vertex numbers, equal corners, corners on a line, slivers.
+fn degenerate(grid: &Grid, triangles: u32, r: &mut Random) -> Mesh {
+    let mut mesh = noisy(grid, triangles, r);
+    for i in 0..mesh.triangles.len() {
+        let [a, b, c] = mesh.triangles[i];
+        let at = |v: u32| mesh.vertices[v as usize];
+        let new = match r.below(24) {
+            0 => at(a),
+            1 => at(b),
+            2 => [0, 1, 2].map(|axis| (at(a)[axis] + at(b)[axis]) / 2.0),
+            3 => at(b).map(|x| x + 1e-6 * f64::from(r.unit())),
+            4 => {
+                mesh.triangles[i] = [[a, a, b], [a, b, b], [a, b, a], [a, a, a]][r.below(4) as usize];
+                continue;
+            }
+            _ => continue,
+        };
+        mesh.vertices.push(new);
+        let d = mesh.vertices.len() as u32 - 1;
+        mesh.triangles[i] = [[a, b, d], [a, d, b], [d, a, b], [c, d, d]][r.below(4) as usize];
+    }
+    mesh
+}
+
+/// A scan with facets that come again, as they are or turned round.
+fn repeated(grid: &Grid, triangles: u32, r: &mut Random) -> Mesh {
+    let mut mesh = noisy(grid, triangles * 4 / 5, r);
+    for _ in 0..triangles / 5 {
+        let [a, b, c] = mesh.triangles[r.below(mesh.triangles.len() as u64) as usize];
+        mesh.triangles.push([[a, b, c], [b, c, a], [c, b, a], [a, c, b]][r.below(4) as usize]);
+    }
+    mesh
+}
+
+fn sphere(grid: &Grid, triangles: u32, r: &mut Random) -> Mesh {
+    let (middle, half) = body(grid, 0.95, r);
+    let segments = f64::from(triangles / 2).sqrt().max(3.0) as u32;
+    shapes::sphere(middle, half, (triangles / 2 / segments).max(2) + 1, segments)
+}
+
+/// A walk through the grid: each triangle has the next vertex.
+fn strip(grid: &Grid, triangles: u32, r: &mut Random) -> Mesh {
+    let mut mesh = Mesh::default();
+    let mut at = grid.count.map(|n| f64::from(n) / 2.0);
+    let step = 0.5 + 2.0 * part(r);
+    for n in 0..triangles + 2 {
+        for axis in 0..3 {
+            let end = f64::from(grid.count[axis]) + 1.0;
+            at[axis] = (at[axis] + step * f64::from(r.unit())).clamp(-2.0, end);
+        }
+        mesh.vertices.push(at);
+        if n > 1 {
+            mesh.triangles.push([n - 2, n - 1, n]);
+        }
+    }
+    mesh
+}
+
+/// A tank whose vertices lie on cell centres and halfway between: rays meet edges and corners, distances are equal.
+fn lattice(grid: &Grid, triangles: u32, r: &mut Random) -> Mesh {
+    let mut mesh = tank(grid, triangles, 0.9, r);
+    for vertex in &mut mesh.vertices {
+        *vertex = vertex.map(|x| (x * 2.0).round() / 2.0);
+    }
+    mesh
+}

@@ -1,0 +1,150 @@
+//! The port's whole job, through the header for C (port.c).
+
+use model::grid::Grid;
+use model::topology::Topology;
+use model::Job;
+
+extern "C" {
+    fn port_job(
+        grid: *const u32,
+        vertices: *const f32,
+        coordinate_count: usize,
+        topology: u32,
+        given: u32,
+        indices: *const u32,
+        index_count: usize,
+        field: *mut f32,
+        field_length: usize,
+        names: *mut u32,
+        names_length: usize,
+        crossings: *mut u32,
+        crossings_length: usize,
+        rows: *mut u32,
+        rows_length: usize,
+        distances: *mut u32,
+        distances_length: usize,
+        cells: *mut u32,
+        cells_length: usize,
+        triangles: *mut u32,
+        triangles_length: usize,
+        limit: u32,
+        number: *mut u32,
+        pops: *mut u32,
+        peak: *mut usize,
+    );
+}
+
+#[derive(Clone, Copy, Default)]
+pub struct Answer {
+    pub number: u32,
+    pub pops: u32,
+    pub peak: usize,
+}
+
+/// The lent buffers.
+#[derive(Clone, Default)]
+pub struct Lent {
+    pub field: Vec<f32>,
+    pub names: Vec<u32>,
+    pub crossings: Vec<u32>,
+    pub rows: Vec<u32>,
+    pub distances: Vec<u32>,
+    pub cells: Vec<u32>,
+    pub triangles: Vec<u32>,
+}
+
+impl Lent {
+    /// As the grid asks for, with room for so many entries.
+    pub fn fitting(grid: &Grid, room: usize) -> Lent {
+        let n = grid.cells() as usize;
+        Lent {
+            field: vec![0.0; n],
+            names: vec![0; n],
+            crossings: vec![0; 3 * n],
+            rows: vec![0; grid.count[2] as usize],
+            distances: vec![0; room],
+            cells: vec![0; room],
+            triangles: vec![0; room],
+        }
+    }
+
+    /// The lists of whole numbers, in the header's order.
+    pub fn numbers(&mut self) -> [&mut Vec<u32>; 6] {
+        [
+            &mut self.names,
+            &mut self.crossings,
+            &mut self.rows,
+            &mut self.distances,
+            &mut self.cells,
+            &mut self.triangles,
+        ]
+    }
+
+    /// The field's bits, and the lists of whole numbers.
+    pub fn bits(&self) -> (Vec<u32>, [&[u32]; 6]) {
+        let lists: [&[u32]; 6] =
+            [&self.names, &self.crossings, &self.rows, &self.distances, &self.cells, &self.triangles];
+        (self.field.iter().map(|x| x.to_bits()).collect(), lists)
+    }
+}
+
+/// The job over the lent buffers. The queue room is what is lent, not what the job says.
+pub fn ask(job: &Job, lent: &mut Lent, limit: u32) -> Answer {
+    ask_with(job, job.vertices.as_flattened(), lent, limit)
+}
+
+/// The same with other coordinates than the job's.
+pub fn ask_with(job: &Job, coordinates: &[f32], lent: &mut Lent, limit: u32) -> Answer {
+    let Grid { first, size, count } = job.grid;
+    let mut grid = [0; 9];
+    for axis in 0..3 {
+        (grid[axis], grid[3 + axis], grid[6 + axis]) = (first[axis].to_bits(), size[axis].to_bits(), count[axis]);
+    }
+    let indices = job.indices.as_deref().unwrap_or(&[]);
+    let mut answer = Answer::default();
+    // SAFETY: every pointer is that of a slice or a number, with the slice's own length; none are shared.
+    unsafe {
+        port_job(
+            grid.as_ptr(),
+            coordinates.as_ptr(),
+            coordinates.len(),
+            u32::from(job.topology == Topology::Strip),
+            u32::from(job.indices.is_some()),
+            indices.as_ptr(),
+            indices.len(),
+            lent.field.as_mut_ptr(),
+            lent.field.len(),
+            lent.names.as_mut_ptr(),
+            lent.names.len(),
+            lent.crossings.as_mut_ptr(),
+            lent.crossings.len(),
+            lent.rows.as_mut_ptr(),
+            lent.rows.len(),
+            lent.distances.as_mut_ptr(),
+            lent.distances.len(),
+            lent.cells.as_mut_ptr(),
+            lent.cells.len(),
+            lent.triangles.as_mut_ptr(),
+            lent.triangles.len(),
+            limit,
+            &mut answer.number,
+            &mut answer.pops,
+            &mut answer.peak,
+        );
+    }
+    answer
+}
+
+/// The job with room enough: the room is doubled until it does.
+pub fn ask_with_room(job: &Job, lent: &mut Lent) -> Answer {
+    loop {
+        let answer = ask(job, lent, u32::MAX);
+        if answer.number != 7 {
+            return answer;
+        }
+        let room = lent.distances.len() * 2 + 1;
+        for list in [&mut lent.distances, &mut lent.cells, &mut lent.triangles] {
+            list.resize(room, 0);
+        }
+    }
+}

@@ -1,0 +1,94 @@
+//! The unmodified Rust on a job, and the port held to it.
+
+use crate::port::{ask_with_room, Answer, Lent};
+use mesh_oracle::{guarded, run_on, topology};
+use mesh_to_sdf::{probe, Grid};
+use model::geometry::distance;
+use model::topology::{triangles, Topology};
+use model::{Job, NONE};
+use web_time::Instant;
+
+fn grid(job: &Job) -> Grid<[f32; 3]> {
+    Grid::new(job.grid.first, job.grid.size, job.grid.count.map(|n| n as usize))
+}
+
+/// The field, the steps and the times of seeding, spreading and crossings, or the words of the panic.
+pub fn run(job: &Job) -> Result<mesh_oracle::Answer, String> {
+    let mesh = topology(job.topology == Topology::Strip, job.indices.as_deref());
+    run_on(&job.vertices, mesh, &grid(job))
+}
+
+fn crossings(job: &Job) -> Result<Vec<[u32; 3]>, String> {
+    let mesh = topology(job.topology == Topology::Strip, job.indices.as_deref());
+    guarded(|| probe::crossings(&job.vertices, mesh, &grid(job)))
+}
+
+/// What was compared, and how many seconds of the processor's time the two took.
+pub struct Held {
+    pub answer: Answer,
+    pub ours: f64,
+    pub theirs: f64,
+}
+
+/// The job with no bound on room and pops, the port's against the Rust's: every cell's bits, the pops and, if asked
+/// for, the crossing counts, which the Rust works out again for it. What the Rust has no word for is held to the
+/// field: the names, the rows and the queue.
+pub fn hold(job: &Job, lent: &mut Lent, with_crossings: bool) -> Result<Held, String> {
+    let begin = Instant::now();
+    let answer = ask_with_room(job, lent);
+    let ours = begin.elapsed().as_secs_f64();
+    let begin = Instant::now();
+    let rust = run(job);
+    let theirs = begin.elapsed().as_secs_f64();
+    let held = Held { answer, ours, theirs };
+    let rust = match (answer.number, rust) {
+        (0, Ok(rust)) => rust,
+        (6, Err(words)) if words.contains("NaN") => return Ok(held),
+        (number, Ok(_)) => return Err(format!("answer {number}, and the Rust runs through")),
+        (number, Err(words)) => return Err(format!("answer {number}, and the Rust stops: {words}")),
+    };
+    if answer.pops != rust.steps {
+        return Err(format!("pops {}, and the Rust takes {} steps", answer.pops, rust.steps));
+    }
+    for (cell, (ours, theirs)) in lent.field.iter().zip(&rust.field).enumerate() {
+        if ours.to_bits() != theirs.to_bits() {
+            return Err(format!("cell {cell}: {:08x}, and the Rust's is {:08x}", ours.to_bits(), theirs.to_bits()));
+        }
+    }
+    if with_crossings {
+        let counts = crossings(job)?;
+        if let Some(at) = (0..lent.crossings.len()).find(|&i| lent.crossings[i] != counts.as_flattened()[i]) {
+            let (ours, theirs) = (lent.crossings[at], counts.as_flattened()[at]);
+            return Err(format!("crossing {} of cell {}: {ours}, and the Rust's is {theirs}", at % 3, at / 3));
+        }
+    }
+    hold_to_field(job, lent)?;
+    Ok(held)
+}
+
+/// Each name's distance is the field's magnitude, each row counts its layer, and the queue is zero.
+fn hold_to_field(job: &Job, lent: &Lent) -> Result<(), String> {
+    let all = triangles(job);
+    let mut rows = vec![0; lent.rows.len()];
+    for (cell, (&value, &name)) in lent.field.iter().zip(&lent.names).enumerate() {
+        let at = job.grid.coordinates(cell as u32);
+        rows[at[2] as usize] += u32::from(value < 0.0);
+        let owed = match name {
+            NONE => f32::MAX,
+            name => {
+                let triangle = all.get(name as usize).ok_or_else(|| format!("cell {cell} names {name}"))?;
+                distance(job.grid.centre(at), triangle.map(|v| job.vertices[v as usize]))
+            }
+        };
+        if owed.to_bits() != value.abs().to_bits() {
+            return Err(format!("cell {cell} names {name}, whose distance is {owed}, and holds {value}"));
+        }
+    }
+    if rows != lent.rows {
+        return Err("rows that do not count the field".to_string());
+    }
+    if [&lent.distances, &lent.cells, &lent.triangles].iter().any(|list| list.iter().any(|&x| x != 0)) {
+        return Err("a queue that is not zero".to_string());
+    }
+    Ok(())
+}
