@@ -1,6 +1,7 @@
 """Streams of jobs: for each a line `job=INDEX KIND BYTES`, then exactly that many bytes. tools/jobs prints one, and
 the model and the oracle read one with --batch and print one of answers."""
 import subprocess
+import sys
 
 
 def parts(stream):
@@ -40,3 +41,27 @@ def values(listing):
         key, _, value = line.partition("=")
         found.setdefault(key, []).append(value)
     return found
+
+
+def owed(jobs):
+    """The listings that document 01 owes the jobs: the unmodified Rust's field and pops, the model's number, peak, names
+    and rows. Where both speak they must agree. Builds the oracle and the model."""
+    subprocess.run(["tools/oracle/build"], check=True, stdout=sys.stderr)
+    subprocess.run(["tools/model/build"], check=True, stdout=sys.stderr)
+    model = batch(["build/model/model", "--batch"], jobs)
+    rust = batch(["build/oracle/oracle", "--batch"], jobs)
+    return [joined(ours, theirs) for ours, theirs in zip(model, rust)]
+
+
+def joined(model, rust):
+    """One listing of the model's and the Rust's."""
+    if number_of(model) != 0:
+        return model
+    ours, theirs = values(model), values(rust)
+    assert ours["pops"] == theirs["steps"]
+    names = [cell.rsplit(" ", 1) for cell in ours["cell"]]
+    assert [cell for cell, _ in names] == theirs["cell"]
+    lines = ["answer=0", "pops=" + theirs["steps"][0], "peak=" + ours["peak"][0]]
+    lines += [f"cell={cell} {name}" for cell, (_, name) in zip(theirs["cell"], names)]
+    lines += ["row=" + row for row in ours["row"]]
+    return "".join(line + "\n" for line in lines).encode()

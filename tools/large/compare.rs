@@ -6,7 +6,8 @@
 //!   middle   to 64 x 64 x 64 cells and 6,000 triangles
 //!   large    to 100 x 100 x 100 cells and 20,000 triangles (the default); the crossing counts of every second
 //!            job, since the Rust works them out again for it
-//!   bounds   one job at each bound of document 01; N and SEED do not matter
+//!   bounds   one job at each bound of document 01; with N = 0 the library alone, which takes seconds where the Rust
+//!            takes minutes; SEED does not matter
 
 #[path = "../generator/damage.rs"]
 mod damage;
@@ -88,7 +89,7 @@ fn main() {
     mesh_oracle::begin();
     let mut seen = Seen::default();
     if set == "bounds" {
-        at_bounds(&mut seen);
+        at_bounds(jobs > 0, &mut seen);
     } else {
         for index in first..first + jobs {
             // Two numbers of one generator seed another: seeds and jobs do not run into each other.
@@ -261,7 +262,7 @@ fn large(
 
 // One job at each bound.
 
-fn at_bounds(seen: &mut Seen) {
+fn at_bounds(with_rust: bool, seen: &mut Seen) {
     // Soups with as many corners as there may be vertices; with 131,072 triangles these are 393,216.
     let jobs: [([u32; 3], u32); 5] = [
         ([1_024, 1_024, 1], 2_000),
@@ -278,7 +279,8 @@ fn at_bounds(seen: &mut Seen) {
         let mesh = meshes::soup_of(&grid, triangles, 1.0, &mut r);
         let job = meshes::plain(grid, mesh);
         seen.jobs += 1;
-        match seen.hold(&job, &mut lent, false) {
+        let verdict = if with_rust { seen.hold(&job, &mut lent, false) } else { Ok(rust::alone(&job, &mut lent)) };
+        match verdict {
             Ok(held) => {
                 let Answer { number, pops, peak } = held.answer;
                 *seen.answers.entry(number).or_default() += 1;

@@ -30,17 +30,22 @@ pub struct Held {
     pub theirs: f64,
 }
 
+/// The job with no bound on room and pops, the port's alone.
+pub fn alone(job: &Job, lent: &mut Lent) -> Held {
+    let begin = Instant::now();
+    let answer = ask_with_room(job, lent);
+    Held { answer, ours: begin.elapsed().as_secs_f64(), theirs: 0.0 }
+}
+
 /// The job with no bound on room and pops, the port's against the Rust's: every cell's bits, the pops and, if asked
 /// for, the crossing counts, which the Rust works out again for it. What the Rust has no word for is held to the
 /// field: the names, the rows and the queue.
 pub fn hold(job: &Job, lent: &mut Lent, with_crossings: bool) -> Result<Held, String> {
-    let begin = Instant::now();
-    let answer = ask_with_room(job, lent);
-    let ours = begin.elapsed().as_secs_f64();
+    let mut held = alone(job, lent);
+    let answer = held.answer;
     let begin = Instant::now();
     let rust = run(job);
-    let theirs = begin.elapsed().as_secs_f64();
-    let held = Held { answer, ours, theirs };
+    held.theirs = begin.elapsed().as_secs_f64();
     let rust = match (answer.number, rust) {
         (0, Ok(rust)) => rust,
         (6, Err(words)) if words.contains("NaN") => return Ok(held),

@@ -4,7 +4,7 @@ use Prim.Native.Nat.{ℕ, _*_}
 use mathlib.Core.Path.{_≡_}
 use mathlib.Core.List.{List, _∷_, _++_, map}
 use lib.ListN.{length, getD, replicate}
-use lib.Ieee.{Float, binary32, ofBits, toBits}
+use lib.Ieee.{Float, nan, binary32, ofBits, toBits}
 use Rattle.float.specs.Arith.{f0}
 use Rattle.point.specs.Point.{vec}
 use Rattle.point.specs.declared.Point.{Point}
@@ -65,7 +65,7 @@ answerLine n = line "answer=" (decimal n)
 
 -- "`cell`: index, distance bits, named triangle (4294967295 for none)."
 abbrev pub cellLine : Lent → ℕ → List ℕ
-cellLine b i = line "cell=" (spaced (decimal i) (hex8 (toBits binary32 (getD (b .field) i f0))) (decimal (getD (b .names) i 0)))
+cellLine b i = line "cell=" (spaced (decimal i) (hex8 (toBits binary32 (getD (b .field) i nan))) (decimal (getD (b .names) i 0)))
 
 -- "`row`: layer, count."
 abbrev pub rowLine : Lent → ℕ → List ℕ

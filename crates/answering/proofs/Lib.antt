@@ -1,0 +1,2 @@
+-- Laws of answering.
+pub mod Read

@@ -1,0 +1,34 @@
+-- What the function that writes a listing promises. Definitions only.
+use Prim.Native.Nat.{ℕ, _≤_}
+use mathlib.Core.Path.{_≡_}
+use mathlib.Core.List.{List, []}
+use lib.ListN.{length}
+use lib.Ieee.{Float}
+use Rattle.outcome.specs.declared.Answer.{Answer}
+use Rattle.checks.specs.Job.{Lent, lentOf}
+use Rattle.outcome.specs.Outcome.{peakOf}
+use Rattle.writing.specs.Put.{Put}
+use Rattle.listing.specs.declared.Written.{Written}
+use Rattle.listing.specs.declared.Written.the-variants.{Nothing, Bytes}
+use Rattle.listing.specs.Listing.{listed}
+
+-- the buffers that a listing shows
+abbrev pub shown : List Float → List ℕ → List ℕ → Lent
+shown field names rows = lentOf field names [] rows [] [] []
+
+-- "512 cells", as many names, and no more layers than that; and 32,768 bytes, which hold any listing of these
+pub record Few (field : List Float) (names rows out : List ℕ) : Type 0 where
+  pub room : 32768 ≤ length out
+  pub cells-few : length field ≤ 512
+  pub all-named : length names ≡ length field
+  pub rows-few : length rows ≤ 512
+
+-- what can be written: the numbers of a text are at most 4,294,967,295
+pub record Listable (a : Answer) (field : List Float) (names rows out : List ℕ) : Type 0 where
+  pub few : Few field names rows out
+  pub peak-fits : peakOf a ≤ 4294967295
+
+-- the listing stands at the first bytes of out, and the others are as they were; or it cannot be written, and out is as it was
+abbrev pub Writes : Answer → List Float → List ℕ → List ℕ → List ℕ → List ℕ → Written → Type 0
+Writes a field names rows old new Nothing = (Listable a field names rows old → ⊥) × (new ≡ old)
+Writes a field names rows old new (Bytes n) = Listable a field names rows old × Put old 0 (listed a (shown field names rows)) new n

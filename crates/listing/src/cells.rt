@@ -1,0 +1,75 @@
+// The lines of the cells and of the layers.
+use writing::put_all;
+use writing::put_decimal_then;
+use writing::put_hex8_then;
+ghost use Prim.Native.Nat.{_+_, _*_, _≤_, _<_};
+ghost use lib.ListN.{length};
+ghost use lib.Ieee.{binary32, toBits};
+ghost use mathlib.Core.Path.{_≡_};
+ghost use mathlib.Core.List.{[], _++_, _∷_};
+ghost use Rattle.text.specs.Words.{space, decimal, hex8, spaced, line, linesBelow};
+ghost use Rattle.writing.specs.Put.{Put};
+ghost use Rattle.listing.specs.Listing.{cellLine, rowLine};
+ghost use Rattle.listing.specs.Written.{shown};
+
+// The bits of a float. A NaN, which no job that is done holds, is written as 7fc00000.
+fn bits_of(x: f32) -> u32
+    ensures { λ r. ⌜ r ≡ toBits binary32 x ⌝ }
+{
+    if x != x {
+        return 0x7fc0_0000;
+    }
+    f32::to_bits(x)
+}
+
+fn put_cell(out: &mut [u8], at: usize, index: u32, distance: u32, name: u32) -> usize
+    requires { ⌜ at + 36 ≤ length (now out) ⌝ }
+    ensures { λ r. ⌜ Put (now (out .entry)) at (line "cell=" (spaced (decimal index) (hex8 distance) (decimal name))) (now (out .exit)) r ⌝ }
+    ensures { λ r. ⌜ r ≤ at + 36 ⌝ }
+{
+    let a = put_all(out, at, b"cell=");
+    let b = put_decimal_then(out, a, index, 32);
+    let c = put_hex8_then(out, b, distance, 32);
+    put_decimal_then(out, c, name, 10)
+}
+
+fn put_row(out: &mut [u8], at: usize, layer: u32, count: u32) -> usize
+    requires { ⌜ at + 26 ≤ length (now out) ⌝ }
+    ensures { λ r. ⌜ Put (now (out .entry)) at (line "row=" (decimal layer ++ space ∷ decimal count)) (now (out .exit)) r ⌝ }
+    ensures { λ r. ⌜ r ≤ at + 26 ⌝ }
+{
+    let a = put_all(out, at, b"row=");
+    let b = put_decimal_then(out, a, layer, 32);
+    put_decimal_then(out, b, count, 10)
+}
+
+pub fn put_cells(out: &mut [u8], at: usize, field: &[f32], names: &[u32]) -> usize
+    requires { ⌜ length (now field) ≤ 512 ⌝ }
+    requires { ⌜ length (now names) ≡ length (now field) ⌝ }
+    requires { ⌜ at + 36 * length (now field) ≤ length (now out) ⌝ }
+    ensures { λ r. ⌜ Put (now (out .entry)) at (linesBelow (cellLine (shown (now (field .entry)) (now (names .entry)) [])) (length (now (field .entry)))) (now (out .exit)) r ⌝ }
+    ensures { λ r. ⌜ r ≤ at + 36 * length (now (field .entry)) ⌝ }
+{
+    let mut i = 0;
+    let mut next = at;
+    while i < field.len() {
+        next = put_cell(out, next, i as u32, bits_of(field[i]), names[i]);
+        i += 1;
+    }
+    next
+}
+
+pub fn put_rows(out: &mut [u8], at: usize, rows: &[u32]) -> usize
+    requires { ⌜ length (now rows) ≤ 512 ⌝ }
+    requires { ⌜ at + 26 * length (now rows) ≤ length (now out) ⌝ }
+    ensures { λ r. ⌜ Put (now (out .entry)) at (linesBelow (rowLine (shown [] [] (now (rows .entry)))) (length (now (rows .entry)))) (now (out .exit)) r ⌝ }
+    ensures { λ r. ⌜ r ≤ at + 26 * length (now (rows .entry)) ⌝ }
+{
+    let mut z = 0;
+    let mut next = at;
+    while z < rows.len() {
+        next = put_row(out, next, z as u32, rows[z]);
+        z += 1;
+    }
+    next
+}

@@ -1,0 +1,157 @@
+-- What is listed of a job depends on the lengths of the lent buffers alone; and of a job that is done the peak keeps to the queue's
+-- room. Assumes nothing.
+use Prim.Native.Nat.{ℕ, zero, suc, _*_, _≤_, _<_}
+use native.Mathlib.Nat.{zero-mul, suc-mul, mul-le-mul}
+use native.Mathlib.Decide.{decLt}
+use native.Mathlib.Omega.{arith}
+use mathlib.Core.Path.{_≡_, refl, sym, ap, ap₂, _∙_}
+use mathlib.Core.Bool.{Bool, true, false, not, _&&_}
+use mathlib.Core.List.{List, _++_}
+use lib.ListN.{length, take, replicate, length-replicate, length-map}
+use lib.Seq.{length-take-le, take-at}
+use lib.Ieee.{Float, binary32, ofBits}
+use Rattle.float.specs.Arith.{f0}
+use Rattle.lists.specs.Turns.{Turn, goes, refuses}
+use Rattle.grid.specs.declared.Grid.{Grid}
+use Rattle.grid.specs.Axes.{onEvery}
+use Rattle.grid.specs.Index.{total}
+use Rattle.grid.specs.Bounds.{isAxis, inBounds}
+use Rattle.grid.proofs.Facts.{bounds-of, on-axis}
+use Rattle.run.specs.Run.{State}
+use Rattle.run.specs.Ground.{groundOf}
+use Rattle.run.proofs.Done.{run-done}
+use Rattle.run.proofs.Grounds.{fair-ground}
+use Rattle.outcome.specs.declared.Answer.{Answer}
+use Rattle.outcome.specs.declared.Answer.the-variants.{Refused, Done}
+use Rattle.checks.specs.Job.{Job, Lent, lentOf}
+use Rattle.checks.specs.Refusals.{wrongGrid, refusal, refusalBy, lengthsOf}
+use Rattle.outcome.specs.Outcome.{Outcome, Gives, ended, runOf, unlessRefused, outcome, peakOf}
+use Rattle.checks.proofs.Accepted.{accepted}
+use Rattle.clearing.proofs.Lengths.{lengths-same}
+use Rattle.outcome.proofs.Outcomes.{same-ended, same-run}
+use Rattle.listing.specs.Listing.{floatsOf, listed}
+use Rattle.writing.specs.Put.{Put}
+use Rattle.writing.proofs.Puts.{said}
+use Rattle.listing.specs.Written.{shown, Few, Listable}
+use Rattle.listing_run.specs.Parts.{listedOf, lentBy}
+
+-- a listing shows no other buffers
+pub as-shown : (a : Answer) (b : Lent) → listed a (shown (b .field) (b .names) (b .rows)) ≡ listed a b
+unfolding listed
+as-shown (Refused n) b = refl
+as-shown (Done pops peak) b = refl
+
+-- ---- buffers of the same lengths
+
+pub same-listed : (j : Job) (b c : Lent) → lengthsOf b ≡ lengthsOf c → listedOf j b ≡ listedOf j c
+unfolding listedOf outcome unlessRefused listed
+same-listed j b c e =
+    by (refusal j b)
+    ∙ ap (λ (n : ℕ). listed (unlessRefused n c (ended j c (runOf j c)) .answer) (unlessRefused n c (ended j c (runOf j c)) .left)) (ap (refusalBy (j .grid) (j .mesh)) e)
+  where
+    by : (n : ℕ) → listed (unlessRefused n b (ended j b (runOf j b)) .answer) (unlessRefused n b (ended j b (runOf j b)) .left)
+        ≡ listed (unlessRefused n c (ended j c (runOf j c)) .answer) (unlessRefused n c (ended j c (runOf j c)) .left)
+    by zero = ap (λ o. listed (o .answer) (o .left)) (same-ended j b c (runOf j b) e ∙ ap (ended j c) (same-run j b c e))
+    by (suc n) = refl
+
+-- ---- the peak
+
+ran-low : (j : Job) (b : Lent) → refusal j b ≡ 0 → (s : State) → runOf j b ≡ goes s → s .peak ≤ length (b .distances)
+unfolding groundOf
+ran-low j b r s h =
+    let room = length (b .distances) in
+    let fit = accepted (j .grid) (j .mesh) (lengthsOf b) r .fit in
+    run-done (groundOf (j .grid) (j .mesh) room (j .limit))
+    (fair-ground (j .grid) (j .mesh) room (j .limit) (λ a. on-axis (bounds-of (j .grid) (fit .ready .bounded)) a .some) (omega (arith, fit .few)))
+    s
+    h
+    .peak-few
+
+pub peak-low : (j : Job) (b : Lent) → peakOf (outcome j b .answer) ≤ length (b .distances)
+unfolding outcome unlessRefused ended
+peak-low j b = check (refusal j b) refl
+  where
+    turn : (o : Turn State) → refusal j b ≡ 0 → runOf j b ≡ o → peakOf (ended j b o .answer) ≤ length (b .distances)
+    turn (goes s) r e = ran-low j b r s e
+    turn (refuses n) r e = omega arith
+
+    check : (n : ℕ) → refusal j b ≡ n → peakOf (unlessRefused n b (ended j b (runOf j b)) .answer) ≤ length (b .distances)
+    check zero r = turn (runOf j b) r refl
+    check (suc n) r = omega arith
+
+-- ---- what a call gives is listed, and can be
+
+module _ {o : Outcome} {left : Lent} {answer : Answer} (given : Gives o answer left) where
+  pub given-listed : {old new : List ℕ} {n : ℕ} → Put old 0 (listed answer (shown (left .field) (left .names) (left .rows))) new n
+      → Put old 0 (listed (o .answer) (o .left)) new n
+  given-listed p = said (as-shown answer left ∙ ap₂ listed (given .answers) (given .leaves)) refl p
+
+  pub can-be-listed : {out : List ℕ} → peakOf (o .answer) ≤ 2048 → Few (left .field) (left .names) (left .rows) out
+      → Listable answer (left .field) (left .names) (left .rows) out
+  can-be-listed low few = record { few = few; peak-fits = omega (arith, ap peakOf (given .answers), low) }
+
+-- ---- buffers cut to a length
+
+pub prefix : {A : Type 0} (l : List A) (n m : ℕ) → m ≡ length l → n ≤ m → length (take n l) ≡ n
+prefix l n m e h = length-take-le n l (omega arith)
+
+pub as-long : {A : Type 0} (l : List A) (a : A) (n m : ℕ) → m ≡ length l → n ≤ m → length (take n l) ≡ length (replicate n a)
+as-long l a n m e h = prefix l n m e h ∙ sym (length-replicate n a)
+
+-- what is listed over buffers that are cut to a job's size
+pub cut-listed : (j : Job) (field : List Float) (names crossings rows ds cs ts : List ℕ) (cells layers room : ℕ) {old new : List ℕ} {n : ℕ}
+    → 512 ≡ length field → 512 ≡ length names → 1536 ≡ length crossings → 512 ≡ length rows → 2048 ≡ length ds → 2048 ≡ length cs → 2048 ≡ length ts
+    → cells ≤ 512 → layers ≤ 512 → room ≤ 2048
+    → Put old 0 (listedOf j (lentOf (take cells field) (take cells names) (take (3 * cells) crossings) (take layers rows) (take room ds) (take room cs) (take room ts))) new n
+    → Put old 0 (listedOf j (lentBy cells layers room)) new n
+cut-listed j field names crossings rows ds cs ts cells layers room f n k r d c t hc hl hr p =
+    let cut = lentOf (take cells field) (take cells names) (take (3 * cells) crossings) (take layers rows) (take room ds) (take room cs) (take room ts) in
+    let made = lentBy cells layers room in
+    said
+    (same-listed j cut made
+    (lengths-same cut made (as-long field f0 cells 512 f hc) (as-long names 0 cells 512 n hc) (as-long crossings 0 (3 * cells) 1536 k (omega arith))
+    (as-long rows 0 layers 512 r hl)
+    (as-long ds 0 room 2048 d hr)
+    (as-long cs 0 room 2048 c hr)
+    (as-long ts 0 room 2048 t hr)))
+    refl
+    p
+
+-- ---- a grid with no cells
+
+never-both : (t : Bool) → not (t && false) ≡ true
+never-both true = refl
+never-both false = refl
+
+no-cells : (g : Grid) → total g ≡ 0 → wrongGrid g ≡ true
+unfolding inBounds
+no-cells g e = rw e (never-both (onEvery (isAxis g)))
+
+pub refused-first : (j : Job) (b c : Lent) → total (j .grid) ≡ 0 → listedOf j b ≡ listedOf j c
+unfolding listedOf outcome unlessRefused listed refusalBy
+refused-first j b c e = rw (no-cells (j .grid) e)
+
+-- with at most 512 cells, more than 512 layers are those of a grid with no cells
+wide : (m z : ℕ) → m * z ≤ 512 → 512 < z → m * z ≡ 0
+wide zero z h k = zero-mul z
+wide (suc m) z h k = absurd (omega (arith, suc-mul m z))
+
+pub same-layers : (j : Job) (m z layers room : ℕ) → total (j .grid) ≡ m * z → m * z ≤ 512 → (z ≤ 512 → layers ≡ z)
+    → listedOf j (lentBy (m * z) layers room) ≡ listedOf j (lentBy (m * z) z room)
+same-layers j m z layers room t h e = by (decLt 512 z)
+  where
+    by : Dec (512 < z) → listedOf j (lentBy (m * z) layers room) ≡ listedOf j (lentBy (m * z) z room)
+    by (yes w) = refused-first j (lentBy (m * z) layers room) (lentBy (m * z) z room) (t ∙ wide m z h w)
+    by (no w) = ap (λ (k : ℕ). listedOf j (lentBy (m * z) k room)) (e (omega arith))
+
+-- ---- the floats of a job, at the front of their buffer
+
+pub long-as : {floats : List Float} (bits : List ℕ) → floats ≡ floatsOf bits → length floats ≡ length bits
+long-as bits e = ap length e ∙ length-map bits (ofBits binary32)
+
+pub front-of : {floats : List Float} (bits : List ℕ) (rest : List Float) → floats ≡ floatsOf bits → take (length bits) (floats ++ rest) ≡ floatsOf bits
+front-of {floats} bits rest e = take-at floats rest (length bits) (long-as bits e) ∙ e
+
+-- the product of two counts
+pub wide-product : {x y : ℕ} → x < 4294967296 → y < 4294967296 → x * y < 18446744073709551616
+wide-product {x} {y} h k = omega (arith, mul-le-mul {n₁ = x} {m₁ = y} {n₂ = 4294967295} {m₂ = 4294967295} (omega arith) (omega arith))

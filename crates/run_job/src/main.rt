@@ -1,0 +1,19 @@
+// The job program (document 01, "One job, one listing"): standard input is a job's text, and its listing goes
+// to standard output, or `answer=9`. All that it decides is `answering::run_text`.
+ghost use mathlib.Core.Path.{_≡_};
+ghost use lib.ListN.{length};
+
+fn room() -> [u8; 32768]
+    ensures { λ r. ⌜ 32768 ≡ length r ⌝ }
+{
+    [0; 32768]
+}
+
+fn main() {
+    // The longest text of a job has fewer than 20,000 bytes: one that fills the buffer is none.
+    let mut text = io::large_buffer();
+    let n = io::read_full(0, &mut text);
+    let mut out = room();
+    let m = answering::run_text(&text[..n], &mut out);
+    io::write_all(1, &out[..m]);
+}
