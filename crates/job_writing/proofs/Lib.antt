@@ -1,0 +1,3 @@
+-- Laws of the writer.
+pub mod Grown
+pub mod RoundTrip
