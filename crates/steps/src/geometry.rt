@@ -7,13 +7,19 @@ use crate::words::point;
 use crate::words::real;
 use crate::words::word;
 use sdf_c::geometry as c_geometry;
+ghost use mathlib.Core.Path.{_≡_};
+ghost use Rattle.steps.specs.Geometry as Geometry;
 
-pub fn sqrt(text: &[u8], base: usize) -> bool {
+pub fn sqrt(text: &[u8], base: usize) -> bool
+    ensures { λ r. ⌜ r ≡ Geometry.sqrt (now (text .entry)) base ⌝ }
+{
     let x = real(text, base, 1);
     is_real(text, base, 2, c_geometry::sdf_sqrt(x))
 }
 
-pub fn sqrt_bits(text: &[u8], base: usize) -> bool {
+pub fn sqrt_bits(text: &[u8], base: usize) -> bool
+    ensures { λ r. ⌜ r ≡ Geometry.sqrtBits (now (text .entry)) base ⌝ }
+{
     let b = word(text, base, 1);
     is_word(text, base, 2, c_geometry::sdf_sqrt_bits(b))
 }
@@ -30,7 +36,9 @@ pub fn compare(text: &[u8], base: usize) -> bool {
     is_word(text, base, 3, r.number) & is_word(text, base, 4, order)
 }
 
-pub fn triangle_box(text: &[u8], base: usize) -> bool {
+pub fn triangle_box(text: &[u8], base: usize) -> bool
+    ensures { λ r. ⌜ r ≡ Geometry.triangleBox (now (text .entry)) base ⌝ }
+{
     let a = point(text, base, 1);
     let b = point(text, base, 4);
     let c = point(text, base, 7);
@@ -40,7 +48,9 @@ pub fn triangle_box(text: &[u8], base: usize) -> bool {
         & is_point(text, base, 14, r.max)
 }
 
-pub fn segment(text: &[u8], base: usize) -> bool {
+pub fn segment(text: &[u8], base: usize) -> bool
+    ensures { λ r. ⌜ r ≡ Geometry.segment (now (text .entry)) base ⌝ }
+{
     let p = point(text, base, 1);
     let a = point(text, base, 4);
     let b = point(text, base, 7);
@@ -48,7 +58,9 @@ pub fn segment(text: &[u8], base: usize) -> bool {
     is_word(text, base, 10, r.number) & is_point(text, base, 11, r.point)
 }
 
-pub fn triangle(text: &[u8], base: usize) -> bool {
+pub fn triangle(text: &[u8], base: usize) -> bool
+    ensures { λ r. ⌜ r ≡ Geometry.triangle (now (text .entry)) base ⌝ }
+{
     let p = point(text, base, 1);
     let a = point(text, base, 4);
     let b = point(text, base, 7);
@@ -57,7 +69,9 @@ pub fn triangle(text: &[u8], base: usize) -> bool {
     is_word(text, base, 13, r.number) & is_point(text, base, 14, r.point)
 }
 
-pub fn distance(text: &[u8], base: usize) -> bool {
+pub fn distance(text: &[u8], base: usize) -> bool
+    ensures { λ r. ⌜ r ≡ Geometry.distance (now (text .entry)) base ⌝ }
+{
     let p = point(text, base, 1);
     let a = point(text, base, 4);
     let b = point(text, base, 7);
@@ -66,7 +80,9 @@ pub fn distance(text: &[u8], base: usize) -> bool {
     is_word(text, base, 13, r.number) & is_real(text, base, 14, r.distance)
 }
 
-pub fn ray(text: &[u8], base: usize) -> bool {
+pub fn ray(text: &[u8], base: usize) -> bool
+    ensures { λ r. ⌜ r ≡ Geometry.ray (now (text .entry)) base ⌝ }
+{
     let o = point(text, base, 1);
     let a = point(text, base, 4);
     let b = point(text, base, 7);

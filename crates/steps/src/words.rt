@@ -6,21 +6,30 @@ use c_records::SdfPoint;
 ghost use mathlib.Core.Path.{_≡_};
 ghost use Prim.Native.Nat.{_+_, _<_};
 ghost use lib.ListN.{length};
+ghost use Rattle.steps.specs.Words as Words;
 
 fn digit(b: u8) -> u32
-    ensures { λ r. ⌜ r < 16 ⌝ }
+    ensures { λ r. ⌜ (r < 16) × (r ≡ Words.digitOf b) ⌝ }
 {
-    match b {
-        48..=57 => (b - 48) as u32,
-        97..=102 => (b - 87) as u32,
-        _ => 0,
+    if b < 48 {
+        return 0;
     }
+    if b < 58 {
+        return (b - 48) as u32;
+    }
+    if b < 97 {
+        return 0;
+    }
+    if b < 103 {
+        return (b - 87) as u32;
+    }
+    0
 }
 
 // Two digits.
 fn byte(text: &[u8], at: usize) -> u32
     requires { ⌜ at + 1 < length (now text) ⌝ }
-    ensures { λ r. ⌜ r < 256 ⌝ }
+    ensures { λ r. ⌜ (r < 256) × (r ≡ Words.byteAt (now (text .entry)) at) ⌝ }
 {
     digit(text[at]) * 16 + digit(text[at + 1])
 }
@@ -28,6 +37,7 @@ fn byte(text: &[u8], at: usize) -> u32
 // Word k of the case that begins with word `base`.
 pub fn word(text: &[u8], base: usize, k: usize) -> u32
     requires { ⌜ k < 64 ⌝ }
+    ensures { λ r. ⌜ r ≡ Words.wordAt (now (text .entry)) base k ⌝ }
 {
     let words = text.len() / 9;
     if words <= base {
@@ -46,6 +56,7 @@ pub fn word(text: &[u8], base: usize, k: usize) -> u32
 // A NaN's pattern is read as the language's one NaN.
 pub fn real(text: &[u8], base: usize, k: usize) -> f32
     requires { ⌜ k < 64 ⌝ }
+    ensures { λ r. ⌜ r ≡ Words.realAt (now (text .entry)) base k ⌝ }
 {
     let w = word(text, base, k);
     let size = w % 0x8000_0000;
@@ -58,6 +69,7 @@ pub fn real(text: &[u8], base: usize, k: usize) -> f32
 
 pub fn point(text: &[u8], base: usize, k: usize) -> SdfPoint
     requires { ⌜ k < 62 ⌝ }
+    ensures { λ r. ⌜ r ≡ Words.pointAt (now (text .entry)) base k ⌝ }
 {
     SdfPoint {
         x: real(text, base, k),
@@ -68,6 +80,7 @@ pub fn point(text: &[u8], base: usize, k: usize) -> SdfPoint
 
 pub fn cell(text: &[u8], base: usize, k: usize) -> SdfCell
     requires { ⌜ k < 62 ⌝ }
+    ensures { λ r. ⌜ r ≡ Words.cellAt (now (text .entry)) base k ⌝ }
 {
     SdfCell {
         x: word(text, base, k),
@@ -77,7 +90,9 @@ pub fn cell(text: &[u8], base: usize, k: usize) -> SdfCell
 }
 
 // A grid is the first that goes into a step.
-pub fn grid(text: &[u8], base: usize) -> SdfGrid {
+pub fn grid(text: &[u8], base: usize) -> SdfGrid
+    ensures { λ r. ⌜ r ≡ Words.gridAt (now (text .entry)) base ⌝ }
+{
     SdfGrid {
         first: point(text, base, 1),
         size: point(text, base, 4),
@@ -89,6 +104,7 @@ pub fn grid(text: &[u8], base: usize) -> SdfGrid {
 
 pub fn is_word(text: &[u8], base: usize, k: usize, w: u32) -> bool
     requires { ⌜ k < 64 ⌝ }
+    ensures { λ r. ⌜ r ≡ Words.isWord (now (text .entry)) base k w ⌝ }
 {
     word(text, base, k) == w
 }
@@ -96,6 +112,7 @@ pub fn is_word(text: &[u8], base: usize, k: usize, w: u32) -> bool
 // The NaN is stored as 7fc00000.
 pub fn is_real(text: &[u8], base: usize, k: usize, x: f32) -> bool
     requires { ⌜ k < 64 ⌝ }
+    ensures { λ r. ⌜ r ≡ Words.isReal (now (text .entry)) base k x ⌝ }
 {
     let w = word(text, base, k);
     if x != x {
@@ -106,12 +123,14 @@ pub fn is_real(text: &[u8], base: usize, k: usize, x: f32) -> bool
 
 pub fn is_point(text: &[u8], base: usize, k: usize, p: SdfPoint) -> bool
     requires { ⌜ k < 62 ⌝ }
+    ensures { λ r. ⌜ r ≡ Words.isPoint (now (text .entry)) base k p ⌝ }
 {
     is_real(text, base, k, p.x) & is_real(text, base, k + 1, p.y) & is_real(text, base, k + 2, p.z)
 }
 
 pub fn is_cell(text: &[u8], base: usize, k: usize, c: SdfCell) -> bool
     requires { ⌜ k < 62 ⌝ }
+    ensures { λ r. ⌜ r ≡ Words.isCell (now (text .entry)) base k c ⌝ }
 {
     is_word(text, base, k, c.x) & is_word(text, base, k + 1, c.y) & is_word(text, base, k + 2, c.z)
 }

@@ -1,0 +1,20 @@
+-- `words::byte`: its two digits. Assumes nothing.
+use borrow.Author.Needs.{needs}
+use native.Mathlib.Omega.{arith}
+use Rattle.steps.specs.Words.{byteAt}
+use Rattle.steps.proofs.words.byte.Statement.{statement}
+use Rattle.steps.proofs.words.byte.Tie as tie
+
+pub byte-spec : {M : Type 1} → statement M
+unfolding byteAt
+byte-spec =
+    tie.close
+    (tie.spec
+    (λ c. search needs)
+    (λ c κs. search needs)
+    (λ c. search needs)
+    (λ c. search needs)
+    (λ c. search needs)
+    (λ c κs. search needs)
+    (λ c. search needs)
+    (λ c. (omega arith, rw (c .digit2 .ensures .1, c .before .before .digit .ensures .1))))

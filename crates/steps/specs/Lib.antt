@@ -1,0 +1,3 @@
+pub mod Words
+pub mod Geometry
+pub mod Grids
