@@ -9,7 +9,7 @@ returns : tie.Need-returns
 returns c = search needs
 
 returns-2 : tie.Need-returns-2
-returns-2 c = search needs
+returns-2 c = (λ f. omega (arith, f .vertices-few, c .if2 .taken), refl)
 
 mul-if3 : tie.Need-mul-if3
 mul-if3 c = search needs
