@@ -1,2 +1,3 @@
 pub mod Records
 pub mod Same
+pub mod Calls

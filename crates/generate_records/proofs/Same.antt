@@ -65,5 +65,5 @@ same-job j field names crossings rows queue ds cs ts d c t answer answer′ left
     let b = lentRow field names crossings rows queue in
     let flat = lentOf field names crossings rows ds cs ts in
     let same = same-outcome j b flat (record { field = refl; names = refl; crossings = refl; rows = refl })
-        (lengths-same b flat refl refl refl refl (length-map queue (λ (e : Entry). e .distance) ∙ sym d) (length-map queue (λ (e : Entry). e .cell) ∙ sym c) (length-map queue (λ (e : Entry). e .triangle) ∙ sym t)) in
+    (lengths-same b flat refl refl refl refl (length-map queue (λ (e : Entry). e .distance) ∙ sym d) (length-map queue (λ (e : Entry). e .cell) ∙ sym c) (length-map queue (λ (e : Entry). e .triangle) ∙ sym t)) in
     (p .answers ∙ same .answer ∙ sym (q .answers), joined (p .leaves) (same .left) (q .leaves))
