@@ -26,8 +26,8 @@ pub record Finished (g : Grid) (m : Mesh) (old new : List Float) (counts layers 
   pub field : new ≡ signedField g m old
   pub rows : layers ≡ rows g (signedField g m old)
 
--- After a run that came to ran: field to rows are then field′ to rows′. A refusal is answered by its number and clears them; else the
--- answer is what was taken and waited, and the names stay.
+-- After a run that came to ran: field to layers, the rows, are then field′ to layers′. A refusal is answered by its number and clears
+-- them; else the answer is what was taken and waited, and the names stay.
 pub record Closed (g : Grid) (m : Mesh) (ran : Progress) (field : List Float) (names crossings layers : List ℕ) (field′ : List Float) (names′ crossings′ layers′ : List ℕ) (answer : Answer) : Type 0 where
   pub refused : (ran .number ≡ 0 → ⊥) → (answer ≡ Refused (ran .number)) × ClearedFields field field′ names crossings layers names′ crossings′ layers′
   pub done : ran .number ≡ 0 → (answer ≡ Done (ran .pops) (ran .peak)) × (names′ ≡ names) × Finished g m field field′ crossings′ layers′
