@@ -30,7 +30,6 @@ use denote.Laws.{Is}
 use denote.Plain.{uint-vals, uint-tells, uint-makes}
 use denote.Builtin.{u32, f32, usize}
 use denote.Ref.{RefT}
-use denote.Array.{array-typed}
 use denote.Slice.{sliceTy, sliceVal, MutSlice, ShrSlice, Room, slice-vals, mut-slice-tells, shr-slice-tells}
 use denote.Signature.{plain}
 use denote.Steps.{owned, nothing}
@@ -69,7 +68,7 @@ use Rattle.outcome.proofs.Answer as An
 use Rattle.outcome.proofs.Answer.Laws as An′
 use Rattle.generate_records.proofs.JobCall.{WholeJob, calls-job}
 use Rattle.own_row.specs.Own.{lentOwn, GivesFour}
-use Rattle.own_row.proofs.Own.{row-is, lends-first, comes-home}
+use Rattle.own_row.proofs.Own.{row-typed, lends-first, comes-home}
 use Rattle.own_row.proofs.Zeros.{first-long, gives-four}
 use Rattle.generate_records.proofs.generate_grid_sdf_records.Symbol as job-def
 use Rattle.generate_records.proofs.generate_grid_sdf_records.Symbol.{name as #generate-records·generate-grid-sdf-records}
@@ -179,7 +178,6 @@ module _ {M : Type 1} (𝓤 : URA M) (H : Heap 𝓤) (A : Atoms 𝓤) (W : Given
   own-room : Room E.the-row (length row)
   own-room = (omega (arith, row-long, few), omega (arith, row-long, few))
 
-
   -- what is lent goes back, with what is promised of it
   exits : (field′ : List Float) (names′ : List ℕ) (crossings′ : List ℕ) (rows′ : List ℕ) (r : Answer) → length field′ ≡ length field → length names′ ≡ length names → length crossings′ ≡ length crossings → length rows′ ≡ length rows → Is An.the-row r (EL.val An.the-type An′.the-laws r ∷ []) → GivesFour (outcome (jobOf grid (vertices .now) topology given (indices .now) limit) (lentOwn field names crossings rows room)) r field′ names′ crossings′ rows′ → ent 𝓤 (⋆ 𝓤 H A (Lent-vertices ∷ ‵ (flft κ-vertices q-vertices) ∷ Lent-indices ∷ ‵ (flft κ-indices q-indices) ∷ Lent-field field′ ∷ ‵ (flft κ-field q-field) ∷ Lent-names names′ ∷ ‵ (flft κ-names q-names) ∷ Lent-crossings crossings′ ∷ ‵ (flft κ-crossings q-crossings) ∷ Lent-rows rows′ ∷ ‵ (flft κ-rows q-rows) ∷ [])) (Post (EL.val An.the-type An′.the-laws r))
   exits field′ names′ crossings′ rows′ r l-field l-names l-crossings l-rows r-is is =
@@ -230,7 +228,7 @@ module _ {M : Type 1} (𝓤 : URA M) (H : Heap 𝓤) (A : Atoms 𝓤) (W : Given
     goes =
         -- an array that is all zero
         assigns ! (agg ! (and-then ! (lit ! tt) (and-then ! (lit ! tt) (and-then ! (lit ! tt) (no-more !))))) (here !) (init ! 34 refl (LL.lawful E.the-type E′.the-laws 𝓤 H A W .typed blank _ blank-is .0)) $
-        assigns ! (rep ! 2048 (val ! 34 refl)) (here !) (init ! 32 refl (array-typed E.the-row (LL.lawful E.the-type E′.the-laws 𝓤 H A W .typed) 2048 _ _ (row-is 2048 blank blank-is) .0)) $
+        assigns ! (rep ! 2048 (val ! 34 refl)) (here !) (init ! 32 refl (row-typed 𝓤 H A W 2048 blank blank-is)) $
         assigns ! (addr ! (from ! (fld ! refl (hop ! (look-in ! 46 (sub ! 0 refl (whole !))) (stop !))))) (here !) (init ! 30 refl (tt, tt)) $
         assigns ! (agg ! (and-then ! (val ! 30 refl) (and-then ! (load ! (from ! (fld ! refl (stop !))) (look-in ! 46 (sub ! 1 refl (whole !)))) (no-more !)))) (here !) (init ! 28 refl (tt, (tt, (record { fits = room-field .0 }, tt)))) $
         assigns ! (addr ! (from ! (fld ! refl (hop ! (look-in ! 44 (sub ! 0 refl (whole !))) (stop !))))) (here !) (init ! 26 refl (tt, tt)) $
@@ -279,7 +277,7 @@ module _ {M : Type 1} (𝓤 : URA M) (H : Heap 𝓤) (A : Atoms 𝓤) (W : Given
       (λ κs. (LL.vals Gr.the-type Gr′.the-laws, (slice-vals, (EL.vals P.the-type P′.the-laws, (EL.vals I.the-type I′.the-laws, (slice-vals, (slice-vals, (slice-vals, (slice-vals, (slice-vals, (uint-vals w64, (uint-vals w32, tt))))))))))))
       (λ κs. (LL.tells Gr.the-type Gr′.the-laws, (shr-slice-tells (named 0) (κs .0) f32, (EL.tells P.the-type P′.the-laws, (EL.tells I.the-type I′.the-laws, (shr-slice-tells (named 1) (κs .1 .0) u32, (mut-slice-tells (named 2) (κs .1 .1 .0) f32, (mut-slice-tells (named 3) (κs .1 .1 .1 .0) u32, (mut-slice-tells (named 4) (κs .1 .1 .1 .1 .0) u32, (mut-slice-tells (named 5) (κs .1 .1 .1 .1 .1 .0) u32, (uint-tells w64, (uint-tells w32, tt))))))))))))
       (λ κs qs bounds a g are. needs 𝓤 (a .1 .1 .1 .1 .1 .1 .1 .1 .1 .0 ≤ 2048) _
-      (λ pre. walk 𝓤 H A W mem run (a .0) (κs .0) (qs .0) (a .1 .0) (a .1 .1 .0) (a .1 .1 .1 .0) (κs .1 .0) (qs .1 .0) (a .1 .1 .1 .1 .0) (κs .1 .1 .0) (qs .1 .1 .0) (a .1 .1 .1 .1 .1 .0 .ptr .0) (a .1 .1 .1 .1 .1 .0 .ptr .1) (a .1 .1 .1 .1 .1 .0 .name) (a .1 .1 .1 .1 .1 .0 .now) (κs .1 .1 .1 .0) (qs .1 .1 .1 .0) (a .1 .1 .1 .1 .1 .1 .0 .ptr .0) (a .1 .1 .1 .1 .1 .1 .0 .ptr .1) (a .1 .1 .1 .1 .1 .1 .0 .name) (a .1 .1 .1 .1 .1 .1 .0 .now) (κs .1 .1 .1 .1 .0) (qs .1 .1 .1 .1 .0) (a .1 .1 .1 .1 .1 .1 .1 .0 .ptr .0) (a .1 .1 .1 .1 .1 .1 .1 .0 .ptr .1) (a .1 .1 .1 .1 .1 .1 .1 .0 .name) (a .1 .1 .1 .1 .1 .1 .1 .0 .now) (κs .1 .1 .1 .1 .1 .0) (qs .1 .1 .1 .1 .1 .0) (a .1 .1 .1 .1 .1 .1 .1 .1 .0 .ptr .0) (a .1 .1 .1 .1 .1 .1 .1 .1 .0 .ptr .1) (a .1 .1 .1 .1 .1 .1 .1 .1 .0 .name) (a .1 .1 .1 .1 .1 .1 .1 .1 .0 .now) (a .1 .1 .1 .1 .1 .1 .1 .1 .1 .0) (a .1 .1 .1 .1 .1 .1 .1 .1 .1 .1 .0) (are .0) (are .1 .0 .0 .1) (are .1 .1 .0) (are .1 .1 .1 .0) (are .1 .1 .1 .1 .0 .0 .1) (are .1 .1 .1 .1 .1 .0 .0 .1) (are .1 .1 .1 .1 .1 .1 .0 .0 .1) (are .1 .1 .1 .1 .1 .1 .1 .0 .0 .1) (are .1 .1 .1 .1 .1 .1 .1 .1 .0 .0 .1) (are .1 .1 .1 .1 .1 .1 .1 .1 .1 .0 .1) (are .1 .1 .1 .1 .1 .1 .1 .1 .1 .1 .0 .1) (pre .0) 𝓣 job))
+      (λ pre. walk 𝓤 H A W mem run (a .0) (κs .0) (qs .0) (a .1 .0) (a .1 .1 .0) (a .1 .1 .1 .0) (κs .1 .0) (qs .1 .0) (a .1 .1 .1 .1 .0) (κs .1 .1 .0) (qs .1 .1 .0) (a .1 .1 .1 .1 .1 .0 .ptr .0) (a .1 .1 .1 .1 .1 .0 .ptr .1) (a .1 .1 .1 .1 .1 .0 .name) (a .1 .1 .1 .1 .1 .0 .now) (κs .1 .1 .1 .0) (qs .1 .1 .1 .0) (a .1 .1 .1 .1 .1 .1 .0 .ptr .0) (a .1 .1 .1 .1 .1 .1 .0 .ptr .1) (a .1 .1 .1 .1 .1 .1 .0 .name) (a .1 .1 .1 .1 .1 .1 .0 .now) (κs .1 .1 .1 .1 .0) (qs .1 .1 .1 .1 .0) (a .1 .1 .1 .1 .1 .1 .1 .0 .ptr .0) (a .1 .1 .1 .1 .1 .1 .1 .0 .ptr .1) (a .1 .1 .1 .1 .1 .1 .1 .0 .name) (a .1 .1 .1 .1 .1 .1 .1 .0 .now) (κs .1 .1 .1 .1 .1 .0) (qs .1 .1 .1 .1 .1 .0) (a .1 .1 .1 .1 .1 .1 .1 .1 .0 .ptr .0) (a .1 .1 .1 .1 .1 .1 .1 .1 .0 .ptr .1) (a .1 .1 .1 .1 .1 .1 .1 .1 .0 .name) (a .1 .1 .1 .1 .1 .1 .1 .1 .0 .now) (a .1 .1 .1 .1 .1 .1 .1 .1 .1 .0) (a .1 .1 .1 .1 .1 .1 .1 .1 .1 .1 .0) (are .0) (are .1 .0 .0 .1) (are .1 .1 .0) (are .1 .1 .1 .0) (are .1 .1 .1 .1 .0 .0 .1) (are .1 .1 .1 .1 .1 .0 .0 .1) (are .1 .1 .1 .1 .1 .1 .0 .0 .1) (are .1 .1 .1 .1 .1 .1 .1 .0 .0 .1) (are .1 .1 .1 .1 .1 .1 .1 .1 .0 .0 .1) (are .1 .1 .1 .1 .1 .1 .1 .1 .1 .0 .1) (are .1 .1 .1 .1 .1 .1 .1 .1 .1 .1 .0 .1) pre 𝓣 job))
 
 meets : {M : Type 1} (𝓤 : URA M) (H : Heap 𝓤) (A : Atoms 𝓤) → Given 𝓤 H A → (mem : Memory → SProp 𝓤) (run : Routine → Fun 𝓤) (𝓣 : Tables 𝓤 H) → Triple 𝓤 (𝓣 .C #generate-records·generate-grid-sdf-records) (WholeJob 𝓤 H A mem run) → Meets 𝓤 H A f.signature (WpFn 𝓤 H (𝓣 .C) (𝓣 .Λ) code.function) (f.spec 𝓤 H A mem run)
 meets 𝓤 H A W mem run 𝓣 job =
