@@ -17,8 +17,9 @@ fn words_768() -> [u32; 768]
 
 // Answers a text: puts the listing of its job at the front of `out`, or `answer=9` where it is the text of no
 // job within the program's limits, and tells how many bytes that are. `out` must have room for the longest
-// listing, 32,768 bytes: else nothing is put.
-pub fn run_text(text: &[u8], out: &mut [u8]) -> usize
+// listing, 32,768 bytes: else nothing is put. The job's queue is a row of records, or three buffers: the listing
+// is the same.
+pub fn run_text_by(text: &[u8], out: &mut [u8], records: bool) -> usize
     ensures { λ r. ⌜ Within r (now (out .exit)) ⌝ }
     ensures { λ r. ⌜ (32768 ≤ length (now (out .entry)) → Answered (now (text .entry)) (now (out .entry)) (now (out .exit)) r) ⌝ }
     ensures { λ r. ⌜ (length (now (out .entry)) < 32768 → (r ≡ 0) × (now (out .exit) ≡ now (out .entry))) ⌝ }
@@ -49,8 +50,18 @@ pub fn run_text(text: &[u8], out: &mut [u8]) -> usize
                 &indices[..k],
                 asked.room,
                 asked.limit,
+                records,
                 out,
             )
         }
     }
+}
+
+// The same over three buffers.
+pub fn run_text(text: &[u8], out: &mut [u8]) -> usize
+    ensures { λ r. ⌜ Within r (now (out .exit)) ⌝ }
+    ensures { λ r. ⌜ (32768 ≤ length (now (out .entry)) → Answered (now (text .entry)) (now (out .entry)) (now (out .exit)) r) ⌝ }
+    ensures { λ r. ⌜ (length (now (out .entry)) < 32768 → (r ≡ 0) × (now (out .exit) ≡ now (out .entry))) ⌝ }
+{
+    run_text_by(text, out, false)
 }

@@ -33,6 +33,7 @@ use Rattle.listing.specs.Listing.{floatsOf, listed}
 use Rattle.writing.specs.Put.{Put}
 use Rattle.writing.proofs.Puts.{said}
 use Rattle.listing.specs.Written.{shown, Few, Listable}
+use Rattle.own_row.specs.Own.{GivesFour}
 use Rattle.listing_run.specs.Parts.{listedOf, lentBy}
 
 -- a listing shows no other buffers
@@ -81,14 +82,29 @@ peak-low j b = check (refusal j b) refl
 
 -- ---- what a call gives is listed, and can be
 
-module _ {o : Outcome} {left : Lent} {answer : Answer} (given : Gives o answer left) where
-  pub given-listed : {old new : List ℕ} {n : ℕ} → Put old 0 (listed answer (shown (left .field) (left .names) (left .rows))) new n
-      → Put old 0 (listed (o .answer) (o .left)) new n
-  given-listed p = said (as-shown answer left ∙ ap₂ listed (given .answers) (given .leaves)) refl p
+-- what a call over all the buffers gives in the first four
+pub of-four : {o : Outcome} {answer : Answer} {left : Lent} → Gives o answer left → GivesFour o answer (left .field) (left .names) (left .crossings) (left .rows)
+of-four given =
+    record {
+      answers = given .answers;
+      field-left = ap (λ (l : Lent). l .field) (given .leaves);
+      names-left = ap (λ (l : Lent). l .names) (given .leaves);
+      crossings-left = ap (λ (l : Lent). l .crossings) (given .leaves);
+      rows-left = ap (λ (l : Lent). l .rows) (given .leaves);
+    }
 
-  pub can-be-listed : {out : List ℕ} → peakOf (o .answer) ≤ 2048 → Few (left .field) (left .names) (left .rows) out
-      → Listable answer (left .field) (left .names) (left .rows) out
-  can-be-listed low few = record { few = few; peak-fits = omega (arith, ap peakOf (given .answers), low) }
+module _ {o : Outcome} {answer : Answer} {field : List Float} {names crossings rows : List ℕ} (given : GivesFour o answer field names crossings rows) where
+  pub given-listed : {old new : List ℕ} {n : ℕ} → Put old 0 (listed answer (shown field names rows)) new n → Put old 0 (listed (o .answer) (o .left)) new n
+  given-listed p =
+      said ((λ i. listed (given .answers i) (shown (given .field-left i) (given .names-left i) (given .rows-left i))) ∙ as-shown (o .answer) (o .left)) refl p
+
+  pub can-be-listed : {old-field : List Float} {old-names old-rows out : List ℕ} → peakOf (o .answer) ≤ 2048 → Few old-field old-names old-rows out
+      → length field ≡ length old-field → length names ≡ length old-names → length rows ≡ length old-rows → Listable answer field names rows out
+  can-be-listed low few f n r =
+      record {
+        few = record { room = few .room; cells-few = omega (arith, few .cells-few, f); all-named = n ∙ few .all-named ∙ sym f; rows-few = omega (arith, few .rows-few, r) };
+        peak-fits = omega (arith, ap peakOf (given .answers), low);
+      }
 
 -- ---- buffers cut to a length
 
@@ -98,22 +114,30 @@ prefix l n m e h = length-take-le n l (omega arith)
 pub as-long : {A : Type 0} (l : List A) (a : A) (n m : ℕ) → m ≡ length l → n ≤ m → length (take n l) ≡ length (replicate n a)
 as-long l a n m e h = prefix l n m e h ∙ sym (length-replicate n a)
 
--- what is listed over buffers that are cut to a job's size
+-- such buffers have room for a listing
+pub few-cut : (field : List Float) (names rows : List ℕ) {out : List ℕ} (cells layers : ℕ) → 512 ≡ length field → 512 ≡ length names → 512 ≡ length rows
+    → cells ≤ 512 → layers ≤ 512 → 32768 ≤ length out → Few (take cells field) (take cells names) (take layers rows) out
+few-cut field names rows cells layers f n r hc hl room =
+    let long = prefix field cells 512 f hc in
+    record { room = room; cells-few = omega (arith, long, hc); all-named = prefix names cells 512 n hc ∙ sym long; rows-few = omega (arith, prefix rows layers 512 r hl, hl) }
+
+-- what is listed over buffers that are cut to a job's size, and any queue of the room
 pub cut-listed : (j : Job) (field : List Float) (names crossings rows ds cs ts : List ℕ) (cells layers room : ℕ) {old new : List ℕ} {n : ℕ}
-    → 512 ≡ length field → 512 ≡ length names → 1536 ≡ length crossings → 512 ≡ length rows → 2048 ≡ length ds → 2048 ≡ length cs → 2048 ≡ length ts
-    → cells ≤ 512 → layers ≤ 512 → room ≤ 2048
-    → Put old 0 (listedOf j (lentOf (take cells field) (take cells names) (take (3 * cells) crossings) (take layers rows) (take room ds) (take room cs) (take room ts))) new n
+    → 512 ≡ length field → 512 ≡ length names → 1536 ≡ length crossings → 512 ≡ length rows → length ds ≡ room → length cs ≡ room → length ts ≡ room
+    → cells ≤ 512 → layers ≤ 512
+    → Put old 0 (listedOf j (lentOf (take cells field) (take cells names) (take (3 * cells) crossings) (take layers rows) ds cs ts)) new n
     → Put old 0 (listedOf j (lentBy cells layers room)) new n
-cut-listed j field names crossings rows ds cs ts cells layers room f n k r d c t hc hl hr p =
-    let cut = lentOf (take cells field) (take cells names) (take (3 * cells) crossings) (take layers rows) (take room ds) (take room cs) (take room ts) in
+cut-listed j field names crossings rows ds cs ts cells layers room f n k r d c t hc hl p =
+    let cut = lentOf (take cells field) (take cells names) (take (3 * cells) crossings) (take layers rows) ds cs ts in
     let made = lentBy cells layers room in
+    let zero-long : length {A = ℕ} (replicate room 0) ≡ room = length-replicate room 0 in
     said
     (same-listed j cut made
     (lengths-same cut made (as-long field f0 cells 512 f hc) (as-long names 0 cells 512 n hc) (as-long crossings 0 (3 * cells) 1536 k (omega arith))
     (as-long rows 0 layers 512 r hl)
-    (as-long ds 0 room 2048 d hr)
-    (as-long cs 0 room 2048 c hr)
-    (as-long ts 0 room 2048 t hr)))
+    (d ∙ sym zero-long)
+    (c ∙ sym zero-long)
+    (t ∙ sym zero-long)))
     refl
     p
 

@@ -5,6 +5,8 @@ use generate::generate_grid_sdf;
 use grid::Grid;
 use listing::Written;
 use listing::write_listing;
+use outcome::Answer;
+use own_row::run_records;
 use point::Point;
 use text::Three;
 use topology::Indices;
@@ -14,9 +16,22 @@ ghost use lib.ListN.{length};
 ghost use mathlib.Core.Path.{_≡_};
 ghost use Rattle.checks.specs.Job.{jobOf, lentOf};
 ghost use Rattle.writing.specs.Put.{Put};
-ghost use Rattle.listing.specs.Listing.{pointOf, floatsOf};
-ghost use Rattle.listing.specs.Written.{Few};
+ghost use Rattle.listing.specs.Listing.{pointOf, floatsOf, listed};
+ghost use Rattle.listing.specs.Written.{Few, Listable, shown};
+ghost use Rattle.own_row.specs.Own.{lentOwn};
 ghost use Rattle.listing_run.specs.Parts.{listedOf, gridBy, lentBy};
+
+// Lists an answer and what its job left, which can be written.
+fn put_listing(answer: Answer, field: &[f32], names: &[u32], rows: &[u32], out: &mut [u8]) -> usize
+    requires { ⌜ Listable answer (now field) (now names) (now rows) (now out) ⌝ }
+    ensures { λ r. ⌜ Put (now (out .entry)) 0 (listed answer (shown (now (field .entry)) (now (names .entry)) (now (rows .entry)))) (now (out .exit)) r ⌝ }
+{
+    let written = write_listing(answer, field, names, rows, out);
+    match written {
+        Written::Bytes(n) => n,
+        Written::Nothing => 0,
+    }
+}
 
 // Runs the job over the lent buffers, and lists what it came to.
 fn list_outcome(
@@ -54,11 +69,42 @@ fn list_outcome(
         triangles,
         limit,
     );
-    let written = write_listing(answer, field, names, rows, out);
-    match written {
-        Written::Bytes(n) => n,
-        Written::Nothing => 0,
-    }
+    put_listing(answer, field, names, rows, out)
+}
+
+// The same over a row of records, with room for so many entries.
+fn list_records(
+    grid: Grid,
+    vertices: &[f32],
+    topology: Topology,
+    given: Indices,
+    indices: &[u32],
+    field: &mut [f32],
+    names: &mut [u32],
+    crossings: &mut [u32],
+    rows: &mut [u32],
+    room: usize,
+    limit: u32,
+    out: &mut [u8],
+) -> usize
+    requires { ⌜ Few (now field) (now names) (now rows) (now out) ⌝ }
+    requires { ⌜ room ≤ 2048 ⌝ }
+    ensures { λ r. ⌜ Put (now (out .entry)) 0 (listedOf (jobOf grid (now (vertices .entry)) topology given (now (indices .entry)) limit) (lentOwn (now (field .entry)) (now (names .entry)) (now (crossings .entry)) (now (rows .entry)) room)) (now (out .exit)) r ⌝ }
+{
+    let answer = run_records(
+        grid,
+        vertices,
+        topology,
+        given,
+        indices,
+        field,
+        names,
+        crossings,
+        rows,
+        room,
+        limit,
+    );
+    put_listing(answer, field, names, rows, out)
 }
 
 // Buffers for 512 cells and 2,048 entries. That they are zero is said of their lengths alone, since nothing
@@ -94,7 +140,8 @@ fn words_2048() -> [u32; 2048]
     [0; 2048]
 }
 
-// The same over buffers of its own: so many cells, layers and entries.
+// The same over buffers of its own: so many cells, layers and entries, which are in a row of records or in three
+// buffers. What is listed is the same.
 fn list_run(
     grid: Grid,
     vertices: &[f32],
@@ -105,29 +152,50 @@ fn list_run(
     layers: usize,
     room: usize,
     limit: u32,
+    records: bool,
     out: &mut [u8],
 ) -> usize
     requires { ⌜ (total ≤ 512) × (layers ≤ 512) × (room ≤ 2048) × (32768 ≤ length (now out)) ⌝ }
     ensures { λ r. ⌜ Put (now (out .entry)) 0 (listedOf (jobOf grid (now (vertices .entry)) topology given (now (indices .entry)) limit) (lentBy total layers room)) (now (out .exit)) r ⌝ }
 {
-    let mut field = floats_512();
-    let mut names = words_512();
-    let mut crossings = words_1536();
-    let mut rows = words_512();
+    let mut field_room = floats_512();
+    let mut names_room = words_512();
+    let mut crossings_room = words_1536();
+    let mut rows_room = words_512();
+    let counts = 3 * total;
+    let field = &mut field_room[..total];
+    let names = &mut names_room[..total];
+    let crossings = &mut crossings_room[..counts];
+    let rows = &mut rows_room[..layers];
+    if records {
+        return list_records(
+            grid,
+            vertices,
+            topology,
+            given,
+            indices,
+            field,
+            names,
+            crossings,
+            rows,
+            room,
+            limit,
+            out,
+        );
+    }
     let mut distances = words_2048();
     let mut cells = words_2048();
     let mut triangles = words_2048();
-    let counts = 3 * total;
     list_outcome(
         grid,
         vertices,
         topology,
         given,
         indices,
-        &mut field[..total],
-        &mut names[..total],
-        &mut crossings[..counts],
-        &mut rows[..layers],
+        field,
+        names,
+        crossings,
+        rows,
         &mut distances[..room],
         &mut cells[..room],
         &mut triangles[..room],
@@ -167,7 +235,8 @@ fn layers_of(z: u32) -> usize
     if 512 < z { 0 } else { z as usize }
 }
 
-// Answers the job of these parts, which is within the program's limits.
+// Answers the job of these parts, which is within the program's limits, over a row of records or over three
+// buffers.
 pub fn answer_job(
     count: Three,
     first: Three,
@@ -178,6 +247,7 @@ pub fn answer_job(
     indices: &[u32],
     room: u32,
     limit: u32,
+    records: bool,
     out: &mut [u8],
 ) -> usize
     requires { ⌜ (count .x * count .y * count .z ≤ 512) × (length (now bits) ≤ 768) × (room ≤ 2048) × (32768 ≤ length (now out)) ⌝ }
@@ -200,6 +270,7 @@ pub fn answer_job(
         layers,
         entries,
         limit,
+        records,
         out,
     )
 }

@@ -6,8 +6,8 @@ use Rattle.answering.proofs.Read.{one-output}
 use Rattle.replay.proofs.is_owed.Statement.{statement}
 use Rattle.replay.proofs.is_owed.Tie as tie
 
-run-text-requires : tie.Need-run-text-requires
-run-text-requires c κs = search needs
+run-text-by-requires : tie.Need-run-text-by-requires
+run-text-by-requires c κs = search needs
 
 slice-reshare-prefix-same : tie.Need-slice-reshare-prefix-same
 slice-reshare-prefix-same c = search needs
@@ -24,7 +24,7 @@ same-length c = search needs
 returns : tie.Need-returns
 returns c =
     let s = c .before .before .before .before .before .before .before .before .before in
-    let A = c .before .before .before .before .run-text .ensures .1 .0 (s .pre) in
+    let A = c .before .before .before .before .run-text-by .ensures .1 .0 (s .pre) in
     let e = c .same .ensures in
     ((λ h. subst (Prints (s .args .text .now)) (sym (A .put .front) ∙ e .0 h) (A .prints)), (λ P. e .1 (A .put .front ∙ one-output (A .output) (s .args .owed .now) (A .prints) P)))
 
@@ -32,7 +32,7 @@ pub is-owed-spec : {M : Type 1} → statement M
 is-owed-spec =
     tie.close
     (tie.spec
-    run-text-requires
+    run-text-by-requires
     slice-reshare-prefix-same
     slice-aggregate-same
     same-requires

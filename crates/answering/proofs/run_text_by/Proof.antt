@@ -1,4 +1,4 @@
--- `answering::run_text` meets its contract, by what the text is read as. Assumes nothing.
+-- `answering::run_text_by` meets its contract, by what the text is read as. Assumes nothing.
 use Prim.Native.Nat.{_*_, _≤_}
 use native.Mathlib.Omega.{arith}
 use mathlib.Core.Path.{refl, sym}
@@ -9,8 +9,8 @@ use Rattle.text.specs.Words.{line}
 use Rattle.writing.proofs.Puts.{cut, inside}
 use Rattle.listing.specs.Listing.{answerLine, unreadable}
 use Rattle.answering.proofs.Read.{few-cells, few-entries, answered}
-use Rattle.answering.proofs.run_text.Statement.{statement}
-use Rattle.answering.proofs.run_text.Tie as tie
+use Rattle.answering.proofs.run_text_by.Statement.{statement}
+use Rattle.answering.proofs.run_text_by.Tie as tie
 
 returns : tie.Need-returns
 returns c = ((omega arith, refl), ((λ h. absurd (omega (arith, h, c .if1 .taken))), (λ h. (refl, refl))))
@@ -115,8 +115,8 @@ returns-3 c =
     let p = c .before .before .answer-job .ensures in
     ((inside (omega arith) p, cut (omega arith) p), ((λ h. answered (R .3) (R .1) (R .2) p), (λ h. absurd (omega (arith, h, c .before .before .before .before .before .before .before .before .before .before .before .before .before .before .before .before .before .before .before .before .if1 .left)))))
 
-pub run-text-spec : {M : Type 1} → statement M
-run-text-spec =
+pub run-text-by-spec : {M : Type 1} → statement M
+run-text-by-spec =
     tie.close
     (tie.spec
     returns
