@@ -26,13 +26,14 @@ use shapes::Mesh;
 use web_time::Instant;
 
 /// A closed tank, its scan with vertices off by up to half a cell, that without its roof, and triangles anywhere: to
-/// two cells across, and to sixteen, of which there are an eighth as many.
-const WORKLOADS: [(&str, fn(&Grid, u32, &mut Random) -> Mesh); 5] = [
+/// two cells across; to sixteen, of which there are an eighth as many; and as many to twenty.
+const WORKLOADS: [(&str, fn(&Grid, u32, &mut Random) -> Mesh); 6] = [
     ("closed-tank", |grid, n, r| meshes::tank(grid, n, 0.9, r)),
     ("noisy-scan", |grid, n, r| meshes::scan(grid, n, 0.5, r)),
     ("open-tank", |grid, n, r| meshes::without_roof(meshes::scan(grid, n, 0.5, r))),
     ("soup", |grid, n, r| meshes::soup_of(grid, n, 1.0, r)),
     ("large-facets", |grid, n, r| meshes::soup_of(grid, n / 8, 8.0, r)),
+    ("dense-facets", |grid, n, r| meshes::soup_of(grid, n, 10.0, r)),
 ];
 /// Cells along each axis, and triangles.
 const SIZES: [(u32, u32); 4] = [(16, 625), (32, 2_500), (64, 10_000), (100, 20_000)];

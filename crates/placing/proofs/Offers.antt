@@ -7,8 +7,7 @@ use lib.ListN.{getD, set}
 use lib.Ieee.{Float, nan, isNan, ne}
 use Rattle.float.specs.Arith.{_≺_}
 use Rattle.float.specs.RootOf.{rootOf}
-use Rattle.lists.specs.Turns.{Turn, told}
-use Rattle.point.specs.declared.Point.{Point}
+use Rattle.lists.specs.Turns.{told}
 use Rattle.grid.specs.declared.Grid.{Grid}
 use Rattle.grid.specs.declared.Cell.{Cell}
 use Rattle.grid.specs.Index.{Inside, indexOf, cellAt}
@@ -35,10 +34,9 @@ module _ (field : List Float) (names : List ℕ) (c k : ℕ) (q : Float) (alike 
   took h l = offer-taken nothingElse k c (rootOf q) (seedState field names) (alike ∙ is-number q h) l
 
 -- an offer by the squared distance from a cell's centre is the offer to the cell of that index
-pub placed : (g : Grid) (f : Facet) (k : ℕ) (at : Cell) (p : Point) (q : Float) (c : ℕ) (s : State) {o : Turn State} → Inside g at → p ≡ centreOf g at → q ≡ squaredOn f p → c ≡ indexOf g at
-    → offerAt nothingElse k c (rootOf q) s ≡ o → offerTo g f k (indexOf g at) s ≡ o
+pub placed : (g : Grid) (f : Facet) (k : ℕ) (at : Cell) (q : Float) (c : ℕ) (s : State) → Inside g at → q ≡ squaredOn f (centreOf g at) → c ≡ indexOf g at
+    → offerAt nothingElse k c (rootOf q) s ≡ offerTo g f k (indexOf g at) s
 unfolding offerTo
-placed g f k at p q c s w hp hq hc h =
-    let same : distanceOn f (centreOf g (cellAt g (indexOf g at))) ≡ rootOf q =
-    ap rootOf (ap (λ (a : Cell). squaredOn f (centreOf g a)) (cell-of-index w) ∙ sym (hq ∙ ap (squaredOn f) hp)) in
-    ap₂ (λ (d : Float) (i : ℕ). offerAt nothingElse k i d s) same (sym hc) ∙ h
+placed g f k at q c s w hq hc =
+    let same : rootOf q ≡ distanceOn f (centreOf g (cellAt g (indexOf g at))) = ap rootOf (hq ∙ ap (λ (a : Cell). squaredOn f (centreOf g a)) (sym (cell-of-index w))) in
+    ap₂ (λ (d : Float) (i : ℕ). offerAt nothingElse k i d s) same hc

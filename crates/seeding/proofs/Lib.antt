@@ -1,2 +1,3 @@
+mod Pieces
 -- Laws that the crates above cite.
 pub mod Whole

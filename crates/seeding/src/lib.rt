@@ -2,7 +2,7 @@
 // box. A part of the port: users call `sdf`.
 ghost use mathlib.Core.Path.{_≡_};
 ghost use mathlib.Core.Bool.{true};
-ghost use Prim.Native.Nat.{_^_, _<_};
+ghost use Prim.Native.Nat.{_+_, _^_, _≤_, _<_};
 ghost use lib.ListN.{length};
 ghost use Rattle.lists.specs.Turns.{told, turns};
 ghost use Rattle.point.specs.declared.Axis.the-variants.{X};
@@ -18,7 +18,15 @@ use mesh::Corners;
 use topology::Indices;
 use topology::Topology;
 
-// To the cells (x, y, z) with z from lo to hi.
+// Where the four cells from z on end, and no further than hi.
+fn last_of_four(z: u32, hi: u32) -> u32
+    requires { ⌜ z ≤ hi ⌝ }
+    ensures { λ r. ⌜ (z ≤ r) × (r ≤ hi) × (r < z + 4) ⌝ }
+{
+    if hi - z < 3 { hi } else { z + 3 }
+}
+
+// To the cells (x, y, z) with z from lo to hi, four at a time.
 fn seed_line(
     field: &mut [f32],
     names: &mut [u32],
@@ -36,11 +44,12 @@ fn seed_line(
 {
     let mut z = lo;
     while z <= hi {
-        let r = placing::offer_at(field, names, grid, f, k, Cell { x: x, y: y, z: z });
+        let last = last_of_four(z, hi);
+        let r = placing::offer_four(field, names, grid, f, k, Cell { x: x, y: y, z: z }, last);
         if r != 0 {
             return r;
         }
-        z += 1;
+        z = last + 1;
     }
     0
 }

@@ -1,3 +1,4 @@
+mod Equal
 mod Runs
 -- what crates above cite
 pub mod Laws

@@ -24,11 +24,22 @@ squared p a b c = squaredOn (facetOf a b c) p
 abbrev pub distance : Point → Point → Point → Point → Float
 distance p a b c = distanceOn (facetOf a b c) p
 
--- of the point i of a row of points, whose coordinates stand in xs, ys and zs
+-- the point i of a row of points, whose coordinates stand in xs, ys and zs
+abbrev pub pointAt : List Float → List Float → List Float → ℕ → Point
+pointAt xs ys zs i = vec (getD xs i nan) (getD ys i nan) (getD zs i nan)
+
 abbrev pub squaredAt : Facet → List Float → List Float → List Float → ℕ → Float
-squaredAt f xs ys zs i = squaredOn f (vec (getD xs i nan) (getD ys i nan) (getD zs i nan))
+squaredAt f xs ys zs i = squaredOn f (pointAt xs ys zs i)
 
 -- `out` holds the squared distance of each
 pub record Squares (f : Facet) (xs ys zs out : List Float) : Type 0 where
   pub long : length out ≡ length xs
   pub each : (i : ℕ) → i < length xs → getD out i nan ≡ squaredAt f xs ys zs i
+
+-- the squared length from the point i to what `near` gives for it, and `out` holds that of each
+abbrev pub squaredTo : (Point → Point) → List Float → List Float → List Float → ℕ → Float
+squaredTo near xs ys zs i = (pointAt xs ys zs i -ᵥ near (pointAt xs ys zs i)) · (pointAt xs ys zs i -ᵥ near (pointAt xs ys zs i))
+
+pub record SquaresTo (near : Point → Point) (xs ys zs out : List Float) : Type 0 where
+  pub long : length out ≡ length xs
+  pub each : (i : ℕ) → i < length xs → getD out i nan ≡ squaredTo near xs ys zs i

@@ -1,12 +1,13 @@
 // The distance of a point to a triangle, and its square, which spares the root where it is not needed; and the
-// squares for many points, the run's inner loop, which takes a triangle of three different corners with no branch.
+// squares for many points, the run's inner loop, which has no branch.
 // A part of `geo`.
 ghost use mathlib.Core.Path.{_≡_};
-ghost use mathlib.Core.Bool.{false};
+ghost use mathlib.Core.Bool.{true, false};
 ghost use lib.ListN.{length};
 ghost use Rattle.point.specs.Point.{_-ᵥ_, _·_};
+ghost use Rattle.closest.specs.Closest.{closestPointSegment};
 ghost use Rattle.squares.specs.Distance as Distance;
-ghost use Rattle.squares.specs.Distance.{squaredOn, Squares};
+ghost use Rattle.squares.specs.Distance.{squaredOn, Squares, SquaresTo};
 use closest::Facet;
 use point::Point;
 
@@ -60,9 +61,10 @@ fn squares_proper(f: Facet, xs: &[f32], ys: &[f32], zs: &[f32], out: &mut [f32])
     }
 }
 
-fn squares_equal(f: Facet, xs: &[f32], ys: &[f32], zs: &[f32], out: &mut [f32])
+// To one point.
+fn squares_point(a: Point, xs: &[f32], ys: &[f32], zs: &[f32], out: &mut [f32])
     requires { ⌜ (length (now ys) ≡ length (now xs)) × (length (now zs) ≡ length (now xs)) × (length (now out) ≡ length (now xs)) ⌝ }
-    ensures { λ r. ⌜ Squares f (now (xs .entry)) (now (ys .entry)) (now (zs .entry)) (now (out .exit)) ⌝ }
+    ensures { λ r. ⌜ SquaresTo (λ p. a) (now (xs .entry)) (now (ys .entry)) (now (zs .entry)) (now (out .exit)) ⌝ }
 {
     let mut i = 0;
     while i < xs.len() {
@@ -71,9 +73,47 @@ fn squares_equal(f: Facet, xs: &[f32], ys: &[f32], zs: &[f32], out: &mut [f32])
             y: ys[i],
             z: zs[i],
         };
-        out[i] = squared_on(f, p);
+        out[i] = square(p, a);
         i += 1;
     }
+}
+
+fn squares_segment(a: Point, b: Point, xs: &[f32], ys: &[f32], zs: &[f32], out: &mut [f32])
+    requires { ⌜ (length (now ys) ≡ length (now xs)) × (length (now zs) ≡ length (now xs)) × (length (now out) ≡ length (now xs)) ⌝ }
+    ensures { λ r. ⌜ SquaresTo (λ p. closestPointSegment p a b) (now (xs .entry)) (now (ys .entry)) (now (zs .entry)) (now (out .exit)) ⌝ }
+{
+    let mut i = 0;
+    while i < xs.len() {
+        let p = Point {
+            x: xs[i],
+            y: ys[i],
+            z: zs[i],
+        };
+        out[i] = square(p, closest::closest_point_segment(p, a, b));
+        i += 1;
+    }
+}
+
+// A triangle of which two corners are equal is a segment or a point: which of them is asked once for all points.
+fn squares_equal(f: Facet, xs: &[f32], ys: &[f32], zs: &[f32], out: &mut [f32])
+    requires { ⌜ (f .equal ≡ true) × (length (now ys) ≡ length (now xs)) × (length (now zs) ≡ length (now xs)) × (length (now out) ≡ length (now xs)) ⌝ }
+    ensures { λ r. ⌜ Squares f (now (xs .entry)) (now (ys .entry)) (now (zs .entry)) (now (out .exit)) ⌝ }
+{
+    let a = f.a;
+    let b = f.b;
+    let c = f.c;
+    let ab = a.same(b);
+    let bc = b.same(c);
+    let ac = a.same(c);
+    if ab & bc & ac {
+        squares_point(a, xs, ys, zs, out);
+        return;
+    }
+    if ab {
+        squares_segment(a, c, xs, ys, zs, out);
+        return;
+    }
+    squares_segment(a, b, xs, ys, zs, out);
 }
 
 // The squared distances to `f` of the points whose coordinates stand in xs, ys and zs.

@@ -1,11 +1,11 @@
--- `seeding::seed_line`: the state is the one after the turns from lo to below z. Assumes nothing.
-use mathlib.Core.Path.{_≡_, refl, sym, _∙_}
+-- `seeding::seed_line`: the state is the one after the turns from lo to below z, made in pieces of four. Assumes nothing.
+use mathlib.Core.Path.{_≡_, refl, _∙_}
 use mathlib.Core.Logic.{_⊎_, inl, inr}
-use Prim.Native.Nat.{ℕ, _+_, _-_, _≤_, _<_}
+use Prim.Native.Nat.{ℕ, _+_, _-_, _≤_}
 use native.Mathlib.Omega.{arith}
 use lib.ListN.{length}
 use Rattle.lists.specs.Turns.{Turn, goes, between}
-use Rattle.lists.proofs.Turns.{between-none, between-on, between-stop, between-end}
+use Rattle.lists.proofs.Turns.{between-none, between-end}
 use Rattle.grid.specs.declared.Grid.{Grid}
 use Rattle.grid.specs.Axes.{cell}
 use Rattle.grid.specs.Index.{indexOf}
@@ -13,6 +13,7 @@ use Rattle.grid.proofs.Facts.{bounds-of}
 use Rattle.closest.specs.declared.Facet.{Facet}
 use Rattle.run.specs.Run.{State}
 use Rattle.placing.specs.Parts.{seedState, offerTo, alongLine}
+use Rattle.seeding.proofs.Pieces.{piece-on, piece-stop}
 use Rattle.seeding.proofs.seed_line.Statement.{statement}
 use Rattle.seeding.proofs.seed_line.Tie as tie
 
@@ -33,52 +34,47 @@ abbrev μ-loop : tie.MeasureT-loop
 loop-holds : tie.Need-loop-holds Inv-loop μ-loop
 loop-holds c = (omega arith, inl refl, refl, refl, between-none _ _ _ _ (omega arith))
 
-offer-at-requires : tie.Need-offer-at-requires Inv-loop μ-loop
-offer-at-requires c κs =
-    let n = c .before .before in
+offer-four-requires : tie.Need-offer-four-requires Inv-loop μ-loop
+offer-four-requires c κs =
+    let e = c .before .before .last-of-four .ensures in
+    let n = c .before .before .before in
     let s = n .before .before .before .before in
     let inside = s .pre .0 .1 in (
-      (s .pre .0 .0, record { x-below = inside .x-below; y-below = inside .y-below; z-below = omega (arith, inside .z-below, n .loop-test .taken) }),
+      (s .pre .0 .0, record { x-below = inside .x-below; y-below = inside .y-below; z-below = omega (arith, inside .z-below, e .1) }, e .0, e .2),
       (n .before .loop .inv .2 ∙ s .pre .1 .0, n .before .loop .inv .3 ∙ s .pre .1 .1),
     )
-
-same-length : tie.Need-same-length Inv-loop μ-loop
-same-length c = omega arith
-
-same-length-2 : tie.Need-same-length-2 Inv-loop μ-loop
-same-length-2 c = omega arith
 
 returns : tie.Need-returns Inv-loop μ-loop
 unfolding alongLine
 returns c =
     let o = c .before .before .before .before .before in
-    let l = o .before .before .before .before in
-    between-stop _ _ _ _ _ _ _ _ _ (l .loop .inv .0) (l .loop .inv .4) (o .offer-at .ensures) (c .if1 .taken) (omega arith)
+    let e = o .before .before .before .last-of-four .ensures in
+    let l = o .before .before .before .before .before in
+    piece-stop _ _ _ _ (l .loop .inv .0) (omega (arith, e .0)) _ _ _ _ _ _ (l .loop .inv .4) (o .offer-four .ensures) (c .if1 .taken) (omega (arith, e .1))
 
 add-z : tie.Need-add-z Inv-loop μ-loop
 add-z c =
-    let s = c .before .before .before .before .before .before .before .before .before .before .before .before in
-    omega (arith, bounds-of (s .args .grid) (s .pre .0 .0) .on-z .few, s .pre .0 .1 .z-below)
+    let e = c .before .before .before .before .before .before .before .before .last-of-four .ensures in
+    let s = c .before .before .before .before .before .before .before .before .before .before .before .before .before in
+    omega (arith, e .1, bounds-of (s .args .grid) (s .pre .0 .0) .on-z .few, s .pre .0 .1 .z-below)
 
 loop-less : tie.Need-loop-less Inv-loop μ-loop
-loop-less c = omega arith
+loop-less c =
+    let l = c .before .before .before .before .before .before .before .before in
+    omega (arith, l .last-of-four .ensures .0, l .before .loop-test .taken)
 
 loop-again : tie.Need-loop-again Inv-loop μ-loop
+unfolding alongLine
 loop-again c =
     let o = c .before .before .before .before .before in
-    let l = o .before .before .before .before in (
+    let e = o .before .before .before .last-of-four .ensures in
+    let l = o .before .before .before .before .before in (
+      omega (arith, e .0, l .loop .inv .0),
+      inr (omega (arith, e .1)),
       omega arith,
-      inr (omega arith),
       omega arith,
-      omega arith,
-      between-on _ _ _ _ _ _ _ (l .loop .inv .0) (l .loop .inv .4) (o .offer-at .ensures) (c .if1 .left),
+      piece-on _ _ _ _ (l .loop .inv .0) (omega (arith, e .0)) _ _ _ _ (l .loop .inv .4) (o .offer-four .ensures) (c .if1 .left),
     )
-
-same-length-3 : tie.Need-same-length-3 Inv-loop μ-loop
-same-length-3 c = omega arith
-
-same-length-4 : tie.Need-same-length-4 Inv-loop μ-loop
-same-length-4 c = omega arith
 
 returns-2 : tie.Need-returns-2 Inv-loop μ-loop
 unfolding alongLine
@@ -93,13 +89,14 @@ seed-line-spec =
     Inv-loop
     μ-loop
     loop-holds
-    offer-at-requires
-    same-length
-    same-length-2
+    (λ c κs. c .loop-test .taken)
+    offer-four-requires
+    (λ c. omega arith)
+    (λ c. omega arith)
     returns
     add-z
     loop-less
     loop-again
-    same-length-3
-    same-length-4
+    (λ c. omega arith)
+    (λ c. omega arith)
     returns-2)

@@ -1,59 +1,52 @@
--- `squares::squares_equal`: the invariant is that the elements below i hold their squared distances. Assumes nothing.
-use Prim.Native.Nat.{_≤_, _-_}
-use native.Mathlib.Nat.{not-suc-le-zero}
-use denote.Ref.{now}
-use native.Mathlib.Omega.{arith}
-use mathlib.Core.Path.{_≡_, sym, _∙_}
-use lib.ListN.{length, length-set}
+-- `squares::squares_equal`: each return by the tests that led there. Assumes nothing.
 use borrow.Author.Needs.{needs}
-use Rattle.squares.specs.Distance.{squaredAt}
-use Rattle.squares.proofs.Runs.{Filled, filled-next}
+use Rattle.closest.specs.Closest.{closestPointSegment}
+use Rattle.squares.proofs.Equal.{to-closest, to-point, to-ac, to-ab}
 use Rattle.squares.proofs.squares_equal.Statement.{statement}
 use Rattle.squares.proofs.squares_equal.Tie as tie
 
-abbrev Inv-loop : tie.InvT-loop
-Inv-loop f xs ys zs out₀ i₀ out i = (i ≤ length xs) × (length out ≡ length xs) × Filled (squaredAt f xs ys zs) out i
-
-abbrev μ-loop : tie.MeasureT-loop
-μ-loop f xs ys zs out₀ i₀ out i = length xs - i
-
-loop-holds : tie.Need-loop-holds Inv-loop μ-loop
-loop-holds c = (search needs, search needs, λ k l. absurd (not-suc-le-zero l))
-
-loop-again : tie.Need-loop-again Inv-loop μ-loop
-loop-again c =
-    let l = c .before .before .before .before .before in
-    let s = l .before .before .before .before .before .args in (
-      search needs,
-      rw length-set (l .loop .inv .1),
-      filled-next (squaredAt (s .f) (now (s .xs)) (now (s .ys)) (now (s .zs))) (l .loop .out) (l .loop .i) (c .squared-on .result) (omega arith) (c .squared-on .ensures) (l .loop .inv .2),
-    )
-
-returns : tie.Need-returns Inv-loop μ-loop
+returns : tie.Need-returns
 returns c =
-    record { long = c .before .loop .inv .1; each = λ k h. c .before .loop .inv .2 k (omega arith) }
+    let q = c .before .before in
+    let t = q .before .before in
+    let e = t .before in
+    let s = e .before .before .before .before .before .before .before .before .before .before in
+    let f = s .args .f in
+    to-closest f (λ p. f .a) (to-point f (s .pre .0) _ _ _ (e .before .before .same .ensures) (e .before .same2 .ensures) (e .same3 .ensures) (t .if1 .taken)) (q .squares-point .ensures)
 
-same-length : tie.Need-same-length Inv-loop μ-loop
-same-length c = c .before .loop .inv .1 ∙ sym (c .before .before .before .before .before .before .pre .2)
+returns-2 : tie.Need-returns-2
+returns-2 c =
+    let q = c .before .before in
+    let u = q .before .before in
+    let t = u .before in
+    let e = t .before in
+    let s = e .before .before .before .before .before .before .before .before .before .before in
+    let f = s .args .f in
+    to-closest f (λ p. closestPointSegment p (f .a) (f .c)) (to-ac f (s .pre .0) _ _ _ (e .before .before .same .ensures) (e .before .same2 .ensures) (e .same3 .ensures) (t .if1 .left) (u .if2 .taken)) (q .squares-segment .ensures)
+
+returns-3 : tie.Need-returns-3
+returns-3 c =
+    let q = c .before .before in
+    let u = q .before .before in
+    let t = u .before in
+    let e = t .before in
+    let s = e .before .before .before .before .before .before .before .before .before .before in
+    let f = s .args .f in
+    to-closest f (λ p. closestPointSegment p (f .a) (f .b)) (to-ab f (s .pre .0) _ _ _ (e .before .before .same .ensures) (e .before .same2 .ensures) (e .same3 .ensures) (t .if1 .left) (u .if2 .left)) (q .squares-segment2 .ensures)
 
 pub squares-equal-spec : {M : Type 1} → statement M
 squares-equal-spec =
     tie.close
     (tie.spec
-    Inv-loop
-    μ-loop
-    loop-holds
-    (λ c. search needs)
-    (λ c. search needs)
-    (λ c. search needs)
-    (λ c. search needs)
-    (λ c. search needs)
-    (λ c. search needs)
+    (λ c κs. search needs)
+    (λ c κs. search needs)
+    (λ c κs. search needs)
     (λ c κs. search needs)
     (λ c. search needs)
+    returns
+    (λ c κs. search needs)
     (λ c. search needs)
+    returns-2
+    (λ c κs. search needs)
     (λ c. search needs)
-    (λ c. search needs)
-    loop-again
-    same-length
-    returns)
+    returns-3)
