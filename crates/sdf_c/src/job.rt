@@ -21,7 +21,7 @@ pub struct SdfJobAnswer {
     pub peak: usize,
 }
 
-fn topology_in(topology: u32) -> Topology
+pub(crate) fn topology_in(topology: u32) -> Topology
     ensures { λ r. ⌜ r ≡ topologyIn topology ⌝ }
 {
     if topology == 0 {
@@ -30,7 +30,7 @@ fn topology_in(topology: u32) -> Topology
     Topology::TriangleStrip
 }
 
-fn indices_in(given: u32) -> Indices
+pub(crate) fn indices_in(given: u32) -> Indices
     ensures { λ r. ⌜ r ≡ indicesIn given ⌝ }
 {
     if given == 0 {
@@ -39,7 +39,7 @@ fn indices_in(given: u32) -> Indices
     Indices::Given
 }
 
-fn answer_out(a: Answer) -> SdfJobAnswer
+pub(crate) fn answer_out(a: Answer) -> SdfJobAnswer
     ensures { λ r. ⌜ r ≡ answerOut a ⌝ }
 {
     match a {
