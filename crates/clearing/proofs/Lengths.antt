@@ -11,12 +11,13 @@ use Rattle.run.specs.Run.{none}
 use Rattle.checks.specs.declared.Lengths.{Lengths}
 use Rattle.checks.specs.Job.{Lent, lentOf}
 use Rattle.checks.specs.Refusals.{lengthsOf}
-use Rattle.clearing.specs.Cleared.{zeros, cleared}
+use Rattle.clearing.specs.Cleared.{cleared, ClearedFields}
 
 pub all-cleared : (field : List Float) (names crossings rows ds cs ts : List ℕ) {field′ : List Float} {names′ crossings′ rows′ ds′ cs′ ts′ : List ℕ}
-    → field′ ≡ replicate (length field) fMax → names′ ≡ replicate (length names) none → crossings′ ≡ zeros crossings → rows′ ≡ zeros rows
-    → Cleared ds cs ts ds′ cs′ ts′ → lentOf field′ names′ crossings′ rows′ ds′ cs′ ts′ ≡ cleared (lentOf field names crossings rows ds cs ts)
-all-cleared field names crossings rows ds cs ts f n k r q = λ i. lentOf (f i) (n i) (k i) (r i) (q .distances i) (q .cells i) (q .triangles i)
+    → ClearedFields field field′ names crossings rows names′ crossings′ rows′ → Cleared ds cs ts ds′ cs′ ts′
+    → lentOf field′ names′ crossings′ rows′ ds′ cs′ ts′ ≡ cleared (lentOf field names crossings rows ds cs ts)
+all-cleared field names crossings rows ds cs ts f q =
+    λ i. lentOf (f .field-is i) (f .names-is i) (f .crossings-is i) (f .rows-is i) (q .distances i) (q .cells i) (q .triangles i)
 
 -- ---- by the lengths
 

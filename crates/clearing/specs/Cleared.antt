@@ -1,7 +1,9 @@
 -- The lent buffers as a refusal of the run leaves them. Definitions only.
 use Prim.Native.Nat.{ℕ}
+use mathlib.Core.Path.{_≡_}
 use mathlib.Core.List.{List}
 use lib.ListN.{length, replicate}
+use lib.Ieee.{Float}
 use Rattle.float.specs.Arith.{fMax}
 use Rattle.run.specs.Run.{none}
 use Rattle.checks.specs.Job.{Lent}
@@ -22,3 +24,10 @@ cleared b =
       cells = zeros (b .cells);
       triangles = zeros (b .triangles);
     }
+
+-- the same of all but the queue: field to rows, cleared, are field′ to rows′
+pub record ClearedFields (field field′ : List Float) (names crossings rows names′ crossings′ rows′ : List ℕ) : Type 0 where
+  pub field-is : field′ ≡ replicate (length field) fMax
+  pub names-is : names′ ≡ replicate (length names) none
+  pub crossings-is : crossings′ ≡ zeros crossings
+  pub rows-is : rows′ ≡ zeros rows

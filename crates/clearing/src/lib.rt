@@ -4,7 +4,7 @@ ghost use mathlib.Core.Path.{_≡_};
 ghost use lib.ListN.{length, replicate};
 ghost use Rattle.float.specs.Arith.{fMax};
 ghost use Rattle.checks.specs.Job.{lentOf};
-ghost use Rattle.clearing.specs.Cleared.{cleared};
+ghost use Rattle.clearing.specs.Cleared.{cleared, ClearedFields};
 
 pub fn fill_field(field: &mut [f32])
     ensures { λ _. ⌜ now (field .exit) ≡ replicate (length (now (field .entry))) fMax ⌝ }
@@ -26,6 +26,16 @@ pub fn fill_numbers(numbers: &mut [u32], with: u32)
     }
 }
 
+// All but the queue.
+pub fn clear_fields(field: &mut [f32], names: &mut [u32], crossings: &mut [u32], rows: &mut [u32])
+    ensures { λ _. ⌜ ClearedFields (now (field .entry)) (now (field .exit)) (now (names .entry)) (now (crossings .entry)) (now (rows .entry)) (now (names .exit)) (now (crossings .exit)) (now (rows .exit)) ⌝ }
+{
+    fill_field(field);
+    fill_numbers(names, 4_294_967_295);
+    fill_numbers(crossings, 0);
+    fill_numbers(rows, 0);
+}
+
 // All of them.
 pub fn clear_all(
     field: &mut [f32],
@@ -38,9 +48,6 @@ pub fn clear_all(
 )
     ensures { λ _. ⌜ lentOf (now (field .exit)) (now (names .exit)) (now (crossings .exit)) (now (rows .exit)) (now (distances .exit)) (now (cells .exit)) (now (triangles .exit)) ≡ cleared (lentOf (now (field .entry)) (now (names .entry)) (now (crossings .entry)) (now (rows .entry)) (now (distances .entry)) (now (cells .entry)) (now (triangles .entry))) ⌝ }
 {
-    fill_field(field);
-    fill_numbers(names, 4_294_967_295);
-    fill_numbers(crossings, 0);
-    fill_numbers(rows, 0);
+    clear_fields(field, names, crossings, rows);
     queue::clear(distances, cells, triangles);
 }

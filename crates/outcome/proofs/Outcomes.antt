@@ -9,7 +9,7 @@ use Rattle.lists.specs.Turns.{Turn, goes, refuses, told}
 use Rattle.lists.proofs.Turns.{told-goes, told-refuses}
 use Rattle.grid.specs.declared.Grid.{Grid}
 use Rattle.mesh.specs.Mesh.{Mesh}
-use Rattle.queue.specs.Queue.{Held}
+use Rattle.queue.specs.Queue.{Held, Cleared}
 use Rattle.queue.proofs.Uses.{left-zero}
 use Rattle.run.specs.Run.{State, run}
 use Rattle.run.specs.Ground.{groundOf}
@@ -19,32 +19,41 @@ use Rattle.checks.specs.declared.Lengths.{Lengths}
 use Rattle.checks.specs.Job.{Job, Lent, lentOf}
 use Rattle.checks.specs.Refusals.{lengthsOf}
 use Rattle.clearing.specs.Cleared.{cleared}
-use Rattle.clearing.proofs.Lengths.{same-cleared, cleared-long}
+use Rattle.clearing.proofs.Lengths.{all-cleared, same-cleared, cleared-long}
 use Rattle.outcome.specs.declared.Answer.{Answer}
 use Rattle.outcome.specs.declared.Answer.the-variants.{Refused, Done}
 use Rattle.outcome.specs.Outcome.{Outcome, Gives, filled, ended, runOf}
-use Rattle.outcome.specs.Finished.{Finished}
+use Rattle.outcome.specs.Finished.{Closed}
 
 -- ---- what follows the run
 
-pub gives-refused : (j : Job) (b : Lent) {n : ℕ} (s : State) {left : Lent} → (n ≡ 0 → ⊥) → left ≡ cleared b → Gives (ended j b (told n s)) (Refused n) left
-unfolding ended
-gives-refused j b {n} s z e = rw (told-refuses n s z) (record { answers = refl; leaves = e })
+-- what a run that came to p gives
+abbrev comesTo : Grid → Mesh → ℕ → List Float → List ℕ → List ℕ → List ℕ → List ℕ → List ℕ → List ℕ → Progress → Outcome
+comesTo g m limit field names crossings layers ds cs ts p =
+    ended (record { grid = g; mesh = m; limit = limit }) (lentOf field names crossings layers ds cs ts) (told (p .number) (stateOf (orderIn m) field names ds cs ts p))
 
-pub gives-done : {g : Grid} {m : Mesh} (limit : ℕ) (field : List Float) (names crossings rows ds cs ts : List ℕ) (p : Progress) {field′ : List Float} {crossings′ rows′ : List ℕ}
-    → p .number ≡ 0 → Ran g m field names ds cs ts p → Finished g m field field′ crossings′ rows′
-    → Gives (ended (record { grid = g; mesh = m; limit = limit }) (lentOf field names crossings rows ds cs ts) (told (p .number) (stateOf (orderIn m) field names ds cs ts p)))
-    (Done (p .pops) (p .peak))
-    (lentOf field′ names crossings′ rows′ ds cs ts)
-unfolding ended
-gives-done {g} {m} limit field names crossings rows ds cs ts p z ran f =
-    let h = subst (Held (orderIn m) ds cs ts) (ran .over z) (ran .holds .held) in
-    let q = left-zero ds cs ts h in
-    rw (told-goes (p .number) (stateOf (orderIn m) field names ds cs ts p) z)
-    (record {
-      answers = refl;
-      leaves = λ i. lentOf (f .field i) names (f .crossings i) (f .rows i) (q .0 i) (q .1 i) (q .2 i);
-    })
+-- by what `close` did with all but the queue
+module _ (g : Grid) (m : Mesh) (limit : ℕ) (field : List Float) (names crossings layers ds cs ts : List ℕ) (p : Progress)
+    {field′ : List Float} {names′ crossings′ layers′ : List ℕ} {r : Answer} (closed : Closed g m p field names crossings layers field′ names′ crossings′ layers′ r) where
+  pub gives-refused : {ds′ cs′ ts′ : List ℕ} → (p .number ≡ 0 → ⊥) → Cleared ds cs ts ds′ cs′ ts′
+      → Gives (comesTo g m limit field names crossings layers ds cs ts p) r (lentOf field′ names′ crossings′ layers′ ds′ cs′ ts′)
+  unfolding ended
+  gives-refused z q =
+      rw (told-refuses (p .number) (stateOf (orderIn m) field names ds cs ts p) z)
+      (record { answers = closed .refused z .0; leaves = all-cleared field names crossings layers ds cs ts (closed .refused z .1) q })
+
+  pub gives-done : p .number ≡ 0 → Ran g m field names ds cs ts p
+      → Gives (comesTo g m limit field names crossings layers ds cs ts p) r (lentOf field′ names′ crossings′ layers′ ds cs ts)
+  unfolding ended
+  gives-done z ran =
+      let h = subst (Held (orderIn m) ds cs ts) (ran .over z) (ran .holds .held) in
+      let q = left-zero ds cs ts h in
+      let d = closed .done z in
+      rw (told-goes (p .number) (stateOf (orderIn m) field names ds cs ts p) z)
+      (record {
+        answers = d .0;
+        leaves = λ i. lentOf (d .2 .field i) (d .1 i) (d .2 .crossings i) (d .2 .rows i) (q .0 i) (q .1 i) (q .2 i);
+      })
 
 -- ---- the same of buffers of the same lengths
 

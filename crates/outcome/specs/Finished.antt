@@ -1,4 +1,4 @@
--- What follows a run that is not refused leaves (document 01, "The run", 4). Definitions only.
+-- What follows a run leaves of all but the queue (document 01, "The run", 4, and "Reply numbers"). Definitions only.
 use Prim.Native.Nat.{ℕ, _*_}
 use mathlib.Core.Path.{_≡_}
 use mathlib.Core.List.{List}
@@ -10,6 +10,10 @@ use Rattle.grid.specs.Axes.{countOn}
 use Rattle.grid.specs.Index.{total}
 use Rattle.mesh.specs.Mesh.{Mesh}
 use Rattle.run.specs.Signs.{signedField, allCrossings, rows}
+use Rattle.told.specs.declared.Progress.{Progress}
+use Rattle.clearing.specs.Cleared.{ClearedFields}
+use Rattle.outcome.specs.declared.Answer.{Answer}
+use Rattle.outcome.specs.declared.Answer.the-variants.{Refused, Done}
 
 -- the lent crossings and rows are of the right lengths
 pub record Long (g : Grid) (crossings rows : List ℕ) : Type 0 where
@@ -21,3 +25,9 @@ pub record Finished (g : Grid) (m : Mesh) (old new : List Float) (counts layers 
   pub crossings : counts ≡ allCrossings g m
   pub field : new ≡ signedField g m old
   pub rows : layers ≡ rows g (signedField g m old)
+
+-- After a run that came to ran: field to layers, the rows, are then field′ to layers′. A refusal is answered by its number and clears
+-- them; else the answer is what was taken and waited, and the names stay.
+pub record Closed (g : Grid) (m : Mesh) (ran : Progress) (field : List Float) (names crossings layers : List ℕ) (field′ : List Float) (names′ crossings′ layers′ : List ℕ) (answer : Answer) : Type 0 where
+  pub refused : (ran .number ≡ 0 → ⊥) → (answer ≡ Refused (ran .number)) × ClearedFields field field′ names crossings layers names′ crossings′ layers′
+  pub done : ran .number ≡ 0 → (answer ≡ Done (ran .pops) (ran .peak)) × (names′ ≡ names) × Finished g m field field′ crossings′ layers′

@@ -12,7 +12,7 @@ ghost use Rattle.mesh.specs.Mesh.{meshOf};
 ghost use Rattle.told.specs.Told.{orderIn, stateOf, Fit, Ran};
 ghost use Rattle.checks.specs.Job.{jobOf, lentOf};
 ghost use Rattle.outcome.specs.Outcome.{Gives, ended};
-ghost use Rattle.outcome.specs.Finished.{Long, Finished};
+ghost use Rattle.outcome.specs.Finished.{Long, Finished, Closed};
 
 // What a job is answered: refused by its number, or done, with the entries taken and the most that waited
 // at once.
@@ -42,7 +42,44 @@ fn finish(
     rows::count_rows(grid, field, rows);
 }
 
-// After the run, which came to `ran`: a refusal clears what it left, else the field is signed and counted.
+// After the run, which came to `ran`: a refusal clears what it left, else the field is signed and counted. The queue
+// is left to the caller.
+pub fn close(
+    grid: Grid,
+    vertices: &[f32],
+    topology: Topology,
+    given: Indices,
+    indices: &[u32],
+    field: &mut [f32],
+    names: &mut [u32],
+    crossings: &mut [u32],
+    rows: &mut [u32],
+    ran: Progress,
+) -> Answer
+    requires { ⌜ Fit grid (meshOf (now vertices) topology given (now indices)) × (length (now field) ≡ total grid) × Long grid (now crossings) (now rows) ⌝ }
+    ensures { λ r. ⌜ Closed grid (meshOf (now (vertices .entry)) topology given (now (indices .entry))) ran (now (field .entry)) (now (names .entry)) (now (crossings .entry)) (now (rows .entry)) (now (field .exit)) (now (names .exit)) (now (crossings .exit)) (now (rows .exit)) r ⌝ }
+{
+    if ran.number != 0 {
+        clearing::clear_fields(field, names, crossings, rows);
+        return Answer::Refused(ran.number);
+    }
+    finish(
+        grid,
+        vertices,
+        topology,
+        given,
+        indices,
+        field,
+        crossings,
+        rows,
+    );
+    Answer::Done {
+        pops: ran.pops,
+        peak: ran.peak,
+    }
+}
+
+// The same, and the queue: a refusal clears it too, and a run that is done left it empty.
 pub fn conclude(
     grid: Grid,
     vertices: &[f32],
@@ -64,22 +101,20 @@ pub fn conclude(
     requires { ⌜ Long grid (now crossings) (now rows) ⌝ }
     ensures { λ r. ⌜ Gives (ended (jobOf grid (now (vertices .entry)) topology given (now (indices .entry)) limit) (lentOf (now (field .entry)) (now (names .entry)) (now (crossings .entry)) (now (rows .entry)) (now (distances .entry)) (now (cells .entry)) (now (triangles .entry))) (told (ran .number) (stateOf (orderIn (meshOf (now (vertices .entry)) topology given (now (indices .entry)))) (now (field .entry)) (now (names .entry)) (now (distances .entry)) (now (cells .entry)) (now (triangles .entry)) ran))) r (lentOf (now (field .exit)) (now (names .exit)) (now (crossings .exit)) (now (rows .exit)) (now (distances .exit)) (now (cells .exit)) (now (triangles .exit))) ⌝ }
 {
-    if ran.number != 0 {
-        clearing::clear_all(field, names, crossings, rows, distances, cells, triangles);
-        return Answer::Refused(ran.number);
-    }
-    finish(
+    let answer = close(
         grid,
         vertices,
         topology,
         given,
         indices,
         field,
+        names,
         crossings,
         rows,
+        ran,
     );
-    Answer::Done {
-        pops: ran.pops,
-        peak: ran.peak,
+    if ran.number != 0 {
+        queue::clear(distances, cells, triangles);
     }
+    answer
 }

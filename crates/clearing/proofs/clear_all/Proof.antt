@@ -7,26 +7,17 @@ use Rattle.clearing.proofs.clear_all.Tie as tie
 returns : tie.Need-returns
 returns c =
     let q = c .before .before .before .before .before .before in
-    let r = q .before .before .before .before .before .before in
-    let k = r .before .before .before .before in
-    let n = k .before .before .before .before in
-    let f = n .before .before .before .before in
-    let s = f .before .before .before .before .before .before .before .before .before in
+    let f = q .before .before .before .before .before .before .before .before .before .before .before .before in
+    let s = f .before .before .before .before .before .before .before .before .before .before .before .before in
     all-cleared (s .args .field .now) (s .args .names .now) (s .args .crossings .now) (s .args .rows .now) (s .args .distances .now) (s .args .cells .now)
     (s .args .triangles .now)
-    (f .fill-field .ensures)
-    (n .fill-numbers .ensures)
-    (k .fill-numbers2 .ensures)
-    (r .fill-numbers3 .ensures)
+    (f .clear-fields .ensures)
     (q .clear .ensures)
 
 pub clear-all-spec : {M : Type 1} → statement M
 clear-all-spec =
     tie.close
     (tie.spec
-    (λ c κs. search needs)
-    (λ c κs. search needs)
-    (λ c κs. search needs)
     (λ c κs. search needs)
     (λ c κs. search needs)
     (λ c. search needs)

@@ -1,0 +1,2 @@
+-- Laws of the proofs.
+pub mod Beginnings
