@@ -49,7 +49,7 @@ fn cleared_job(
         triangles,
         limit,
     );
-    outcome::conclude(
+    concluding::conclude(
         grid,
         vertices,
         topology,

@@ -1,8 +1,8 @@
--- `outcome::close`: a refusal leaves what `clear_fields` leaves, else what `finish` does. Assumes nothing.
+-- `closing::close`: a refusal leaves what `clear_fields` leaves, else what `finish` does. Assumes nothing.
 use borrow.Author.Needs.{needs}
 use mathlib.Core.Path.{refl}
-use Rattle.outcome.proofs.close.Statement.{statement}
-use Rattle.outcome.proofs.close.Tie as tie
+use Rattle.closing.proofs.close.Statement.{statement}
+use Rattle.closing.proofs.close.Tie as tie
 
 returns : tie.Need-returns
 returns c =

@@ -1,4 +1,4 @@
--- `outcome::finish`: the signs are the run's, since the counts are. Assumes nothing.
+-- `closing::finish`: the signs are the run's, since the counts are. Assumes nothing.
 use borrow.Author.Needs.{needs}
 use mathlib.Core.Path.{_≡_, ap, _∙_}
 use mathlib.Core.List.{List}
@@ -8,8 +8,8 @@ use Rattle.mesh.specs.Mesh.{meshOf}
 use Rattle.run.specs.Signs as Signs
 use Rattle.signs.specs.Sign.{signedBy}
 use Rattle.signs.proofs.Parity.{signs-are}
-use Rattle.outcome.proofs.finish.Statement.{statement}
-use Rattle.outcome.proofs.finish.Tie as tie
+use Rattle.closing.proofs.finish.Statement.{statement}
+use Rattle.closing.proofs.finish.Tie as tie
 
 -- the field after the signs
 signed : (c : tie.After-sign) →

@@ -1,9 +1,9 @@
--- `outcome::conclude`: what `close` leaves, and the queue cleared after a refusal, and else empty as the run left it. Assumes nothing.
+-- `concluding::conclude`: what `close` leaves, and the queue cleared after a refusal, and else empty as the run left it. Assumes nothing.
 use borrow.Author.Needs.{needs}
 use Rattle.mesh.specs.Mesh.{Mesh, meshOf}
 use Rattle.outcome.proofs.Outcomes.{gives-refused, gives-done}
-use Rattle.outcome.proofs.conclude.Statement.{statement}
-use Rattle.outcome.proofs.conclude.Tie as tie
+use Rattle.concluding.proofs.conclude.Statement.{statement}
+use Rattle.concluding.proofs.conclude.Tie as tie
 
 abbrev mesh : tie.Start → Mesh
 mesh s = meshOf (s .args .vertices .now) (s .args .topology) (s .args .given) (s .args .indices .now)
