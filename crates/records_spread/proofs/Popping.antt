@@ -22,7 +22,7 @@ use Rattle.told.specs.Told.{refusedBy, orderIn, Known}
 use Rattle.spreading.proofs.Pops.{first-known, rest-holds, popped, Spreads, spread-spent, spread-stops, spread-on, counted}
 use Rattle.entries.specs.Row.{distances, cells, triangles, HeldRow, TakenRow}
 use Rattle.batch.specs.declared.Batch.{Batch}
-use Rattle.batch.specs.Batch.{Offered}
+use Rattle.gathering.specs.Gathered.{Offered}
 use Rattle.entries.proofs.Projections.{long-row}
 use Rattle.records.specs.Records.{waitingIn, stateIn, poppedBy, HoldsRow, ToldRow, OneOf, QueuedAll}
 

@@ -42,7 +42,7 @@ use Rattle.told.specs.declared.Progress.{Progress}
 use Rattle.told.proofs.Progress as G
 use Rattle.told.proofs.Progress.Laws as G′
 use Rattle.batch.specs.declared.Batch.{Batch}
-use Rattle.batch.specs.Batch.{Offered}
+use Rattle.gathering.specs.Gathered.{Offered}
 use Rattle.batch.proofs.Batch as B
 use Rattle.batch.proofs.Batch.Laws as B′
 use Rattle.entries.specs.Row.{HeldRow, TakenRow}
@@ -63,8 +63,8 @@ use Rattle.records.proofs.popped as popped
 use Rattle.records.proofs.popped.Symbol.{name as #records·popped}
 use Rattle.entries_take.proofs.take as take
 use Rattle.entries_take.proofs.take.Symbol.{name as #entries-take·take}
-use Rattle.batch.proofs.offers as offers
-use Rattle.batch.proofs.offers.Symbol.{name as #batch·offers}
+use Rattle.gathering.proofs.offers as offers
+use Rattle.gathering.proofs.offers.Symbol.{name as #gathering·offers}
 
 -- the contracts that are cited
 abbrev pub Popped : {M : Type 1} (𝓤 : URA M) (H : Heap 𝓤) (A : Atoms 𝓤) (mem : Memory → SProp 𝓤) (run : Routine → Fun 𝓤) → Contract 𝓤
@@ -140,10 +140,10 @@ module _ {M : Type 1} (𝓤 : URA M) (H : Heap 𝓤) (A : Atoms 𝓤) (W : Given
       move ! (1 ∷ 0 ∷ []) $ fjoin ! $ owned ! Gr.the-row (Is Gr.the-row) (LL.makes Gr.the-type Gr′.the-plain 𝓤 H A) grid _ grid-is $ fjoin ! $ done !
 
   pub calls-offers : {Γ : List (Item 𝓤)} {En : Env 𝓤 H} {C : Calls 𝓤 H} {Λ : Loops 𝓤 H} {p : Post 𝓤 H} {xs : List Operand} {d : Place} {rest : Body} {K : Type 0}
-      → K → FmC 𝓤 H (W .laws) C → Triple 𝓤 (C #batch·offers) (Offers 𝓤 H A mem run)
+      → K → FmC 𝓤 H (W .laws) C → Triple 𝓤 (C #gathering·offers) (Offers 𝓤 H A mem run)
       → ((ν-field ν-names : ℕ) (δ-field δ-names : GName) → Opds K W (raw (Offers 𝓤 H A mem run .pre (to-offers ν-field ν-names δ-field δ-names)) ∷ ‵ (ShrSlice (named 0) κ-vertices f32 .own vertices (s-vertices ∷ [])) ∷ ‵ (ShrSlice (named 0) κ-indices u32 .own indices (s-indices ∷ [])) ∷ ‵ (Kept f32 κ-field q-field γ-field b-field o-field field ν-field δ-field) ∷ ‵ (Kept u32 κ-names q-names γ-names b-names o-names names ν-names δ-names) ∷ Γ) En xs (Offers 𝓤 H A mem run .args (to-offers ν-field ν-names δ-field δ-names)))
       → ((us-field : List Float) (us-names : List ℕ) (r : Batch) → length us-field ≡ length field → length us-names ≡ length names → Is B.the-row r (LL.val B.the-type B′.the-laws r ∷ []) → Offered grid (meshOf (vertices .now) topology given (indices .now)) e field names us-field us-names r → Seq K W (‵ (ShrSlice (named 0) κ-vertices f32 .own vertices (s-vertices ∷ [])) ∷ ‵ (flft κ-vertices q-vertices) ∷ ‵ (ShrSlice (named 0) κ-indices u32 .own indices (s-indices ∷ [])) ∷ ‵ (flft κ-indices q-indices) ∷ ‵ (MutSlice (named 0) κ-field f32 .own (at b-field o-field γ-field us-field) (s-field ∷ [])) ∷ ‵ (flft κ-field q-field) ∷ ‵ (MutSlice (named 0) κ-names u32 .own (at b-names o-names γ-names us-names) (s-names ∷ [])) ∷ ‵ (flft κ-names q-names) ∷ Γ) (lands C Λ En d (LL.val B.the-type B′.the-laws r) rest p))
-      → Seq K W (‵ (ShrSlice (named 0) κ-vertices f32 .own vertices (s-vertices ∷ [])) ∷ ‵ (flft κ-vertices q-vertices) ∷ ‵ (ShrSlice (named 0) κ-indices u32 .own indices (s-indices ∷ [])) ∷ ‵ (flft κ-indices q-indices) ∷ ‵ (MutSlice (named 0) κ-field f32 .own (at b-field o-field γ-field field) (s-field ∷ [])) ∷ ‵ (flft κ-field q-field) ∷ ‵ (MutSlice (named 0) κ-names u32 .own (at b-names o-names γ-names names) (s-names ∷ [])) ∷ ‵ (flft κ-names q-names) ∷ Γ) (runs C Λ En (seq (call #batch·offers xs d) rest) p)
+      → Seq K W (‵ (ShrSlice (named 0) κ-vertices f32 .own vertices (s-vertices ∷ [])) ∷ ‵ (flft κ-vertices q-vertices) ∷ ‵ (ShrSlice (named 0) κ-indices u32 .own indices (s-indices ∷ [])) ∷ ‵ (flft κ-indices q-indices) ∷ ‵ (MutSlice (named 0) κ-field f32 .own (at b-field o-field γ-field field) (s-field ∷ [])) ∷ ‵ (flft κ-field q-field) ∷ ‵ (MutSlice (named 0) κ-names u32 .own (at b-names o-names γ-names names) (s-names ∷ [])) ∷ ‵ (flft κ-names q-names) ∷ Γ) (runs C Λ En (seq (call #gathering·offers xs d) rest) p)
   calls-offers {En = En} {C = C} {Λ = Λ} {p = p} {d = d} {rest = rest} t fm met os k =
       lft-new t tt (λ ν-field. move t (5 ∷ 6 ∷ []) $ lends t tt f32 b-field o-field field s-field ν-field (λ δ-field. lft-new t tt (λ ν-names. move t (8 ∷ 9 ∷ []) $
       lends t tt u32 b-names o-names names s-names ν-names (λ δ-names. move t (6 ∷ []) $

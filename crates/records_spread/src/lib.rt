@@ -35,7 +35,7 @@ pub fn spread(
             break;
         }
         let e = entries_take::take(row, n, topology, given, indices, count);
-        let b = batch::offers(grid, vertices, topology, given, indices, field, names, e);
+        let b = gathering::offers(grid, vertices, topology, given, indices, field, names, e);
         run = records_push::push_all(row, run, b, topology, given, indices, count);
         if run.number != 0 {
             break;

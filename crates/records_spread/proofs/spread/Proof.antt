@@ -84,9 +84,9 @@ use Rattle.records.proofs.popped.Met as popped-thm
 use Rattle.entries_take.proofs.take.Symbol as take-def
 use Rattle.entries_take.proofs.take.Symbol.{name as #entries-take·take}
 use Rattle.entries_take.proofs.take.Met as take-thm
-use Rattle.batch.proofs.offers.Symbol as offers-def
-use Rattle.batch.proofs.offers.Symbol.{name as #batch·offers}
-use Rattle.batch.proofs.offers.Met as offers-thm
+use Rattle.gathering.proofs.offers.Symbol as offers-def
+use Rattle.gathering.proofs.offers.Symbol.{name as #gathering·offers}
+use Rattle.gathering.proofs.offers.Met as offers-thm
 use Rattle.records_push.proofs.push_all.Symbol as push-all-def
 use Rattle.records_push.proofs.push_all.Symbol.{name as #records-push·push-all}
 use Rattle.records_push.proofs.push_all.Met as push-all-thm
@@ -201,7 +201,7 @@ module _ {M : Type 1} (𝓤 : URA M) (H : Heap 𝓤) (A : Atoms 𝓤) (W : Given
       owned ! P.the-row (Is P.the-row) (EL.makes P.the-type P′.the-plain 𝓤 H A) topology _ topology-is $ fjoin ! $ move ! (1 ∷ 0 ∷ []) $ fjoin ! $
       owned ! Gr.the-row (Is Gr.the-row) (LL.makes Gr.the-type Gr′.the-plain 𝓤 H A) grid _ grid-is $ fjoin ! $ owned ! G.the-row (Is G.the-row) (LL.makes G.the-type G′.the-plain 𝓤 H A) r _ r-is $ move ! (1 ∷ 0 ∷ []) $ done !
 
-  module _ (𝓣 : Tables 𝓤 H) (popped : Triple 𝓤 (𝓣 .C #records·popped) (Popped 𝓤 H A mem run)) (take : Triple 𝓤 (𝓣 .C #entries-take·take) (Take 𝓤 H A mem run)) (offers : Triple 𝓤 (𝓣 .C #batch·offers) (Offers 𝓤 H A mem run)) (push-all : Triple 𝓤 (𝓣 .C #records-push·push-all) (PushAll 𝓤 H A mem run)) (l₀ l₁ l₂ l₃ l₄ l₅ l₆ l₇ l₈ l₉ l₁₀ l₁₁ l₁₂ l₁₃ l₁₄ l₁₅ l₁₆ l₁₇ l₁₈ l₁₉ l₂₀ l₂₁ l₂₂ l₂₃ l₂₄ l₂₅ : ℕ) where
+  module _ (𝓣 : Tables 𝓤 H) (popped : Triple 𝓤 (𝓣 .C #records·popped) (Popped 𝓤 H A mem run)) (take : Triple 𝓤 (𝓣 .C #entries-take·take) (Take 𝓤 H A mem run)) (offers : Triple 𝓤 (𝓣 .C #gathering·offers) (Offers 𝓤 H A mem run)) (push-all : Triple 𝓤 (𝓣 .C #records-push·push-all) (PushAll 𝓤 H A mem run)) (l₀ l₁ l₂ l₃ l₄ l₅ l₆ l₇ l₈ l₉ l₁₀ l₁₁ l₁₂ l₁₃ l₁₄ l₁₅ l₁₆ l₁₇ l₁₈ l₁₉ l₂₀ l₂₁ l₂₂ l₂₃ l₂₄ l₂₅ : ℕ) where
     abbrev C : Calls 𝓤 H
     C = 𝓣 .C
 
@@ -363,7 +363,7 @@ module _ {M : Type 1} (𝓤 : URA M) (H : Heap 𝓤) (A : Atoms 𝓤) (W : Given
         move ! (1 ∷ []) $ fsplit ! $ move ! (1 ∷ []) $ fsplit ! $ move ! (1 ∷ []) $ fsplit ! $ move ! (1 ∷ []) $ fsplit ! $ drop ! $ fsplit ! $ drop ! $ drop ! $ move ! (5 ∷ []) $ split ! $ move ! (1 ∷ []) $ split ! $
         move ! (1 ∷ []) $ split ! $ move ! (1 ∷ []) $ split ! $ move ! (1 ∷ []) $ split ! $ move ! (1 ∷ []) $ drop ! $ move ! (5 ∷ 0 ∷ 8 ∷ 3 ∷ 9 ∷ 4 ∷ 7 ∷ 2 ∷ 6 ∷ 1 ∷ []) $ by ! loops
 
-  walk : (𝓣 : Tables 𝓤 H) → Triple 𝓤 (𝓣 .C #records·popped) (Popped 𝓤 H A mem run) → Triple 𝓤 (𝓣 .C #entries-take·take) (Take 𝓤 H A mem run) → Triple 𝓤 (𝓣 .C #batch·offers) (Offers 𝓤 H A mem run) → Triple 𝓤 (𝓣 .C #records-push·push-all) (PushAll 𝓤 H A mem run) → ent 𝓤 (onEntry 𝓤 H A f.signature (κ-vertices, (κ-indices, (κf, (κn, (κ, tt))))) (q-vertices, (q-indices, (qf, (qn, (q, tt))))) a values)
+  walk : (𝓣 : Tables 𝓤 H) → Triple 𝓤 (𝓣 .C #records·popped) (Popped 𝓤 H A mem run) → Triple 𝓤 (𝓣 .C #entries-take·take) (Take 𝓤 H A mem run) → Triple 𝓤 (𝓣 .C #gathering·offers) (Offers 𝓤 H A mem run) → Triple 𝓤 (𝓣 .C #records-push·push-all) (PushAll 𝓤 H A mem run) → ent 𝓤 (onEntry 𝓤 H A f.signature (κ-vertices, (κ-indices, (κf, (κn, (κ, tt))))) (q-vertices, (q-indices, (qf, (qn, (q, tt))))) a values)
       (WpFn 𝓤 H (𝓣 .C) (𝓣 .Λ) code.function (LL.val Gr.the-type Gr′.the-laws grid ∷ sliceVal (vertices .ptr) (length (vertices .now)) ∷ topologyVal topology ∷ indicesVal given ∷ sliceVal (indices .ptr) (length (indices .now)) ∷ sf ∷ sn ∷ s ∷ progressVal at₀ ∷ vint w32 limit ∷ []) Post)
   walk 𝓣 popped take offers push-all =
       qed W ((‵ (flft κ-vertices q-vertices) ⊛ (‵ (flft κ-indices q-indices) ⊛ (‵ (flft κf qf) ⊛ (‵ (flft κn qn) ⊛ (‵ (flft κ q) ⊛ ‵ ftrue))))) ∷ ‵ (owns (Gr.the-row ∷ ShrSlice (named 0) κ-vertices f32 ∷ P.the-row ∷ I.the-row ∷ ShrSlice (named 1) κ-indices u32 ∷ MutSlice (named 2) κf f32 ∷ MutSlice (named 3) κn u32 ∷ MutSlice (named 4) κ E.the-row ∷ G.the-row ∷ u32 ∷ []) a values) ∷ []) ∵ enter ! (𝓣 .C) (𝓣 .Λ) code.function (LL.val Gr.the-type Gr′.the-laws grid ∷ sliceVal (vertices .ptr) (length (vertices .now)) ∷ topologyVal topology ∷ indicesVal given ∷ sliceVal (indices .ptr) (length (indices .now)) ∷ sf ∷ sn ∷ s ∷ progressVal at₀ ∷ vint w32 limit ∷ []) _ $
@@ -378,14 +378,14 @@ module _ {M : Type 1} (𝓤 : URA M) (H : Heap 𝓤) (A : Atoms 𝓤) (W : Given
       begins 𝓣 popped take offers push-all l₀ l₁ l₂ l₃ l₄ l₅ l₆ l₇ l₈ l₉ l₁₀ l₁₁ l₁₂ l₁₃ l₁₄ l₁₅ l₁₆ l₁₇ l₁₈ l₁₉ l₂₀ l₂₁ l₂₂ l₂₃ l₂₄ l₂₅))))))))))))))))))))))))))
 
 module _ {M : Type 1} (𝓤 : URA M) (H : Heap 𝓤) (A : Atoms 𝓤) (W : Given 𝓤 H A) (mem : Memory → SProp 𝓤) (run : Routine → Fun 𝓤) where
-  walks : (𝓣 : Tables 𝓤 H) → Triple 𝓤 (𝓣 .C #records·popped) (Popped 𝓤 H A mem run) → Triple 𝓤 (𝓣 .C #entries-take·take) (Take 𝓤 H A mem run) → Triple 𝓤 (𝓣 .C #batch·offers) (Offers 𝓤 H A mem run) → Triple 𝓤 (𝓣 .C #records-push·push-all) (PushAll 𝓤 H A mem run) → Walks 𝓤 H A f.ended stayed (WpFn 𝓤 H (𝓣 .C) (𝓣 .Λ) code.function) (f.clauses 𝓤 H A mem run)
+  walks : (𝓣 : Tables 𝓤 H) → Triple 𝓤 (𝓣 .C #records·popped) (Popped 𝓤 H A mem run) → Triple 𝓤 (𝓣 .C #entries-take·take) (Take 𝓤 H A mem run) → Triple 𝓤 (𝓣 .C #gathering·offers) (Offers 𝓤 H A mem run) → Triple 𝓤 (𝓣 .C #records-push·push-all) (PushAll 𝓤 H A mem run) → Walks 𝓤 H A f.ended stayed (WpFn 𝓤 H (𝓣 .C) (𝓣 .Λ) code.function) (f.clauses 𝓤 H A mem run)
   walks 𝓣 popped take offers push-all = walked 𝓤 H A f.ended stayed (f.clauses 𝓤 H A mem run) (WpFn 𝓤 H (𝓣 .C) (𝓣 .Λ) code.function)
       (λ κs. (LL.vals Gr.the-type Gr′.the-laws, (slice-vals, (EL.vals P.the-type P′.the-laws, (EL.vals I.the-type I′.the-laws, (slice-vals, (slice-vals, (slice-vals, (slice-vals, (LL.vals G.the-type G′.the-laws, (uint-vals w32, tt)))))))))))
       (λ κs. (LL.tells Gr.the-type Gr′.the-laws, (shr-slice-tells (named 0) (κs .0) f32, (EL.tells P.the-type P′.the-laws, (EL.tells I.the-type I′.the-laws, (shr-slice-tells (named 1) (κs .1 .0) u32, (mut-slice-tells (named 2) (κs .1 .1 .0) f32, (mut-slice-tells (named 3) (κs .1 .1 .1 .0) u32, (mut-slice-tells (named 4) (κs .1 .1 .1 .1 .0) E.the-row, (LL.tells G.the-type G′.the-laws, (uint-tells w32, tt)))))))))))
       (λ κs qs bounds a g are. needs 𝓤 (Ready (a .0) (meshOf (a .1 .0 .now) (a .1 .1 .0) (a .1 .1 .1 .0) (a .1 .1 .1 .1 .0 .now)) × HoldsRow (a .0) (meshOf (a .1 .0 .now) (a .1 .1 .0) (a .1 .1 .1 .0) (a .1 .1 .1 .1 .0 .now)) (a .1 .1 .1 .1 .1 .0 .now) (a .1 .1 .1 .1 .1 .1 .0 .now) (a .1 .1 .1 .1 .1 .1 .1 .0 .now) (a .1 .1 .1 .1 .1 .1 .1 .1 .0 .waiting) × (a .1 .1 .1 .1 .1 .1 .1 .1 .0 .number ≡ 0) × (a .1 .1 .1 .1 .1 .1 .1 .1 .0 .pops ≡ 0)) _
       (λ pre. walk 𝓤 H A W mem run (a .0) (κs .0) (qs .0) (a .1 .0) (a .1 .1 .0) (a .1 .1 .1 .0) (κs .1 .0) (qs .1 .0) (a .1 .1 .1 .1 .0) (κs .1 .1 .0) (qs .1 .1 .0) (a .1 .1 .1 .1 .1 .0 .ptr .0) (a .1 .1 .1 .1 .1 .0 .ptr .1) (a .1 .1 .1 .1 .1 .0 .name) (a .1 .1 .1 .1 .1 .0 .now) (κs .1 .1 .1 .0) (qs .1 .1 .1 .0) (a .1 .1 .1 .1 .1 .1 .0 .ptr .0) (a .1 .1 .1 .1 .1 .1 .0 .ptr .1) (a .1 .1 .1 .1 .1 .1 .0 .name) (a .1 .1 .1 .1 .1 .1 .0 .now) (κs .1 .1 .1 .1 .0) (qs .1 .1 .1 .1 .0) (a .1 .1 .1 .1 .1 .1 .1 .0 .ptr .0) (a .1 .1 .1 .1 .1 .1 .1 .0 .ptr .1) (a .1 .1 .1 .1 .1 .1 .1 .0 .name) (a .1 .1 .1 .1 .1 .1 .1 .0 .now) (a .1 .1 .1 .1 .1 .1 .1 .1 .0) (a .1 .1 .1 .1 .1 .1 .1 .1 .1 .0) (are .0) (are .1 .0 .0 .1) (are .1 .1 .0) (are .1 .1 .1 .0) (are .1 .1 .1 .1 .0 .0 .1) (are .1 .1 .1 .1 .1 .0 .0 .1) (are .1 .1 .1 .1 .1 .1 .0 .0 .1) (are .1 .1 .1 .1 .1 .1 .1 .0 .0 .1) (are .1 .1 .1 .1 .1 .1 .1 .1 .0) (are .1 .1 .1 .1 .1 .1 .1 .1 .1 .0 .1) (pre .0) (pre .1) (pre .2) (pre .3) 𝓣 popped take offers push-all))
 
-meets : {M : Type 1} (𝓤 : URA M) (H : Heap 𝓤) (A : Atoms 𝓤) → Given 𝓤 H A → (mem : Memory → SProp 𝓤) (run : Routine → Fun 𝓤) (𝓣 : Tables 𝓤 H) → Triple 𝓤 (𝓣 .C #records·popped) (Popped 𝓤 H A mem run) → Triple 𝓤 (𝓣 .C #entries-take·take) (Take 𝓤 H A mem run) → Triple 𝓤 (𝓣 .C #batch·offers) (Offers 𝓤 H A mem run) → Triple 𝓤 (𝓣 .C #records-push·push-all) (PushAll 𝓤 H A mem run) → Meets 𝓤 H A f.signature (WpFn 𝓤 H (𝓣 .C) (𝓣 .Λ) code.function) (f.spec 𝓤 H A mem run)
+meets : {M : Type 1} (𝓤 : URA M) (H : Heap 𝓤) (A : Atoms 𝓤) → Given 𝓤 H A → (mem : Memory → SProp 𝓤) (run : Routine → Fun 𝓤) (𝓣 : Tables 𝓤 H) → Triple 𝓤 (𝓣 .C #records·popped) (Popped 𝓤 H A mem run) → Triple 𝓤 (𝓣 .C #entries-take·take) (Take 𝓤 H A mem run) → Triple 𝓤 (𝓣 .C #gathering·offers) (Offers 𝓤 H A mem run) → Triple 𝓤 (𝓣 .C #records-push·push-all) (PushAll 𝓤 H A mem run) → Meets 𝓤 H A f.signature (WpFn 𝓤 H (𝓣 .C) (𝓣 .Λ) code.function) (f.spec 𝓤 H A mem run)
 meets 𝓤 H A W mem run 𝓣 popped take offers push-all =
     walk-meets 𝓤 H A f.ended stayed W
     (goes-none 𝓤 H A W 5 (λ _. Gr.the-row) yes (λ κs x f. refl), (goes-none-slice 𝓤 H A W 5 (0 ∷ []) tt (plain (λ _. f32)) yes, (goes-none 𝓤 H A W 5 (λ _. P.the-row) yes (λ κs x f. refl), (goes-none 𝓤 H A W 5 (λ _. I.the-row) yes (λ κs x f. refl), (goes-none-slice 𝓤 H A W 5 (1 ∷ []) tt (plain (λ _. u32)) yes, (goes-slice 𝓤 H A W 5 2 tt (plain (λ _. f32)), (goes-slice 𝓤 H A W 5 3 tt (plain (λ _. u32)), (goes-slice 𝓤 H A W 5 4 tt (plain (λ _. E.the-row)), (goes-none 𝓤 H A W 5 (λ _. G.the-row) yes (λ κs x f. refl), (goes-none 𝓤 H A W 5 (λ _. u32) yes (λ κs x f. refl), tt))))))))))
@@ -399,5 +399,5 @@ spread-spec 𝓤 H 𝓜 𝓖 𝓡 =
     (meets 𝓤 H (𝓖 .A) (givenOf 𝓤 H 𝓜 𝓖) (𝓜 .mem) (𝓡 .run) (tablesOf 𝓤 H 𝓜 (tables 𝓤 H 𝓜 𝓡 code.env))
     (cited 𝓤 H (Popped 𝓤 H (𝓖 .A) (𝓜 .mem) (𝓡 .run)) 𝓜 𝓡 code.env #records·popped popped-def.routine code.calls-records·popped (popped-thm.met 𝓤 H 𝓜 𝓖 𝓡))
     (cited 𝓤 H (Take 𝓤 H (𝓖 .A) (𝓜 .mem) (𝓡 .run)) 𝓜 𝓡 code.env #entries-take·take take-def.routine code.calls-entries-take·take (take-thm.met 𝓤 H 𝓜 𝓖 𝓡))
-    (cited 𝓤 H (Offers 𝓤 H (𝓖 .A) (𝓜 .mem) (𝓡 .run)) 𝓜 𝓡 code.env #batch·offers offers-def.routine code.calls-batch·offers (offers-thm.met 𝓤 H 𝓜 𝓖 𝓡))
+    (cited 𝓤 H (Offers 𝓤 H (𝓖 .A) (𝓜 .mem) (𝓡 .run)) 𝓜 𝓡 code.env #gathering·offers offers-def.routine code.calls-gathering·offers (offers-thm.met 𝓤 H 𝓜 𝓖 𝓡))
     (cited 𝓤 H (PushAll 𝓤 H (𝓖 .A) (𝓜 .mem) (𝓡 .run)) 𝓜 𝓡 code.env #records-push·push-all push-all-def.routine code.calls-records-push·push-all (push-all-thm.met 𝓤 H 𝓜 𝓖 𝓡)))

@@ -1,10 +1,10 @@
 -- `offers`: what `gather` tells of the cells around. Assumes nothing.
 use borrow.Author.Needs.{needs}
 use mathlib.Core.Path.{refl}
-use Rattle.batch.proofs.Considers.{place-at}
-use Rattle.batch.proofs.Gathering.{around-listed, all-offered}
-use Rattle.batch.proofs.offers.Statement.{statement}
-use Rattle.batch.proofs.offers.Tie as tie
+use Rattle.considering.proofs.Considers.{place-at}
+use Rattle.gathering.proofs.Gathering.{around-listed, all-offered}
+use Rattle.gathering.proofs.offers.Statement.{statement}
+use Rattle.gathering.proofs.offers.Tie as tie
 
 look-around-requires : tie.Need-look-around-requires
 look-around-requires c κs =

@@ -1,9 +1,9 @@
 -- `counted`, by its test. Assumes nothing.
 use mathlib.Core.Path.{sym, ap}
 use borrow.Author.Needs.{needs}
-use Rattle.batch.specs.Batch.{countedBy}
-use Rattle.batch.proofs.counted.Statement.{statement}
-use Rattle.batch.proofs.counted.Tie as tie
+use Rattle.gathering.specs.Gathered.{countedBy}
+use Rattle.gathering.proofs.counted.Statement.{statement}
+use Rattle.gathering.proofs.counted.Tie as tie
 
 returns : tie.Need-returns
 returns c = ap (countedBy (c .before .args .n)) (sym (c .if1 .taken))

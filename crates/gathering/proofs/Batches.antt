@@ -14,7 +14,9 @@ use Rattle.lists.specs.Turns.{Turn, goes, refuses, andThen, turns}
 use Rattle.lists.proofs.Turns.{turns-same, turns-refused}
 use Rattle.queue.specs.declared.Entry.{Entry}
 use Rattle.run.specs.Run.{Ground, State, Place, queue, queued}
-use Rattle.batch.specs.Batch.{stopAt, over, offerTo, verdict, countedBy}
+use Rattle.batch.specs.Batch.{stopAt, over}
+use Rattle.considering.specs.Considered.{offerTo, verdict}
+use Rattle.gathering.specs.Gathered.{countedBy}
 
 -- ---- queueing over another field and other names
 

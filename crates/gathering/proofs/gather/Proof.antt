@@ -2,9 +2,9 @@
 use native.Mathlib.Omega.{arith}
 use Prim.Native.Nat.{_-_}
 use mathlib.Core.Path.{refl}
-use Rattle.batch.proofs.Gathering.{Gathering, gathering-starts, may-pass, gathering-on, gathering-stops, gathering-ends}
-use Rattle.batch.proofs.gather.Statement.{statement}
-use Rattle.batch.proofs.gather.Tie as tie
+use Rattle.gathering.proofs.Gathering.{Gathering, gathering-starts, may-pass, gathering-on, gathering-stops, gathering-ends}
+use Rattle.gathering.proofs.gather.Statement.{statement}
+use Rattle.gathering.proofs.gather.Tie as tie
 
 abbrev Inv-loop : tie.InvT-loop
 Inv-loop field₀ names₀ k to squares cells₀ distances₀ count₀ j₀ field names cells distances count j = Gathering k to squares field₀ names₀ field names cells distances count j

@@ -1,72 +1,20 @@
--- What an offer over the field and the names comes to: nothing off the grid, 6 for a NaN, nothing where the triangle is no nearer, and else the
--- cell takes it. Assumes nothing.
+-- What a cell queues in step 2, by its test; and the counts, by theirs. Assumes nothing.
 use Prim.Native.Nat.{ℕ, _<_, _≤_, _+_, max}
 use native.Mathlib.Omega.{arith}
 use mathlib.Core.Path.{_≡_, refl, sym, ap, _∙_, subst}
-use mathlib.Core.Bool.{Bool, true, false, not, true≢false}
+use mathlib.Core.Bool.{Bool, true, false, not}
 use mathlib.Core.List.{List}
 use lib.Dec.{T}
-use lib.ListN.{getD, set}
-use lib.Ieee.{Float, nan, inf, fin, isNan, ne, lt, binary32, toBits}
-use borrow.Author.Tests.{eq-eqb, ne-eqb, lt-ltb, le-ltb}
+use lib.ListN.{getD}
+use lib.Ieee.{Float, nan, inf, fin, isNan, lt}
+use borrow.Author.Tests.{lt-ltb, le-ltb}
 use Rattle.float.specs.Arith.{_≺_, fMax, if_then_else_}
-use Rattle.float.specs.RootOf.{rootOf}
 use Rattle.lists.specs.Turns.{Turn, goes, refuses, andThen, turns}
 use Rattle.queue.specs.declared.Entry.{Entry}
-use Rattle.run.specs.Run.{State, Place, off, at, none, entry, queue, queueCell, offerAt}
-use Rattle.run.proofs.Ways.{offer-nan, offer-passed, offer-taken, is-nan, is-number}
-use Rattle.around.specs.Around.{placeOf}
+use Rattle.run.specs.Run.{State, entry, queue, queueCell}
 use Rattle.told.specs.declared.Progress.{Progress}
 use Rattle.batch.specs.declared.Batch.{Batch}
-use Rattle.batch.specs.Batch.{entryIn, stopAt, over, offerTo, verdict, Considered, Cell, queuedBy}
-
-place-off : (n : ℕ) → n ≡ none → placeOf n ≡ off
-place-off n e = ap (λ (t : Bool). if t then off else at n) (eq-eqb n none e)
-
-pub place-at : (n : ℕ) → (n ≡ none → ⊥) → placeOf n ≡ at n
-place-at n e = ap (λ (t : Bool). if t then off else at n) (ne-eqb n none e)
-
-module _ (k to : ℕ) (q : Float) (field : List Float) (names : List ℕ) where
-  pub was-off : to ≡ none → Considered k to q field names field names (record { number = 0; taken = false; distance = 0 })
-  unfolding offerTo verdict
-  was-off e = record {
-    is = λ also s. ap (λ (p : Place). offerTo also k p (rootOf q) (over field names s)) (place-off to e);
-    inside = λ t. absurd (true≢false (sym t));
-  }
-
-  module _ (on : to ≡ none → ⊥) where
-    offered : (also : Entry → State → Turn State) (s : State) → offerTo also k (placeOf to) (rootOf q) (over field names s) ≡ offerAt also k to (rootOf q) (over field names s)
-    unfolding offerTo
-    offered also s = ap (λ (p : Place). offerTo also k p (rootOf q) (over field names s)) (place-at to on)
-
-    pub was-nan : isNan (rootOf q) ≡ isNan q → ne q q ≡ true → Considered k to q field names field names (record { number = 6; taken = false; distance = 0 })
-    unfolding verdict
-    was-nan a t = record {
-      is = λ also s. offered also s ∙ offer-nan also k to (rootOf q) (over field names s) (a ∙ is-nan q t);
-      inside = λ w. absurd (true≢false (sym w));
-    }
-
-    pub was-passed : isNan (rootOf q) ≡ isNan q → ne q q ≡ false → (rootOf q ≺ getD field to nan) ≡ false → Considered k to q field names field names (record { number = 0; taken = false; distance = 0 })
-    unfolding verdict
-    was-passed a t l = record {
-      is = λ also s. offered also s ∙ offer-passed also k to (rootOf q) (over field names s) (a ∙ is-number q t) l;
-      inside = λ w. absurd (true≢false (sym w));
-    }
-
-    pub was-taken : {d : Float} → isNan (rootOf q) ≡ isNan q → ne q q ≡ false → d ≡ rootOf q → (d ≺ getD field to nan) ≡ true
-        → Considered k to q field names (set field to d) (set names to k) (record { number = 0; taken = true; distance = toBits binary32 d })
-    unfolding verdict
-    was-taken {d} a t e l = record {
-      is = λ also s.
-          offered also s
-          ∙ ap (λ (v : Float). offerAt also k to v (over field names s)) (sym e)
-          ∙ offer-taken also k to d (over field names s) (ap isNan e ∙ a ∙ is-number q t) l;
-      inside = λ w z. on z;
-    }
-
--- a test on a value that is another
-pub not-below : {d x : Float} (h : Float) → d ≡ x → (d ≺ h) ≡ false → (x ≺ h) ≡ false
-not-below h e t = ap (λ (v : Float). v ≺ h) (sym e) ∙ t
+use Rattle.batch.specs.Batch.{entryIn, stopAt, over, Cell, queuedBy}
 
 -- what is smaller than something is no NaN
 pub less-no-nan : (x y : Float) → (x ≺ y) ≡ true → T (not (isNan x))

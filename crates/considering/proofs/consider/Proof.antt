@@ -1,9 +1,10 @@
 -- `consider`: the tests on the index, on the square and on the root are those of an offer. Assumes nothing.
 use borrow.Author.Needs.{needs}
 use native.Mathlib.Omega.{arith}
-use Rattle.batch.proofs.Considers.{less-no-nan, was-off, was-nan, was-passed, was-taken, not-below}
-use Rattle.batch.proofs.consider.Statement.{statement}
-use Rattle.batch.proofs.consider.Tie as tie
+use Rattle.batch.proofs.Cells.{less-no-nan}
+use Rattle.considering.proofs.Considers.{was-off, was-nan, was-passed, was-taken, not-below}
+use Rattle.considering.proofs.consider.Statement.{statement}
+use Rattle.considering.proofs.consider.Tie as tie
 
 returns : tie.Need-returns
 returns c =

@@ -18,10 +18,12 @@ use Rattle.run.specs.Run.{State, Place, off, at, queue, offer, offerAt, spreadT
 use Rattle.run.specs.Ground.{groundOf}
 use Rattle.run.specs.Steps.{aroundCell}
 use Rattle.around.specs.Around.{placeOf, Around}
 use Rattle.batch.specs.declared.Batch.{Batch}
-use Rattle.batch.specs.declared.Verdict.{Verdict}
-use Rattle.batch.specs.Batch.{over, offerTo, countedBy, Passable, Listed, Considered, Gathered, Offered}
-use Rattle.batch.proofs.Batches.{Gathers, none-yet, goes-on, stops-here, all-made}
+use Rattle.considering.specs.declared.Verdict.{Verdict}
+use Rattle.batch.specs.Batch.{over}
+use Rattle.considering.specs.Considered.{offerTo, Passable, Considered}
+use Rattle.gathering.specs.Gathered.{countedBy, Listed, Gathered, Offered}
+use Rattle.gathering.proofs.Batches.{Gathers, none-yet, goes-on, stops-here, all-made}
 
 abbrev pub inBatch : List ℕ → List ℕ → ℕ → ℕ → Entry
 inBatch cells distances k i = record { distance = getD distances i 0; cell = getD cells i 0; triangle = k }
