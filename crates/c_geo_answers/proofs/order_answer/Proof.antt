@@ -1,8 +1,8 @@
 -- `order_answer`: by the answer's case. Assumes nothing.
 use borrow.Author.Needs.{needs}
 use Rattle.c_records.specs.C.{comparison}
-use Rattle.c_records.proofs.order_answer.Statement.{statement}
-use Rattle.c_records.proofs.order_answer.Tie as tie
+use Rattle.c_geo_answers.proofs.order_answer.Statement.{statement}
+use Rattle.c_geo_answers.proofs.order_answer.Tie as tie
 
 pub order-answer-spec : {M : Type 1} → statement M
 unfolding comparison

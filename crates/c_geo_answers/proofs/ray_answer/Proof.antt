@@ -1,8 +1,8 @@
 -- `ray_answer`: by the answer's case. Assumes nothing.
 use borrow.Author.Needs.{needs}
 use Rattle.c_records.specs.C.{ray}
-use Rattle.c_records.proofs.ray_answer.Statement.{statement}
-use Rattle.c_records.proofs.ray_answer.Tie as tie
+use Rattle.c_geo_answers.proofs.ray_answer.Statement.{statement}
+use Rattle.c_geo_answers.proofs.ray_answer.Tie as tie
 
 pub ray-answer-spec : {M : Type 1} → statement M
 unfolding ray

@@ -1,8 +1,8 @@
 -- `cell_answer`: by the answer's case. Assumes nothing.
 use borrow.Author.Needs.{needs}
 use Rattle.c_records.specs.C.{cell}
-use Rattle.c_records.proofs.cell_answer.Statement.{statement}
-use Rattle.c_records.proofs.cell_answer.Tie as tie
+use Rattle.c_grid_answers.proofs.cell_answer.Statement.{statement}
+use Rattle.c_grid_answers.proofs.cell_answer.Tie as tie
 
 pub cell-answer-spec : {M : Type 1} → statement M
 unfolding cell

@@ -1,8 +1,8 @@
 -- `grid_answer`: by the answer's case. Assumes nothing.
 use borrow.Author.Needs.{needs}
 use Rattle.c_records.specs.C.{grid}
-use Rattle.c_records.proofs.grid_answer.Statement.{statement}
-use Rattle.c_records.proofs.grid_answer.Tie as tie
+use Rattle.c_grid_answers.proofs.grid_answer.Statement.{statement}
+use Rattle.c_grid_answers.proofs.grid_answer.Tie as tie
 
 pub grid-answer-spec : {M : Type 1} → statement M
 unfolding grid

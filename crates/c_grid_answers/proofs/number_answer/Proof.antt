@@ -1,8 +1,8 @@
 -- `number_answer`: by the answer's case. Assumes nothing.
 use borrow.Author.Needs.{needs}
 use Rattle.c_records.specs.C.{number}
-use Rattle.c_records.proofs.number_answer.Statement.{statement}
-use Rattle.c_records.proofs.number_answer.Tie as tie
+use Rattle.c_grid_answers.proofs.number_answer.Statement.{statement}
+use Rattle.c_grid_answers.proofs.number_answer.Tie as tie
 
 pub number-answer-spec : {M : Type 1} → statement M
 unfolding number

@@ -1,8 +1,8 @@
 -- `snap_answer`: by the answer's case. Assumes nothing.
 use borrow.Author.Needs.{needs}
 use Rattle.c_records.specs.C.{snap}
-use Rattle.c_records.proofs.snap_answer.Statement.{statement}
-use Rattle.c_records.proofs.snap_answer.Tie as tie
+use Rattle.c_grid_answers.proofs.snap_answer.Statement.{statement}
+use Rattle.c_grid_answers.proofs.snap_answer.Tie as tie
 
 pub snap-answer-spec : {M : Type 1} → statement M
 unfolding snap
