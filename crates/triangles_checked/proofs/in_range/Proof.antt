@@ -1,4 +1,4 @@
--- `topology::in_range`: the loop's invariant is that the corners of each triangle passed are below the vertex count. A triangle
+-- `triangles_checked::in_range`: the loop's invariant is that the corners of each triangle passed are below the vertex count. A triangle
 -- with another corner decides the answer, and so does the end of the row. Assumes nothing.
 use borrow.Author.Needs.{needs}
 use borrow.Author.Count.{below-more}
@@ -7,11 +7,11 @@ use mathlib.Core.Path.{_≡_, sym, _∙_}
 use mathlib.Core.Bool.{true}
 use Prim.Native.Nat.{ℕ, _-_, _≤_, _<_}
 use native.Mathlib.Omega.{arith}
 use Rattle.topology.specs.Topology.{trianglesOf, kth}
 use Rattle.topology.specs.Refusals.{belowCount}
 use Rattle.topology.proofs.Laws.{below-each, below-one-not}
-use Rattle.topology.proofs.in_range.Statement.{statement}
-use Rattle.topology.proofs.in_range.Tie as tie
+use Rattle.triangles_checked.proofs.in_range.Statement.{statement}
+use Rattle.triangles_checked.proofs.in_range.Tie as tie
 
 abbrev Inv-loop : tie.InvT-loop
 Inv-loop topology given indices vertices n k₀ k =
