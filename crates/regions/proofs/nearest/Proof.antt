@@ -1,7 +1,7 @@
--- `closest::nearest`: each return by the tests that led there. Assumes nothing.
+-- `regions::nearest`: each return by the tests that led there. Assumes nothing.
 use Rattle.closest.specs.Closest.{nearest}
-use Rattle.closest.proofs.nearest.Statement.{statement}
-use Rattle.closest.proofs.nearest.Tie as tie
+use Rattle.regions.proofs.nearest.Statement.{statement}
+use Rattle.regions.proofs.nearest.Tie as tie
 
 pub nearest-spec : {M : Type 1} → statement M
 unfolding nearest

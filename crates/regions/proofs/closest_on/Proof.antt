@@ -1,8 +1,8 @@
--- `closest::closest_on`: each return by the test that led there. Assumes nothing.
+-- `regions::closest_on`: each return by the test that led there. Assumes nothing.
 use Rattle.closest.specs.Closest.{closestOn}
 use Rattle.closest.proofs.Picks.{picked, passed}
-use Rattle.closest.proofs.closest_on.Statement.{statement}
-use Rattle.closest.proofs.closest_on.Tie as tie
+use Rattle.regions.proofs.closest_on.Statement.{statement}
+use Rattle.regions.proofs.closest_on.Tie as tie
 
 pub closest-on-spec : {M : Type 1} → statement M
 unfolding closestOn
