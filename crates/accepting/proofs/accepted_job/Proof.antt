@@ -1,13 +1,13 @@
--- `generate::accepted_job`: what is cleared is as long as what was lent, so it comes to the same. Assumes nothing.
+-- `accepting::accepted_job`: what is cleared is as long as what was lent, so it comes to the same. Assumes nothing.
 use borrow.Author.Needs.{needs}
 use Rattle.mesh.specs.Mesh.{meshOf}
 use Rattle.checks.specs.Job.{Job, Lent, jobOf, lentOf}
 use Rattle.checks.specs.Refusals.{lengthsOf}
 use Rattle.checks.proofs.Accepted.{accepted}
 use Rattle.outcome.proofs.Outcomes.{gives-cleared}
-use Rattle.generate.proofs.Jobs.{fresh, long}
-use Rattle.generate.proofs.accepted_job.Statement.{statement}
-use Rattle.generate.proofs.accepted_job.Tie as tie
+use Rattle.accepting.proofs.Accepts.{fresh, long}
+use Rattle.accepting.proofs.accepted_job.Statement.{statement}
+use Rattle.accepting.proofs.accepted_job.Tie as tie
 
 abbrev job : tie.Start → Job
 job s = jobOf (s .args .grid) (s .args .vertices .now) (s .args .topology) (s .args .given) (s .args .indices .now) (s .args .limit)

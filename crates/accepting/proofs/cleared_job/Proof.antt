@@ -1,4 +1,4 @@
--- `generate::cleared_job`: the run, and what follows it. Assumes nothing.
+-- `accepting::cleared_job`: the run, and what follows it. Assumes nothing.
 use borrow.Author.Needs.{needs}
 use mathlib.Core.Path.{refl}
 use lib.ListN.{length}
@@ -6,8 +6,8 @@ use Rattle.checks.specs.Job.{Lent, jobOf, lentOf}
 use Rattle.running.proofs.Runs.{run-over}
 use Rattle.clearing.proofs.Lengths.{lengths-same}
 use Rattle.outcome.proofs.Outcomes.{gives-run}
-use Rattle.generate.proofs.cleared_job.Statement.{statement}
-use Rattle.generate.proofs.cleared_job.Tie as tie
+use Rattle.accepting.proofs.cleared_job.Statement.{statement}
+use Rattle.accepting.proofs.cleared_job.Tie as tie
 
 conclude-requires : tie.Need-conclude-requires
 conclude-requires c κs =
