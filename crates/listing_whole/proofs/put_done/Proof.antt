@@ -1,10 +1,10 @@
--- `listing::whole::put_done` meets its contract: its parts stand one after the other. Assumes nothing.
+-- `listing_whole::put_done` meets its contract: its parts stand one after the other. Assumes nothing.
 use borrow.Author.Needs.{needs}
 use Rattle.text.specs.Words.{line}
 use Rattle.writing.proofs.Puts.{andThen}
 use Rattle.listing.specs.Listing.{listed}
-use Rattle.listing.proofs.whole.put_done.Statement.{statement}
-use Rattle.listing.proofs.whole.put_done.Tie as tie
+use Rattle.listing_whole.proofs.put_done.Statement.{statement}
+use Rattle.listing_whole.proofs.put_done.Tie as tie
 
 slice-aggregate-put-number : tie.Need-slice-aggregate-put-number
 slice-aggregate-put-number c = search needs

@@ -1,7 +1,7 @@
-// The whole listing.
-use crate::Written;
-use crate::cells::put_cells;
-use crate::cells::put_rows;
+// The whole listing of an answer, written into lent bytes. A part of the port: users run the job program.
+use listing::Written;
+use listing::put_cells;
+use listing::put_rows;
 use outcome::Answer;
 use writing::put_number;
 ghost use Prim.Native.Nat.{_≤_, _<_};

@@ -1,9 +1,9 @@
--- `listing::whole::write_listing` meets its contract, by the cases of the answer. Assumes nothing.
+-- `listing_whole::write_listing` meets its contract, by the cases of the answer. Assumes nothing.
 use mathlib.Core.Path.{refl}
 use borrow.Author.Needs.{needs}
-use Rattle.listing.proofs.Shown.{refused-written, done-written, too-high}
-use Rattle.listing.proofs.whole.write_listing.Statement.{statement}
-use Rattle.listing.proofs.whole.write_listing.Tie as tie
+use Rattle.listing_whole.proofs.Shown.{refused-written, done-written, too-high}
+use Rattle.listing_whole.proofs.write_listing.Statement.{statement}
+use Rattle.listing_whole.proofs.write_listing.Tie as tie
 
 returns : tie.Need-returns
 returns c = search needs
