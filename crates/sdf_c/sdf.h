@@ -17,7 +17,8 @@
  *      vertex too) not finite or above 1,048,576 in magnitude
  *   3  more than 131,072 triangles
  *   4  an index that a triangle uses is not below the count of vertices
- *   5  a buffer's length is not the one that the grid asks for, or the queue's three lengths differ
+ *   5  a buffer's length is not the one that the grid asks for, or the queue's three lengths differ (a queue that
+ *      is a row of records has one length)
  *   6  a distance met in seeding or spreading is a NaN
  *   7  an entry had to be queued and the queue was full
  *   8  entries waited and the pops taken were the limit
@@ -103,6 +104,12 @@ typedef struct {
     size_t peak;
 } sdf_job_answer;
 
+/* An entry of the queue: the bit pattern of its distance, its cell and its triangle. Only the room is the caller's; what
+ * an entry holds is the job's. */
+typedef struct {
+    uint32_t distance, cell, triangle;
+} sdf_entry;
+
 /* How the corners make triangles, and whether indices are given. For C these are plain numbers: 0 is a list, and
  * any other number a strip; 0 is no indices, and any other number that they are given. */
 enum { SDF_LIST = 0, SDF_STRIP = 1 };
@@ -142,6 +149,16 @@ sdf_job_answer sdf_generate_grid_sdf(sdf_grid grid, const float *vertices, size_
                                      size_t crossings_length, uint32_t *rows, size_t rows_length, uint32_t *distances,
                                      size_t distances_length, uint32_t *cells, size_t cells_length,
                                      uint32_t *triangles, size_t triangles_length, uint32_t limit);
+
+/* The same job with the queue as one array of records, of any length. For the same input it gives the same answer and
+ * leaves the same field, names, crossings and rows; the queue is left all zero where the other's is. What C owes is the
+ * same, of seven arrays. */
+sdf_job_answer sdf_generate_grid_sdf_records(sdf_grid grid, const float *vertices, size_t coordinate_count,
+                                             uint32_t topology, uint32_t given, const uint32_t *indices,
+                                             size_t index_count, float *field, size_t field_length, uint32_t *names,
+                                             size_t names_length, uint32_t *crossings, size_t crossings_length,
+                                             uint32_t *rows, size_t rows_length, sdf_entry *queue,
+                                             size_t queue_length, uint32_t limit);
 
 /* The square root, rounded to nearest. No refusal: what is below zero, and a NaN, gives a NaN. */
 float sdf_sqrt(float x);

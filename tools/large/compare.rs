@@ -1,5 +1,6 @@
 //! compare N SEED [SET [FIRST]]: N jobs through the library against the unmodified Rust, from job FIRST (0) on. Prints
-//! each difference with what makes it again, up to 20, and how much was compared; ends with 1 if there was any.
+//! each difference with what makes it again, up to 20, and how much was compared; ends with 1 if there was any. Each
+//! job is run over a row of records too, and must give the same.
 //!
 //!   small    the kinds of tools/jobs within the job program's limits, and lent buffers of other lengths: every
 //!            answer 0 to 8, with every buffer, against the model of document 01; then against the Rust
@@ -34,6 +35,7 @@ struct Seen {
     kinds: BTreeMap<String, u64>,
     answers: BTreeMap<u32, u64>,
     to_rust: u64,
+    records: u64,
     nans: u64,
     cells: u64,
     triangles: u64,
@@ -48,6 +50,9 @@ impl Seen {
     /// One job held to the Rust.
     fn hold(&mut self, job: &Job, lent: &mut Lent, with_crossings: bool) -> Result<Held, String> {
         let held = rust::hold(job, lent, with_crossings)?;
+        let before = Lent::fitting(&job.grid, lent.distances.len());
+        let coordinates = job.vertices.as_flattened();
+        self.records += u64::from(port::hold_records(job, coordinates, before, u32::MAX, held.answer, lent)?);
         let (cells, triangles) = (u64::from(job.grid.cells()), topology::triangles(job).len() as u64);
         self.to_rust += 1;
         self.nans += u64::from(held.answer.number == 6);
@@ -72,6 +77,7 @@ impl Seen {
              the largest {} cells, the most {} triangles",
             self.to_rust, self.nans, self.cells, self.triangles, self.pops, self.most[0], self.most[1]
         );
+        println!("over records, the same answer and buffers: {} jobs", self.records);
         println!("seconds: {:.1} the library, {:.1} the Rust", self.ours, self.theirs);
         println!("{} jobs, {} differences", self.jobs, self.differences);
     }
@@ -155,6 +161,7 @@ fn hold_to_model(job: &Job, r: &mut Random, seen: &mut Seen) -> Result<u32, Stri
     let owed = owed(job, uneven, before.lengths != lengths);
     let mut lent = before.lent;
     let kept = lent.clone();
+    let before_records = lent.clone();
     let coordinates = job.vertices.as_flattened();
     let coordinates = &coordinates[..coordinates.len() - usize::from(uneven)];
     let answer = port::ask_with(job, coordinates, &mut lent, job.pops);
@@ -171,6 +178,7 @@ fn hold_to_model(job: &Job, r: &mut Random, seen: &mut Seen) -> Result<u32, Stri
     if lent.bits() != left.bits() {
         return Err(format!("answer {number}, and a buffer is not as the model leaves it"));
     }
+    seen.records += u64::from(port::hold_records(job, coordinates, before_records, job.pops, answer, &left)?);
     Ok(if uneven || before.lengths != lengths { 5 } else { number })
 }
 

@@ -15,3 +15,18 @@ void port_job(const uint32_t *grid, const float *vertices, size_t coordinate_cou
     *pops = answer.pops;
     *peak = answer.peak;
 }
+
+/* The same over a row of records: `queue` is three words for each entry. */
+void port_job_records(const uint32_t *grid, const float *vertices, size_t coordinate_count, uint32_t topology,
+                      uint32_t given, const uint32_t *indices, size_t index_count, float *field, size_t field_length,
+                      uint32_t *names, size_t names_length, uint32_t *crossings, size_t crossings_length,
+                      uint32_t *rows, size_t rows_length, uint32_t *queue, size_t queue_length, uint32_t limit,
+                      uint32_t *number, uint32_t *pops, size_t *peak) {
+    sdf_job_answer answer = sdf_generate_grid_sdf_records(
+        *(const sdf_grid *)grid, vertices, coordinate_count, topology, given, indices, index_count, field,
+        field_length, names, names_length, crossings, crossings_length, rows, rows_length, (sdf_entry *)queue,
+        queue_length, limit);
+    *number = answer.number;
+    *pops = answer.pops;
+    *peak = answer.peak;
+}

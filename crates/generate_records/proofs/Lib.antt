@@ -1,3 +1,4 @@
 pub mod Records
 pub mod Same
 pub mod Calls
+pub mod JobCall

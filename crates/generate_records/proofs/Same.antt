@@ -42,7 +42,7 @@ pub record Agree (o p : Outcome) : Type 0 where
   pub answer : o .answer ≡ p .answer
   pub left : Alike (o .left) (p .left)
 
-same-outcome : (j : Job) (b c : Lent) → Alike b c → lengthsOf b ≡ lengthsOf c → Agree (outcome j b) (outcome j c)
+pub same-outcome : (j : Job) (b c : Lent) → Alike b c → lengthsOf b ≡ lengthsOf c → Agree (outcome j b) (outcome j c)
 unfolding outcome unlessRefused
 same-outcome j b c h e = go (refusal j b) (refusal j c) (ap (refusalBy (j .grid) (j .mesh)) e)
   where

@@ -1,8 +1,9 @@
 // The public face of the port: this is what users call. No function of it has a `requires`: what is out
 // of bounds is refused, by a number of document 01. The crates below it are its parts.
 //
-//   generate_grid_sdf  the whole job, over lent buffers (its contract stands in crate `generate`)
-//   questions          the grid, the geometry, the comparison and the root asked by themselves
+//   generate_grid_sdf          the whole job, over lent buffers (its contract stands in crate `generate`)
+//   generate_grid_sdf_records  the same with the queue as a lent row of records (crate `generate_records`)
+//   questions                  the grid, the geometry, the comparison and the root asked by themselves
 //
 // The same for C stands in crate `sdf_c`.
 mod questions;
@@ -36,6 +37,8 @@ pub use point::Point;
 
 pub use generate::Answer;
 pub use generate::generate_grid_sdf;
+pub use generate_records::generate_grid_sdf_records;
+pub use queue::Entry;
 pub use topology::Indices;
 pub use topology::Topology;
 

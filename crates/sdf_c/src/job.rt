@@ -1,13 +1,15 @@
-// The whole job for C: `sdf::generate_grid_sdf`, with its answer as a record. A slice is two parameters in C, a
-// pointer and a count.
+// The whole job for C, over three arrays or over a row of records: `sdf::generate_grid_sdf` and
+// `sdf::generate_grid_sdf_records`, with the answer as a record. A slice is two parameters in C, a pointer and a count.
 use c_records::SdfGrid;
 use sdf::Answer;
+use sdf::Entry;
 use sdf::Indices;
 use sdf::Topology;
 ghost use mathlib.Core.Path.{_≡_};
 ghost use Rattle.c_records.specs.C.{gridIn};
 ghost use Rattle.checks.specs.Job.{jobOf, lentOf};
 ghost use Rattle.outcome.specs.Outcome.{outcome};
+ghost use Rattle.generate_records.specs.LentRow.{lentRow};
 ghost use Rattle.sdf_c.specs.Job.{topologyIn, indicesIn, answerOut, GivesC};
 
 // Document 01's number, 0 where the job is done, with the entries taken and the most that waited at once;
@@ -19,7 +21,7 @@ pub struct SdfJobAnswer {
     pub peak: usize,
 }
 
-fn topology_in(topology: u32) -> Topology
+pub(crate) fn topology_in(topology: u32) -> Topology
     ensures { λ r. ⌜ r ≡ topologyIn topology ⌝ }
 {
     if topology == 0 {
@@ -28,7 +30,7 @@ fn topology_in(topology: u32) -> Topology
     Topology::TriangleStrip
 }
 
-fn indices_in(given: u32) -> Indices
+pub(crate) fn indices_in(given: u32) -> Indices
     ensures { λ r. ⌜ r ≡ indicesIn given ⌝ }
 {
     if given == 0 {
@@ -37,7 +39,7 @@ fn indices_in(given: u32) -> Indices
     Indices::Given
 }
 
-fn answer_out(a: Answer) -> SdfJobAnswer
+pub(crate) fn answer_out(a: Answer) -> SdfJobAnswer
     ensures { λ r. ⌜ r ≡ answerOut a ⌝ }
 {
     match a {
@@ -88,4 +90,40 @@ pub extern "C" fn sdf_generate_grid_sdf(
         triangles,
         limit,
     ))
+}
+
+// The same with the queue as a row of records.
+#[no_mangle]
+pub extern "C" fn sdf_generate_grid_sdf_records(
+    grid: SdfGrid,
+    vertices: &[f32],
+    topology: u32,
+    given: u32,
+    indices: &[u32],
+    field: &mut [f32],
+    names: &mut [u32],
+    crossings: &mut [u32],
+    rows: &mut [u32],
+    queue: &mut [Entry],
+    limit: u32,
+) -> SdfJobAnswer
+    ensures { λ r. ⌜ GivesC (outcome (jobOf (gridIn grid) (now (vertices .entry)) (topologyIn topology) (indicesIn given) (now (indices .entry)) limit) (lentRow (now (field .entry)) (now (names .entry)) (now (crossings .entry)) (now (rows .entry)) (now (queue .entry)))) r (lentRow (now (field .exit)) (now (names .exit)) (now (crossings .exit)) (now (rows .exit)) (now (queue .exit))) ⌝ }
+{
+    let at = grid.grid();
+    let listed = topology_in(topology);
+    let indexed = indices_in(given);
+    let answer = sdf::generate_grid_sdf_records(
+        at,
+        vertices,
+        listed,
+        indexed,
+        indices,
+        field,
+        names,
+        crossings,
+        rows,
+        queue,
+        limit,
+    );
+    answer_out(answer)
 }

@@ -1,0 +1,21 @@
+-- The whole job for C gives what the job gives: what C handed in is read, and the answer written out. Assumes nothing.
+use Prim.Native.Nat.{ℕ}
+use mathlib.Core.Path.{_≡_, ap, _∙_, subst}
+use mathlib.Core.List.{List}
+use lib.Ieee.{Float}
+use Rattle.grid.specs.declared.Grid.{Grid}
+use Rattle.topology.specs.declared.Topology.{Topology}
+use Rattle.topology.specs.declared.Indices.{Indices}
+use Rattle.outcome.specs.declared.Answer.{Answer}
+use Rattle.checks.specs.Job.{Lent, jobOf}
+use Rattle.outcome.specs.Outcome.{Outcome, Gives, outcome}
+use Rattle.sdf_c.specs.declared.job.SdfJobAnswer.{SdfJobAnswer}
+use Rattle.sdf_c.specs.Job.{answerOut, GivesC}
+
+pub gives-c : {g g′ : Grid} {t t′ : Topology} {i i′ : Indices} {a : Answer} {r : SdfJobAnswer} (vs : List Float) (is : List ℕ) (limit : ℕ) (b : Lent) {left : Lent}
+    → g ≡ g′ → t ≡ t′ → i ≡ i′ → r ≡ answerOut a → Gives (outcome (jobOf g vs t i is limit) b) a left → GivesC (outcome (jobOf g′ vs t′ i′ is limit) b) r left
+gives-c {g} {g′} {t} {t′} {i} {i′} {a} {r} vs is limit b {left} eg et ei er h =
+    subst
+    (λ (o : Outcome). GivesC o r left)
+    (λ k. outcome (jobOf (eg k) vs (et k) (ei k) is limit) b)
+    (record { answers = er ∙ ap answerOut (h .answers); leaves = h .leaves })
