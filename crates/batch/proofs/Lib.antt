@@ -1,4 +1,2 @@
 -- The laws of batches.
-pub mod Batches
-mod Considers
-mod Gathering
+pub mod Cells

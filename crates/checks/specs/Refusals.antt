@@ -12,7 +12,8 @@ use Rattle.point.specs.declared.Axis.the-variants.{Z}
 use Rattle.grid.specs.declared.Grid.{Grid}
 use Rattle.grid.specs.Axes.{countOn}
 use Rattle.grid.specs.Index.{total}
-use Rattle.grid.specs.Bounds.{isCoordinate, inBounds}
+use Rattle.grid_axis.specs.AxisBounds.{isCoordinate}
+use Rattle.grid.specs.Bounds.{inBounds}
 use Rattle.topology.specs.Refusals.{tooManyTriangles, allBelowCount}
 use Rattle.mesh.specs.Mesh.{Mesh, vertexCount, trianglesIn}
 use Rattle.checks.specs.declared.Lengths.{Lengths}

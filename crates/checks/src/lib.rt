@@ -4,7 +4,8 @@ ghost use mathlib.Core.Path.{_≡_};
 ghost use mathlib.Core.Bool.{true};
 ghost use Prim.Native.Nat.{_+_, _*_, _%_, _<_};
 ghost use lib.ListN.{length};
-ghost use Rattle.grid.specs.Bounds.{isCoordinate, inBounds};
+ghost use Rattle.grid_axis.specs.AxisBounds.{isCoordinate};
+ghost use Rattle.grid.specs.Bounds.{inBounds};
 ghost use Rattle.mesh.specs.Mesh.{meshOf};
 ghost use Rattle.checks.specs.Refusals.{allCoordinates, wrongVertices, wrongLengths, refusalBy};
 use grid::Grid;
@@ -90,11 +91,11 @@ pub fn first_refusal(
         return 2;
     }
     let count = vertices.len() / 3;
-    let many = topology::too_many_triangles(topology, given, indices, count);
+    let many = triangles_checked::too_many_triangles(topology, given, indices, count);
     if many {
         return 3;
     }
-    let known = topology::in_range(topology, given, indices, count);
+    let known = triangles_checked::in_range(topology, given, indices, count);
     if !known {
         return 4;
     }

@@ -1,5 +1,6 @@
 // The point of a segment and of a triangle that is closest to a point, after Embree. What depends on the
-// triangle alone is a `Facet`, made once for many points. A part of `geo`.
+// triangle alone is a `Facet`, made once for many points. Here are its parts, and a triangle with equal corners;
+// `regions` has the others. A part of `geo`.
 ghost use mathlib.Core.Path.{_≡_};
 ghost use Rattle.point.specs.Point.{_+ᵥ_, _*ᵥ_};
 ghost use Rattle.closest.specs.Closest as Closest;
@@ -80,47 +81,8 @@ pub fn dots_of(f: Facet, p: Point) -> Dots
     }
 }
 
-// The first region whose test passes, and inside where none does. The tests are joined by `&`: a branch
-// on each part costs more than the comparisons.
-fn nearest(d: Dots, f: Facet) -> Point
-    ensures { λ r. ⌜ r ≡ Closest.nearest d f ⌝ }
-{
-    let a = f.a;
-    let b = f.b;
-    let c = f.c;
-    let d1 = d.d1;
-    let d2 = d.d2;
-    let d3 = d.d3;
-    let d4 = d.d4;
-    let d5 = d.d5;
-    let d6 = d.d6;
-    if (d1 <= 0.0) & (d2 <= 0.0) {
-        return a;
-    }
-    if (d3 >= 0.0) & (d4 <= d3) {
-        return b;
-    }
-    if (d6 >= 0.0) & (d5 <= d6) {
-        return c;
-    }
-    let vc = d1 * d4 - d3 * d2;
-    if (vc <= 0.0) & (d1 >= 0.0) & (d3 <= 0.0) {
-        return step(a, f.ab, d1 / (d1 - d3));
-    }
-    let vb = d5 * d2 - d1 * d6;
-    if (vb <= 0.0) & (d2 >= 0.0) & (d6 <= 0.0) {
-        return step(a, f.ac, d2 / (d2 - d6));
-    }
-    let va = d3 * d6 - d5 * d4;
-    if (va <= 0.0) & (d4 - d3 >= 0.0) & (d5 - d6 >= 0.0) {
-        return step(b, f.bc, (d4 - d3) / ((d4 - d3) + (d5 - d6)));
-    }
-    let denom = 1.0 / (va + vb + vc);
-    step(step(a, f.ab, vb * denom), f.ac, vc * denom)
-}
-
 // A triangle of which two corners are equal is a segment or a point.
-fn closest_point_equal(p: Point, a: Point, b: Point, c: Point) -> Point
+pub fn closest_point_equal(p: Point, a: Point, b: Point, c: Point) -> Point
     ensures { λ r. ⌜ r ≡ Closest.closestPointEqual p a b c ⌝ }
 {
     let ab = (a.x == b.x) & (a.y == b.y) & (a.z == b.z);
@@ -133,20 +95,4 @@ fn closest_point_equal(p: Point, a: Point, b: Point, c: Point) -> Point
         return closest_point_segment(p, a, c);
     }
     closest_point_segment(p, a, b)
-}
-
-pub fn closest_on(f: Facet, p: Point) -> Point
-    ensures { λ r. ⌜ r ≡ Closest.closestOn f p ⌝ }
-{
-    let equal = f.equal;
-    if equal {
-        return closest_point_equal(p, f.a, f.b, f.c);
-    }
-    nearest(dots_of(f, p), f)
-}
-
-pub fn closest_point_triangle(p: Point, a: Point, b: Point, c: Point) -> Point
-    ensures { λ r. ⌜ r ≡ Closest.closestPointTriangle p a b c ⌝ }
-{
-    closest_on(facet_of(a, b, c), p)
 }

@@ -1,9 +1,6 @@
 pub mod Element
 pub mod Again
 pub mod Projections
-pub mod RowMoves
-pub mod Steps
 pub mod Calls
 pub mod First
-pub mod Children
-pub mod RowCalls
+pub mod Unused

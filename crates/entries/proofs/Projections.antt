@@ -1,5 +1,5 @@
 -- A row's three projections, put together again, are the row: so what waits in the row is what waits in the three lists. Assumes nothing.
-use Prim.Native.Nat.{ℕ, zero, suc, _+_, _<_}
+use Prim.Native.Nat.{ℕ, zero, suc, _+_, _<_, _≤_}
 use native.Mathlib.Omega.{arith}
 use native.Mathlib.Decide.{ℕ-discrete}
 use mathlib.Core.Path.{_≡_, refl, sym, ap, ap₂, _∙_}
@@ -24,6 +24,10 @@ row-even row = record {
   triangles = length-map row (λ e. e .triangle) ∙ sym (length-map row (λ e. e .distance));
 }
 
+-- the room of a row
+pub long-row : (row : List Entry) → length (distances row) ≡ length row
+long-row row = length-map row (λ e. e .distance)
+
 module _ {le : Entry → Entry → Bool} where
   -- a heap in the row is one in the three lists, and back
   pub held-of : (row : List Entry) (n : ℕ) → Keeps le blank row n → HeldRow le row n
@@ -31,6 +35,10 @@ module _ {le : Entry → Entry → Bool} where
 
   pub of-held : (row : List Entry) (n : ℕ) → HeldRow le row n → Keeps le blank row n
   of-held row n h = rw (sym (row-entries row)) (h .keeps)
+
+  -- the waiting entries fit into the row
+  pub held-in : (row : List Entry) (n : ℕ) → HeldRow le row n → n ≤ length row
+  held-in row n h = of-held row n h .fit
 
 -- ---- a row that is all blank
 pub blanks : (row : List Entry) (n : ℕ) → length row ≡ n → ((k : ℕ) → k < n → getD row k blank ≡ blank) → row ≡ replicate n blank

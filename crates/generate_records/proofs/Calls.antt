@@ -70,8 +70,8 @@ use Rattle.entries.proofs.clear as clear
 use Rattle.entries.proofs.clear.Symbol.{name as #entries·clear}
 use Rattle.running_row.proofs.run_row as run-row
 use Rattle.running_row.proofs.run_row.Symbol.{name as #running-row·run-row}
-use Rattle.outcome.proofs.close as close
-use Rattle.outcome.proofs.close.Symbol.{name as #outcome·close}
+use Rattle.closing.proofs.close as close
+use Rattle.closing.proofs.close.Symbol.{name as #closing·close}
 
 -- the contracts that are cited
 abbrev pub Begin : {M : Type 1} (𝓤 : URA M) (H : Heap 𝓤) (A : Atoms 𝓤) (mem : Memory → SProp 𝓤) (run : Routine → Fun 𝓤) → Contract 𝓤
@@ -220,10 +220,10 @@ module _ {M : Type 1} (𝓤 : URA M) (H : Heap 𝓤) (A : Atoms 𝓤) (W : Given
       owned ! Gr.the-row (Is Gr.the-row) (LL.makes Gr.the-type Gr′.the-plain 𝓤 H A) grid _ grid-is $ fjoin ! $ done !
 
   pub calls-close : {Γ : List (Item 𝓤)} {En : Env 𝓤 H} {C : Calls 𝓤 H} {Λ : Loops 𝓤 H} {post : Post 𝓤 H} {xs : List Operand} {d : Place} {rest : Body} {K : Type 0}
-      → K → FmC 𝓤 H (W .laws) C → Triple 𝓤 (C #outcome·close) (Close 𝓤 H A mem run)
+      → K → FmC 𝓤 H (W .laws) C → Triple 𝓤 (C #closing·close) (Close 𝓤 H A mem run)
       → ((ν-field ν-names ν-crossings ν-rows : ℕ) (δ-field δ-names δ-crossings δ-rows : GName) → Opds K W (raw (Close 𝓤 H A mem run .pre (to-close ν-field ν-names ν-crossings ν-rows δ-field δ-names δ-crossings δ-rows)) ∷ ‵ (ShrSlice (named 0) κ-vertices f32 .own vertices (s-vertices ∷ [])) ∷ ‵ (ShrSlice (named 0) κ-indices u32 .own indices (s-indices ∷ [])) ∷ ‵ (Kept f32 κ-field q-field γ-field b-field o-field field ν-field δ-field) ∷ ‵ (Kept u32 κ-names q-names γ-names b-names o-names names ν-names δ-names) ∷ ‵ (Kept u32 κ-crossings q-crossings γ-crossings b-crossings o-crossings crossings ν-crossings δ-crossings) ∷ ‵ (Kept u32 κ-rows q-rows γ-rows b-rows o-rows rows ν-rows δ-rows) ∷ Γ) En xs (Close 𝓤 H A mem run .args (to-close ν-field ν-names ν-crossings ν-rows δ-field δ-names δ-crossings δ-rows)))
       → ((us-field : List Float) (us-names : List ℕ) (us-crossings : List ℕ) (us-rows : List ℕ) (r : Answer) → length us-field ≡ length field → length us-names ≡ length names → length us-crossings ≡ length crossings → length us-rows ≡ length rows → Is An.the-row r (EL.val An.the-type An′.the-laws r ∷ []) → Closed grid (meshOf (vertices .now) topology given (indices .now)) ran field names crossings rows us-field us-names us-crossings us-rows r → Seq K W (‵ (ShrSlice (named 0) κ-vertices f32 .own vertices (s-vertices ∷ [])) ∷ ‵ (flft κ-vertices q-vertices) ∷ ‵ (ShrSlice (named 0) κ-indices u32 .own indices (s-indices ∷ [])) ∷ ‵ (flft κ-indices q-indices) ∷ ‵ (MutSlice (named 0) κ-field f32 .own (at b-field o-field γ-field us-field) (s-field ∷ [])) ∷ ‵ (flft κ-field q-field) ∷ ‵ (MutSlice (named 0) κ-names u32 .own (at b-names o-names γ-names us-names) (s-names ∷ [])) ∷ ‵ (flft κ-names q-names) ∷ ‵ (MutSlice (named 0) κ-crossings u32 .own (at b-crossings o-crossings γ-crossings us-crossings) (s-crossings ∷ [])) ∷ ‵ (flft κ-crossings q-crossings) ∷ ‵ (MutSlice (named 0) κ-rows u32 .own (at b-rows o-rows γ-rows us-rows) (s-rows ∷ [])) ∷ ‵ (flft κ-rows q-rows) ∷ Γ) (lands C Λ En d (EL.val An.the-type An′.the-laws r) rest post))
-      → Seq K W (‵ (ShrSlice (named 0) κ-vertices f32 .own vertices (s-vertices ∷ [])) ∷ ‵ (flft κ-vertices q-vertices) ∷ ‵ (ShrSlice (named 0) κ-indices u32 .own indices (s-indices ∷ [])) ∷ ‵ (flft κ-indices q-indices) ∷ ‵ (MutSlice (named 0) κ-field f32 .own (at b-field o-field γ-field field) (s-field ∷ [])) ∷ ‵ (flft κ-field q-field) ∷ ‵ (MutSlice (named 0) κ-names u32 .own (at b-names o-names γ-names names) (s-names ∷ [])) ∷ ‵ (flft κ-names q-names) ∷ ‵ (MutSlice (named 0) κ-crossings u32 .own (at b-crossings o-crossings γ-crossings crossings) (s-crossings ∷ [])) ∷ ‵ (flft κ-crossings q-crossings) ∷ ‵ (MutSlice (named 0) κ-rows u32 .own (at b-rows o-rows γ-rows rows) (s-rows ∷ [])) ∷ ‵ (flft κ-rows q-rows) ∷ Γ) (runs C Λ En (seq (call #outcome·close xs d) rest) post)
+      → Seq K W (‵ (ShrSlice (named 0) κ-vertices f32 .own vertices (s-vertices ∷ [])) ∷ ‵ (flft κ-vertices q-vertices) ∷ ‵ (ShrSlice (named 0) κ-indices u32 .own indices (s-indices ∷ [])) ∷ ‵ (flft κ-indices q-indices) ∷ ‵ (MutSlice (named 0) κ-field f32 .own (at b-field o-field γ-field field) (s-field ∷ [])) ∷ ‵ (flft κ-field q-field) ∷ ‵ (MutSlice (named 0) κ-names u32 .own (at b-names o-names γ-names names) (s-names ∷ [])) ∷ ‵ (flft κ-names q-names) ∷ ‵ (MutSlice (named 0) κ-crossings u32 .own (at b-crossings o-crossings γ-crossings crossings) (s-crossings ∷ [])) ∷ ‵ (flft κ-crossings q-crossings) ∷ ‵ (MutSlice (named 0) κ-rows u32 .own (at b-rows o-rows γ-rows rows) (s-rows ∷ [])) ∷ ‵ (flft κ-rows q-rows) ∷ Γ) (runs C Λ En (seq (call #closing·close xs d) rest) post)
   calls-close {En = En} {C = C} {Λ = Λ} {post = post} {d = d} {rest = rest} t fm met os k =
       lft-new t tt (λ ν-field. move t (5 ∷ 6 ∷ []) $ lends t tt f32 b-field o-field field s-field ν-field (λ δ-field. lft-new t tt (λ ν-names. move t (8 ∷ 9 ∷ []) $
       lends t tt u32 b-names o-names names s-names ν-names (λ δ-names. lft-new t tt (λ ν-crossings. move t (11 ∷ 12 ∷ []) $

@@ -64,7 +64,7 @@ pub fn generate_grid_sdf_records(
         begun.number,
         limit,
     );
-    let answer = outcome::close(
+    let answer = closing::close(
         grid,
         vertices,
         topology,

@@ -77,7 +77,7 @@ pub fn closest_point_triangle(p: Point, a: Point, b: Point, c: Point) -> PointAn
     ensures { λ r. ⌜ Asked.pointAnswer r ≡ Asked.askedTriangle p a b c ⌝ }
 {
     let inside = within(p) & within(a) & within(b) & within(c);
-    answer_point(inside, closest::closest_point_triangle(p, a, b, c))
+    answer_point(inside, regions::closest_point_triangle(p, a, b, c))
 }
 
 pub fn point_triangle_distance(p: Point, a: Point, b: Point, c: Point) -> DistanceAnswer

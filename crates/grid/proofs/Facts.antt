@@ -13,7 +13,8 @@ use Rattle.grid.specs.declared.Grid.{Grid}
 use Rattle.grid.specs.declared.Cell.{Cell}
 use Rattle.grid.specs.Axes.{countOn, firstOn, sizeOn, cellOn, onEvery}
 use Rattle.grid.specs.Index.{Inside, index, total, isCell}
-use Rattle.grid.specs.Bounds.{isCount, isCoordinate, isSize, axisInBounds, isAxis, isTotal, inBounds}
+use Rattle.grid_axis.specs.AxisBounds.{isCount, isCoordinate, isSize, axisInBounds}
+use Rattle.grid.specs.Bounds.{isAxis, isTotal, inBounds}
 use Rattle.grid.proofs.Laws.{index-below}
 
 both : (a b : Bool) → (a && b) ≡ true → (a ≡ true) × (b ≡ true)

@@ -1,12 +1,10 @@
--- Where cells lie, and in which cell a point lies (document 01, "Grid"). What is alike on the three axes is defined on one. Definitions
--- only.
+-- Where cells lie, and in which cell a point lies (document 01, "Grid"). What is alike on the three axes is defined on one
+-- (`grid_axis`, OnAxis). Definitions only.
 use mathlib.Core.Bool.{Bool}
-use Prim.Native.Nat.{ℕ}
-use lib.IntN.{ℤ, pos}
-use lib.Ieee as Ieee
-use lib.Ieee.{Float, binary32}
-use Rattle.float.specs.Arith.{_⊕_, _⊖_, _⊗_, _⊘_, f½, if_then_else_}
+use lib.IntN.{ℤ}
+use Rattle.float.specs.Arith.{if_then_else_}
 use Rattle.float.specs.Cell.{floorOf, cellOf, outside}
+use Rattle.grid_axis.specs.OnAxis.{centreOn, lowOn, highOn, quotientOn, boxSize, boxFirst}
 use Rattle.point.specs.declared.Point.{Point}
 use Rattle.point.specs.declared.Axis.{Axis}
 use Rattle.point.specs.Point.{coordinate}
@@ -18,24 +16,11 @@ use Rattle.grid.specs.declared.SnapResult.{SnapResult}
 use Rattle.grid.specs.declared.SnapResult.the-variants.{Inside, Outside}
 use Rattle.grid.specs.Axes.{countOn, along, firstOn, sizeOn, cellOn, pointBy, cellBy, onSome}
 
--- (i as f32), which for the counts of a grid is exact
-abbrev pub real : ℕ → Float
-real i = Ieee.ofInt binary32 (pos i)
-
--- "Centre on an axis: first + (i as f32)·size, one rounding per operation."
-abbrev pub centreOn : Float → Float → ℕ → Float
-centreOn first size i = first ⊕ real i ⊗ size
-
+-- the centre of a cell, axis by axis
 unfoldable pub centreOf : Grid → Cell → Point
 centreOf g c = pointBy (λ a. centreOn (firstOn a g) (sizeOn a g) (cellOn a c))
 
--- "Box minimum: first − size·0.5. Maximum: that + (count as f32)·size."
-abbrev pub lowOn : Float → Float → Float
-lowOn first size = first ⊖ size ⊗ f½
-
-abbrev pub highOn : Float → Float → ℕ → Float
-highOn first size count = lowOn first size ⊕ real count ⊗ size
-
+-- the box that the cells fill: its corners, axis by axis
 unfoldable pub boxMin : Grid → Point
 boxMin g = pointBy (λ a. lowOn (firstOn a g) (sizeOn a g))
 
@@ -47,9 +32,6 @@ boxOf g = record { min = boxMin g; max = boxMax g }
 
 -- "Snap: floor of (point − box minimum) / size, as a signed whole number that saturates at the ends of the 64-bit range, then
 -- clamped to 0 .. count − 1. Inside if no axis was clamped, else Outside. [..] A NaN quotient gives 0, as the Rust cast does."
-abbrev pub quotientOn : Float → Float → Float → Float
-quotientOn first size p = (p ⊖ lowOn first size) ⊘ size
-
 abbrev pub floorOn : Axis → Grid → Point → ℤ
 floorOn a g p = floorOf (quotientOn (firstOn a g) (sizeOn a g) (coordinate a p))
 
@@ -71,13 +53,7 @@ cellIn (Outside c) = c
 unfoldable pub lastCell : Grid → Point
 lastCell g = pointBy (λ a. centreOn (firstOn a g) (sizeOn a g) (countOn a g))
 
--- "`from_bounding_box`: size (max − min) / (count as f32), first min + size·0.5"
-abbrev pub boxSize : Float → Float → ℕ → Float
-boxSize low high count = (high ⊖ low) ⊘ real count
-
-abbrev pub boxFirst : Float → Float → ℕ → Float
-boxFirst low high count = low ⊕ boxSize low high count ⊗ f½
-
+-- `from_bounding_box`, axis by axis
 unfoldable pub fromBox : Point → Point → Counts → Grid
 fromBox low high n = record {
   «first_cell» = pointBy (λ a. boxFirst (coordinate a low) (coordinate a high) (along a n));

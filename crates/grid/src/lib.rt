@@ -1,7 +1,7 @@
 // The grid of cells that a field is worked out on, after `grid.rs` (document 01, "Grid"). Its questions
 // are methods that take the grid by value. Those of the crate `grid_asked` refuse what is out of bounds; those of
-// this file are its parts, and some ask their caller for the bounds. A part of the port: users call `sdf`.
-use float::Place;
+// this file are its parts, and some ask their caller for the bounds. What is alike on the three axes is in
+// `grid_axis`. A part of the port: users call `sdf`.
 use point::Axis;
 use point::Point;
 ghost use mathlib.Core.Path.{_≡_};
@@ -9,9 +9,8 @@ ghost use mathlib.Core.Bool.{true};
 ghost use Prim.Native.Nat.{_^_, _<_};
 ghost use Rattle.grid.specs.Axes as Axes;
 ghost use Rattle.grid.specs.Index.{Inside, indexOf, cellAt, total, isCell, isIndex};
-ghost use Rattle.float.specs.Cell.{Snapped};
 ghost use Rattle.grid.specs.Place as Spec;
-ghost use Rattle.grid.specs.Bounds.{axisInBounds, inBounds};
+ghost use Rattle.grid.specs.Bounds.{inBounds};
 
 // A cell by its number along each axis.
 pub struct Cell {
@@ -48,58 +47,6 @@ pub struct BoundingBox {
     pub max: Point,
 }
 
-// The centre of cell i of an axis. An i below 2^16 is an f32 as it stands.
-pub fn centre_on(first: f32, size: f32, i: u32) -> f32
-    requires { ⌜ i < 2 ^ 16 ⌝ }
-    ensures { λ r. ⌜ r ≡ Spec.centreOn first size i ⌝ }
-{
-    first + ((i as u16) as f32) * size
-}
-
-// The low and the high side of the grid's box on an axis.
-fn low_on(first: f32, size: f32) -> f32
-    ensures { λ r. ⌜ r ≡ Spec.lowOn first size ⌝ }
-{
-    first - size * 0.5
-}
-
-fn high_on(first: f32, size: f32, count: u32) -> f32
-    ensures { λ r. ⌜ r ≡ Spec.highOn first size count ⌝ }
-{
-    first - size * 0.5 + std::num::nearest_u32_to_f32(count) * size
-}
-
-// The place of cell `count` of an axis, which is one past the last.
-fn end_on(first: f32, size: f32, count: u32) -> f32
-    ensures { λ r. ⌜ r ≡ Spec.centreOn first size count ⌝ }
-{
-    first + std::num::nearest_u32_to_f32(count) * size
-}
-
-// The cell of an axis that p lies in, and whether it was clamped.
-pub fn snap_on(first: f32, size: f32, count: u32, p: f32) -> Place
-    ensures { λ r. ⌜ Snapped count (Spec.quotientOn first size p) (r .index) (r .clamped) ⌝ }
-{
-    float::cell((p - (first - size * 0.5)) / size, count)
-}
-
-// The size of a cell on an axis where `count` cells reach from `low` to `high`.
-fn size_between(low: f32, high: f32, count: u32) -> f32
-    ensures { λ r. ⌜ r ≡ Spec.boxSize low high count ⌝ }
-{
-    (high - low) / std::num::nearest_u32_to_f32(count)
-}
-
-// Whether what a grid has along one axis is within the bounds.
-fn axis_in_bounds(count: u32, first: f32, size: f32) -> bool
-    ensures { λ r. ⌜ r ≡ axisInBounds count first size ⌝ }
-{
-    let count_ok = (1 <= count) & (count <= 1024);
-    let first_ok = float::finite_at_most(first, 1048576.0);
-    let size_ok = (0.0009765625 <= size) & (size <= 1024.0);
-    count_ok & first_ok & size_ok
-}
-
 impl Cell {
     pub fn get(self, axis: Axis) -> u32
         ensures { λ r. ⌜ r ≡ Axes.cellOn axis self ⌝ }
@@ -131,9 +78,9 @@ impl Grid {
     {
         let first = self.first_cell;
         let size = self.cell_size;
-        let x = axis_in_bounds(self.count_x, first.x, size.x);
-        let y = axis_in_bounds(self.count_y, first.y, size.y);
-        let z = axis_in_bounds(self.count_z, first.z, size.z);
+        let x = grid_axis::axis_in_bounds(self.count_x, first.x, size.x);
+        let y = grid_axis::axis_in_bounds(self.count_y, first.y, size.y);
+        let z = grid_axis::axis_in_bounds(self.count_z, first.z, size.z);
         if !(x & y & z) {
             return false;
         }
@@ -223,9 +170,9 @@ impl Grid {
         let first = self.first_cell;
         let size = self.cell_size;
         Point {
-            x: centre_on(first.x, size.x, cell.x),
-            y: centre_on(first.y, size.y, cell.y),
-            z: centre_on(first.z, size.z, cell.z),
+            x: grid_axis::centre_on(first.x, size.x, cell.x),
+            y: grid_axis::centre_on(first.y, size.y, cell.y),
+            z: grid_axis::centre_on(first.z, size.z, cell.z),
         }
     }
 
@@ -237,14 +184,14 @@ impl Grid {
         let size = self.cell_size;
         BoundingBox {
             min: Point {
-                x: low_on(first.x, size.x),
-                y: low_on(first.y, size.y),
-                z: low_on(first.z, size.z),
+                x: grid_axis::low_on(first.x, size.x),
+                y: grid_axis::low_on(first.y, size.y),
+                z: grid_axis::low_on(first.z, size.z),
             },
             max: Point {
-                x: high_on(first.x, size.x, self.count_x),
-                y: high_on(first.y, size.y, self.count_y),
-                z: high_on(first.z, size.z, self.count_z),
+                x: grid_axis::high_on(first.x, size.x, self.count_x),
+                y: grid_axis::high_on(first.y, size.y, self.count_y),
+                z: grid_axis::high_on(first.z, size.z, self.count_z),
             },
         }
     }
@@ -256,9 +203,9 @@ impl Grid {
         let first = self.first_cell;
         let size = self.cell_size;
         Point {
-            x: end_on(first.x, size.x, self.count_x),
-            y: end_on(first.y, size.y, self.count_y),
-            z: end_on(first.z, size.z, self.count_z),
+            x: grid_axis::end_on(first.x, size.x, self.count_x),
+            y: grid_axis::end_on(first.y, size.y, self.count_y),
+            z: grid_axis::end_on(first.z, size.z, self.count_z),
         }
     }
 
@@ -268,9 +215,9 @@ impl Grid {
     {
         let first = self.first_cell;
         let size = self.cell_size;
-        let x = snap_on(first.x, size.x, self.count_x, point.x);
-        let y = snap_on(first.y, size.y, self.count_y, point.y);
-        let z = snap_on(first.z, size.z, self.count_z, point.z);
+        let x = grid_axis::snap_on(first.x, size.x, self.count_x, point.x);
+        let y = grid_axis::snap_on(first.y, size.y, self.count_y, point.y);
+        let z = grid_axis::snap_on(first.z, size.z, self.count_z, point.z);
         let cell = Cell {
             x: x.index,
             y: y.index,
@@ -287,9 +234,9 @@ impl Grid {
     pub fn from_bounding_box(bbox_min: Point, bbox_max: Point, cell_count: Counts) -> Grid
         ensures { λ r. ⌜ r ≡ Spec.fromBox «bbox_min» «bbox_max» «cell_count» ⌝ }
     {
-        let x = size_between(bbox_min.x, bbox_max.x, cell_count.x);
-        let y = size_between(bbox_min.y, bbox_max.y, cell_count.y);
-        let z = size_between(bbox_min.z, bbox_max.z, cell_count.z);
+        let x = grid_axis::size_between(bbox_min.x, bbox_max.x, cell_count.x);
+        let y = grid_axis::size_between(bbox_min.y, bbox_max.y, cell_count.y);
+        let z = grid_axis::size_between(bbox_min.z, bbox_max.z, cell_count.z);
         Grid {
             first_cell: Point {
                 x: bbox_min.x + x * 0.5,

@@ -13,7 +13,7 @@ use Rattle.float.specs.Arith.{_⊘_, _≺_, f0}
 use Rattle.float.specs.Cell.{floorOf, cellOf}
 use Rattle.float.specs.Distance.{unsigned}
 use Rattle.float.proofs.NoSign.{round-unsigned}
-use Rattle.grid.specs.Bounds.{isSize, f2¹⁰, f2⁻¹⁰}
+use Rattle.grid_axis.specs.AxisBounds.{isSize, f2¹⁰, f2⁻¹⁰}
 use Rattle.run.specs.Signs.{atMost}
 
 -- ---- the quotient has no sign

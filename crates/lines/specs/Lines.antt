@@ -9,7 +9,7 @@ use Rattle.grid.specs.declared.Grid.{Grid}
 use Rattle.grid.specs.declared.Cell.{Cell}
 use Rattle.grid.specs.Axes.{countOn, firstOn, sizeOn, cellOn, cell}
 use Rattle.grid.specs.Index.{indexOf}
-use Rattle.grid.specs.Place.{centreOn}
+use Rattle.grid_axis.specs.OnAxis.{centreOn}
 
 -- the axis after this one; u counts along the next, v along the one after that
 abbrev pub next : Axis → Axis

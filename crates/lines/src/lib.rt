@@ -40,7 +40,7 @@ pub fn centre(grid: Grid, axis: Axis, i: u32) -> f32
 {
     let first = grid.first_cell;
     let size = grid.cell_size;
-    grid::centre_on(first.get(axis), size.get(axis), i)
+    grid_axis::centre_on(first.get(axis), size.get(axis), i)
 }
 
 // Cell number n of line (u, v).

@@ -4,7 +4,7 @@ use crate::floats::float_of;
 use generate::generate_grid_sdf;
 use grid::Grid;
 use listing::Written;
-use listing::write_listing;
+use listing_whole::write_listing;
 use outcome::Answer;
 use own_row::run_records;
 use point::Point;

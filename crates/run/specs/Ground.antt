@@ -13,7 +13,8 @@ use Rattle.grid.specs.declared.Grid.{Grid}
 use Rattle.grid.specs.declared.Cell.{Cell}
 use Rattle.grid.specs.Axes.{countOn, firstOn, sizeOn, cellOn, cell, cellBy}
 use Rattle.grid.specs.Index.{indexOf, cellAt, total}
-use Rattle.grid.specs.Place.{centreOn, centreOf, snapCell}
+use Rattle.grid_axis.specs.OnAxis.{centreOn}
+use Rattle.grid.specs.Place.{centreOf, snapCell}
 use Rattle.bounding.specs.declared.TriangleBox.{TriangleBox}
 use Rattle.bounding.specs.Box as Triangle
 use Rattle.squares.specs.Distance.{distance}

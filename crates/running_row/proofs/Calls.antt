@@ -57,10 +57,10 @@ use Rattle.records.specs.Records.{HoldsRow, QueuedCells, ToldRow}
 use Rattle.running_row.specs.Seeded.{begunBy}
 use Rattle.running_row.proofs.begun as begun
 use Rattle.running_row.proofs.begun.Symbol.{name as #running-row·begun}
-use Rattle.records.proofs.queue_cells as queue-cells
-use Rattle.records.proofs.queue_cells.Symbol.{name as #records·queue-cells}
-use Rattle.records.proofs.spread as spread
-use Rattle.records.proofs.spread.Symbol.{name as #records·spread}
+use Rattle.records_queue.proofs.queue_cells as queue-cells
+use Rattle.records_queue.proofs.queue_cells.Symbol.{name as #records-queue·queue-cells}
+use Rattle.records_spread.proofs.spread as spread
+use Rattle.records_spread.proofs.spread.Symbol.{name as #records-spread·spread}
 
 -- the contracts that are cited
 abbrev pub Begun : {M : Type 1} (𝓤 : URA M) (H : Heap 𝓤) (A : Atoms 𝓤) (mem : Memory → SProp 𝓤) (run : Routine → Fun 𝓤) → Contract 𝓤
@@ -106,10 +106,10 @@ module _ {M : Type 1} (𝓤 : URA M) (H : Heap 𝓤) (A : Atoms 𝓤) (W : Given
       move ! (3 ∷ 0 ∷ []) $ fjoin ! $ move ! (2 ∷ 0 ∷ []) $ fjoin ! $ move ! (1 ∷ 0 ∷ []) $ fjoin ! $ done !
 
   pub calls-queue-cells : {Γ : List (Item 𝓤)} {En : Env 𝓤 H} {C : Calls 𝓤 H} {Λ : Loops 𝓤 H} {post : Post 𝓤 H} {xs : List Operand} {d : Place} {rest : Body} {K : Type 0}
-      → K → FmC 𝓤 H (W .laws) C → Triple 𝓤 (C #records·queue-cells) (QueueCells 𝓤 H A mem run)
+      → K → FmC 𝓤 H (W .laws) C → Triple 𝓤 (C #records-queue·queue-cells) (QueueCells 𝓤 H A mem run)
       → ((ν-field ν-names ν-row : ℕ) (δ-field δ-names δ-row : GName) → Opds K W (raw (QueueCells 𝓤 H A mem run .pre (to-queue-cells ν-field ν-names ν-row δ-field δ-names δ-row)) ∷ ‵ (ShrSlice (named 0) κ-indices u32 .own indices (s-indices ∷ [])) ∷ ‵ (KeptShared f32 κ-field q-field γ-field b-field o-field field ν-field) ∷ ‵ (KeptShared u32 κ-names q-names γ-names b-names o-names names ν-names) ∷ ‵ (Kept E.the-row κ-row q-row γ-row b-row o-row row ν-row δ-row) ∷ Γ) En xs (QueueCells 𝓤 H A mem run .args (to-queue-cells ν-field ν-names ν-row δ-field δ-names δ-row)))
       → ((us-row : List Entry) (r : Progress) → length us-row ≡ length row → Is G.the-row r (LL.val G.the-type G′.the-laws r ∷ []) → QueuedCells (orderOf topology given (indices .now) vertices) field names row p us-row r → Seq K W (‵ (MutSlice (named 0) κ-field f32 .own (at b-field o-field γ-field field) (s-field ∷ [])) ∷ ‵ (flft κ-field q-field) ∷ ‵ (MutSlice (named 0) κ-names u32 .own (at b-names o-names γ-names names) (s-names ∷ [])) ∷ ‵ (flft κ-names q-names) ∷ ‵ (MutSlice (named 0) κ-row E.the-row .own (at b-row o-row γ-row us-row) (s-row ∷ [])) ∷ ‵ (flft κ-row q-row) ∷ ‵ (ShrSlice (named 0) κ-indices u32 .own indices (s-indices ∷ [])) ∷ ‵ (flft κ-indices q-indices) ∷ Γ) (lands C Λ En d (LL.val G.the-type G′.the-laws r) rest post))
-      → Seq K W (‵ (MutSlice (named 0) κ-field f32 .own (at b-field o-field γ-field field) (s-field ∷ [])) ∷ ‵ (flft κ-field q-field) ∷ ‵ (MutSlice (named 0) κ-names u32 .own (at b-names o-names γ-names names) (s-names ∷ [])) ∷ ‵ (flft κ-names q-names) ∷ ‵ (MutSlice (named 0) κ-row E.the-row .own (at b-row o-row γ-row row) (s-row ∷ [])) ∷ ‵ (flft κ-row q-row) ∷ ‵ (ShrSlice (named 0) κ-indices u32 .own indices (s-indices ∷ [])) ∷ ‵ (flft κ-indices q-indices) ∷ Γ) (runs C Λ En (seq (call #records·queue-cells xs d) rest) post)
+      → Seq K W (‵ (MutSlice (named 0) κ-field f32 .own (at b-field o-field γ-field field) (s-field ∷ [])) ∷ ‵ (flft κ-field q-field) ∷ ‵ (MutSlice (named 0) κ-names u32 .own (at b-names o-names γ-names names) (s-names ∷ [])) ∷ ‵ (flft κ-names q-names) ∷ ‵ (MutSlice (named 0) κ-row E.the-row .own (at b-row o-row γ-row row) (s-row ∷ [])) ∷ ‵ (flft κ-row q-row) ∷ ‵ (ShrSlice (named 0) κ-indices u32 .own indices (s-indices ∷ [])) ∷ ‵ (flft κ-indices q-indices) ∷ Γ) (runs C Λ En (seq (call #records-queue·queue-cells xs d) rest) post)
   calls-queue-cells {En = En} {C = C} {Λ = Λ} {post = post} {d = d} {rest = rest} t fm met os k =
       lft-new t tt (λ ν-field. move t (1 ∷ 2 ∷ []) $ shares-out t tt f32 b-field o-field field s-field ν-field (λ δ-field. lft-new t tt (λ ν-names. move t (4 ∷ 5 ∷ []) $
       shares-out t tt u32 b-names o-names names s-names ν-names (λ δ-names. lft-new t tt (λ ν-row. move t (7 ∷ 8 ∷ []) $ lends t tt E.the-row b-row o-row row s-row ν-row (λ δ-row. move t (9 ∷ []) $
@@ -140,10 +140,10 @@ module _ {M : Type 1} (𝓤 : URA M) (H : Heap 𝓤) (A : Atoms 𝓤) (W : Given
       owned ! Gr.the-row (Is Gr.the-row) (LL.makes Gr.the-type Gr′.the-plain 𝓤 H A) grid _ grid-is $ fjoin ! $ done !
 
   pub calls-spread : {Γ : List (Item 𝓤)} {En : Env 𝓤 H} {C : Calls 𝓤 H} {Λ : Loops 𝓤 H} {post : Post 𝓤 H} {xs : List Operand} {d : Place} {rest : Body} {K : Type 0}
-      → K → FmC 𝓤 H (W .laws) C → Triple 𝓤 (C #records·spread) (Spread 𝓤 H A mem run)
+      → K → FmC 𝓤 H (W .laws) C → Triple 𝓤 (C #records-spread·spread) (Spread 𝓤 H A mem run)
       → ((ν-field ν-names ν-row : ℕ) (δ-field δ-names δ-row : GName) → Opds K W (raw (Spread 𝓤 H A mem run .pre (to-spread ν-field ν-names ν-row δ-field δ-names δ-row)) ∷ ‵ (ShrSlice (named 0) κ-vertices f32 .own vertices (s-vertices ∷ [])) ∷ ‵ (ShrSlice (named 0) κ-indices u32 .own indices (s-indices ∷ [])) ∷ ‵ (Kept f32 κ-field q-field γ-field b-field o-field field ν-field δ-field) ∷ ‵ (Kept u32 κ-names q-names γ-names b-names o-names names ν-names δ-names) ∷ ‵ (Kept E.the-row κ-row q-row γ-row b-row o-row row ν-row δ-row) ∷ Γ) En xs (Spread 𝓤 H A mem run .args (to-spread ν-field ν-names ν-row δ-field δ-names δ-row)))
       → ((us-field : List Float) (us-names : List ℕ) (us-row : List Entry) (r : Progress) → length us-field ≡ length field → length us-names ≡ length names → length us-row ≡ length row → Is G.the-row r (LL.val G.the-type G′.the-laws r ∷ []) → ToldRow grid (meshOf (vertices .now) topology given (indices .now)) (λ g. spreading g limit) field names row p us-field us-names us-row r → Seq K W (‵ (ShrSlice (named 0) κ-vertices f32 .own vertices (s-vertices ∷ [])) ∷ ‵ (flft κ-vertices q-vertices) ∷ ‵ (ShrSlice (named 0) κ-indices u32 .own indices (s-indices ∷ [])) ∷ ‵ (flft κ-indices q-indices) ∷ ‵ (MutSlice (named 0) κ-field f32 .own (at b-field o-field γ-field us-field) (s-field ∷ [])) ∷ ‵ (flft κ-field q-field) ∷ ‵ (MutSlice (named 0) κ-names u32 .own (at b-names o-names γ-names us-names) (s-names ∷ [])) ∷ ‵ (flft κ-names q-names) ∷ ‵ (MutSlice (named 0) κ-row E.the-row .own (at b-row o-row γ-row us-row) (s-row ∷ [])) ∷ ‵ (flft κ-row q-row) ∷ Γ) (lands C Λ En d (LL.val G.the-type G′.the-laws r) rest post))
-      → Seq K W (‵ (ShrSlice (named 0) κ-vertices f32 .own vertices (s-vertices ∷ [])) ∷ ‵ (flft κ-vertices q-vertices) ∷ ‵ (ShrSlice (named 0) κ-indices u32 .own indices (s-indices ∷ [])) ∷ ‵ (flft κ-indices q-indices) ∷ ‵ (MutSlice (named 0) κ-field f32 .own (at b-field o-field γ-field field) (s-field ∷ [])) ∷ ‵ (flft κ-field q-field) ∷ ‵ (MutSlice (named 0) κ-names u32 .own (at b-names o-names γ-names names) (s-names ∷ [])) ∷ ‵ (flft κ-names q-names) ∷ ‵ (MutSlice (named 0) κ-row E.the-row .own (at b-row o-row γ-row row) (s-row ∷ [])) ∷ ‵ (flft κ-row q-row) ∷ Γ) (runs C Λ En (seq (call #records·spread xs d) rest) post)
+      → Seq K W (‵ (ShrSlice (named 0) κ-vertices f32 .own vertices (s-vertices ∷ [])) ∷ ‵ (flft κ-vertices q-vertices) ∷ ‵ (ShrSlice (named 0) κ-indices u32 .own indices (s-indices ∷ [])) ∷ ‵ (flft κ-indices q-indices) ∷ ‵ (MutSlice (named 0) κ-field f32 .own (at b-field o-field γ-field field) (s-field ∷ [])) ∷ ‵ (flft κ-field q-field) ∷ ‵ (MutSlice (named 0) κ-names u32 .own (at b-names o-names γ-names names) (s-names ∷ [])) ∷ ‵ (flft κ-names q-names) ∷ ‵ (MutSlice (named 0) κ-row E.the-row .own (at b-row o-row γ-row row) (s-row ∷ [])) ∷ ‵ (flft κ-row q-row) ∷ Γ) (runs C Λ En (seq (call #records-spread·spread xs d) rest) post)
   calls-spread {En = En} {C = C} {Λ = Λ} {post = post} {d = d} {rest = rest} t fm met os k =
       lft-new t tt (λ ν-field. move t (5 ∷ 6 ∷ []) $ lends t tt f32 b-field o-field field s-field ν-field (λ δ-field. lft-new t tt (λ ν-names. move t (8 ∷ 9 ∷ []) $
       lends t tt u32 b-names o-names names s-names ν-names (λ δ-names. lft-new t tt (λ ν-row. move t (11 ∷ 12 ∷ []) $ lends t tt E.the-row b-row o-row row s-row ν-row (λ δ-row. move t (9 ∷ []) $

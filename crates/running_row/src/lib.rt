@@ -49,11 +49,11 @@ pub fn run_row(
         return at;
     }
     let count = vertices.len() / 3;
-    let queued = records::queue_cells(field, names, row, at, topology, given, indices, count);
+    let queued = records_queue::queue_cells(field, names, row, at, topology, given, indices, count);
     if queued.number != 0 {
         return queued;
     }
-    records::spread(
+    records_spread::spread(
         grid,
         vertices,
         topology,

@@ -20,70 +20,70 @@ ghost use Rattle.c_records.specs.C.{gridIn, cellIn, countsIn, pointIn};
 pub extern "C" fn sdf_grid_first(grid: SdfGrid) -> SdfPointAnswer
     ensures { λ r. ⌜ r ≡ C.point (ofGrid (gridIn grid) (gridIn grid .«first_cell»)) ⌝ }
 {
-    c_records::point_answer(sdf::get_first_cell(grid.grid()))
+    c_grid_answers::point_answer(sdf::get_first_cell(grid.grid()))
 }
 
 #[no_mangle]
 pub extern "C" fn sdf_grid_last(grid: SdfGrid) -> SdfPointAnswer
     ensures { λ r. ⌜ r ≡ C.point (ofGrid (gridIn grid) (Place.lastCell (gridIn grid))) ⌝ }
 {
-    c_records::point_answer(sdf::get_last_cell(grid.grid()))
+    c_grid_answers::point_answer(sdf::get_last_cell(grid.grid()))
 }
 
 #[no_mangle]
 pub extern "C" fn sdf_grid_size(grid: SdfGrid) -> SdfPointAnswer
     ensures { λ r. ⌜ r ≡ C.point (ofGrid (gridIn grid) (gridIn grid .«cell_size»)) ⌝ }
 {
-    c_records::point_answer(sdf::get_cell_size(grid.grid()))
+    c_grid_answers::point_answer(sdf::get_cell_size(grid.grid()))
 }
 
 #[no_mangle]
 pub extern "C" fn sdf_grid_counts(grid: SdfGrid) -> SdfCellAnswer
     ensures { λ r. ⌜ r ≡ C.counts (ofGrid (gridIn grid) (countsOf (gridIn grid))) ⌝ }
 {
-    c_records::counts_answer(sdf::get_cell_count(grid.grid()))
+    c_grid_answers::counts_answer(sdf::get_cell_count(grid.grid()))
 }
 
 #[no_mangle]
 pub extern "C" fn sdf_grid_total(grid: SdfGrid) -> SdfNumberAnswer
     ensures { λ r. ⌜ r ≡ C.number (ofGrid (gridIn grid) (total (gridIn grid))) ⌝ }
 {
-    c_records::number_answer(sdf::get_total_cell_count(grid.grid()))
+    c_grid_answers::number_answer(sdf::get_total_cell_count(grid.grid()))
 }
 
 #[no_mangle]
 pub extern "C" fn sdf_grid_box(grid: SdfGrid) -> SdfBoxAnswer
     ensures { λ r. ⌜ r ≡ C.box (ofGrid (gridIn grid) (Place.boxOf (gridIn grid))) ⌝ }
 {
-    c_records::box_answer(sdf::get_bounding_box(grid.grid()))
+    c_grid_answers::box_answer(sdf::get_bounding_box(grid.grid()))
 }
 
 #[no_mangle]
 pub extern "C" fn sdf_grid_index(grid: SdfGrid, cell: SdfCell) -> SdfNumberAnswer
     ensures { λ r. ⌜ r ≡ C.number (ofCell (gridIn grid) (cellIn cell) (indexOf (gridIn grid) (cellIn cell))) ⌝ }
 {
-    c_records::number_answer(sdf::get_cell_idx(grid.grid(), cell.cell()))
+    c_grid_answers::number_answer(sdf::get_cell_idx(grid.grid(), cell.cell()))
 }
 
 #[no_mangle]
 pub extern "C" fn sdf_grid_coordinates(grid: SdfGrid, cell_idx: u32) -> SdfCellAnswer
     ensures { λ r. ⌜ r ≡ C.cell (ofIndex (gridIn grid) «cell_idx» (cellAt (gridIn grid) «cell_idx»)) ⌝ }
 {
-    c_records::cell_answer(sdf::get_cell_integer_coordinates(grid.grid(), cell_idx))
+    c_grid_answers::cell_answer(sdf::get_cell_integer_coordinates(grid.grid(), cell_idx))
 }
 
 #[no_mangle]
 pub extern "C" fn sdf_grid_centre(grid: SdfGrid, cell: SdfCell) -> SdfPointAnswer
     ensures { λ r. ⌜ r ≡ C.point (ofCell (gridIn grid) (cellIn cell) (Place.centreOf (gridIn grid) (cellIn cell))) ⌝ }
 {
-    c_records::point_answer(sdf::get_cell_center(grid.grid(), cell.cell()))
+    c_grid_answers::point_answer(sdf::get_cell_center(grid.grid(), cell.cell()))
 }
 
 #[no_mangle]
 pub extern "C" fn sdf_grid_snap(grid: SdfGrid, point: SdfPoint) -> SdfSnapAnswer
     ensures { λ r. ⌜ r ≡ C.snap (ofGrid (gridIn grid) (Place.snap (gridIn grid) (pointIn point))) ⌝ }
 {
-    c_records::snap_answer(sdf::snap_point_to_grid(grid.grid(), point.point()))
+    c_grid_answers::snap_answer(sdf::snap_point_to_grid(grid.grid(), point.point()))
 }
 
 #[no_mangle]
@@ -94,5 +94,5 @@ pub extern "C" fn sdf_grid_from_bounding_box(
 ) -> SdfGridAnswer
     ensures { λ r. ⌜ r ≡ C.grid (made (Place.fromBox (pointIn min) (pointIn max) (countsIn count))) ⌝ }
 {
-    c_records::grid_answer(sdf::from_bounding_box(min.point(), max.point(), count.counts()))
+    c_grid_answers::grid_answer(sdf::from_bounding_box(min.point(), max.point(), count.counts()))
 }

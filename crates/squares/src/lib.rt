@@ -22,7 +22,7 @@ pub fn square(p: Point, q: Point) -> f32
 pub fn squared_on(f: Facet, p: Point) -> f32
     ensures { λ r. ⌜ r ≡ Distance.squaredOn f p ⌝ }
 {
-    square(p, closest::closest_on(f, p))
+    square(p, regions::closest_on(f, p))
 }
 
 pub fn distance_on(f: Facet, p: Point) -> f32

@@ -1,11 +1,11 @@
 // How corners make triangles: as a list or as a strip, with indices or without (document 01, "Topology").
 // The source's `Topology` holds its indices. Here it is an enum without references, and the indices stand
-// beside it. A part of the port: users call `sdf`.
+// beside it. Whether a job may have its triangles is asked by `triangles_checked`. A part of the port: users call
+// `sdf`.
 ghost use mathlib.Core.Path.{_≡_};
 ghost use Prim.Native.Nat.{_-_, _^_, _<_};
 ghost use lib.ListN.{length, getD};
 ghost use Rattle.topology.specs.Topology.{corners, trianglesOf, kth, triangleCount, firstCorner};
-ghost use Rattle.topology.specs.Refusals.{tooManyTriangles, belowCount, allBelowCount};
 
 pub enum Topology {
     TriangleList,
@@ -97,44 +97,4 @@ pub fn triangle_at(
         b: corner(given, indices, vertices, i + 1),
         c: corner(given, indices, vertices, i + 2),
     }
-}
-
-// Whether there are more triangles than a job may have: refusal 3.
-pub fn too_many_triangles(
-    topology: Topology,
-    given: Indices,
-    indices: &[u32],
-    vertices: usize,
-) -> bool
-    ensures { λ r. ⌜ r ≡ tooManyTriangles (trianglesOf topology given (now (indices .entry)) vertices) ⌝ }
-{
-    131_072 < triangle_count(topology, given, indices, vertices)
-}
-
-// Whether each corner is a vertex.
-fn below_count(t: Triangle, vertices: usize) -> bool
-    ensures { λ r. ⌜ r ≡ belowCount vertices t ⌝ }
-{
-    let a = t.a as usize;
-    let b = t.b as usize;
-    let c = t.c as usize;
-    (a < vertices) & (b < vertices) & (c < vertices)
-}
-
-// Whether every index that a triangle uses is below the vertex count. Where it is not, refusal 4.
-pub fn in_range(topology: Topology, given: Indices, indices: &[u32], vertices: usize) -> bool
-    requires { ⌜ vertices < 2 ^ 32 ⌝ }
-    ensures { λ r. ⌜ r ≡ allBelowCount vertices (trianglesOf topology given (now (indices .entry)) vertices) ⌝ }
-{
-    let n = triangle_count(topology, given, indices, vertices);
-    let mut k = 0;
-    while k < n {
-        let t = triangle_at(topology, given, indices, vertices, k);
-        let ok = below_count(t, vertices);
-        if !ok {
-            return false;
-        }
-        k += 1;
-    }
-    true
 }

@@ -1,7 +1,7 @@
 -- `cell_batch`: the test is the definition's, and the entry is what the cell holds. Assumes nothing.
 use borrow.Author.Needs.{needs}
 use mathlib.Core.Path.{refl}
-use Rattle.batch.proofs.Considers.{less-no-nan, cell-none, cell-one}
+use Rattle.batch.proofs.Cells.{less-no-nan, cell-none, cell-one}
 use Rattle.batch.proofs.cell_batch.Statement.{statement}
 use Rattle.batch.proofs.cell_batch.Tie as tie
 

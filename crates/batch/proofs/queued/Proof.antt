@@ -2,7 +2,7 @@
 use native.Mathlib.Omega.{arith}
 use mathlib.Core.Path.{_∙_}
 use borrow.Author.Needs.{needs}
-use Rattle.batch.proofs.Considers.{room-left, room-full}
+use Rattle.batch.proofs.Cells.{room-left, room-full}
 use Rattle.batch.proofs.queued.Statement.{statement}
 use Rattle.batch.proofs.queued.Tie as tie
 

@@ -9,7 +9,7 @@ use native.Mathlib.Omega.{arith}
 use lib.ListN.{length, getD}
 use lib.Ieee.{nan}
 use Rattle.lists.proofs.Every.{every-each, every-not}
-use Rattle.grid.specs.Bounds.{isCoordinate}
+use Rattle.grid_axis.specs.AxisBounds.{isCoordinate}
 use Rattle.checks.proofs.all_coordinates.Statement.{statement}
 use Rattle.checks.proofs.all_coordinates.Tie as tie
 

@@ -47,7 +47,7 @@ use Rattle.entries.proofs.Element.{at, Spelt, spelt-as, opens-at, puts-
 use Rattle.entries.proofs.Projections.{blanks, blank-row, one-more}
 use Rattle.entries.proofs.Calls.{val, here, whiles, releases, releases-room}
 use Rattle.entries.proofs.First.{entryVal}
-use Rattle.entries.proofs.RowCalls.{None, calls-none}
+use Rattle.entries.proofs.Unused.{None, calls-none}
 use Rattle.entries.proofs.none.Symbol as none-def
 use Rattle.entries.proofs.none.Symbol.{name as #entries·none}
 use Rattle.entries.proofs.none.Met as none-thm

@@ -1,11 +1,15 @@
 -- `entries::kept` meets its contract, by its test. Assumes nothing.
-use mathlib.Core.Path.{sym, ap, _∙_}
-use Prim.Native.Nat.{ℕ}
+use mathlib.Core.Path.{_≡_, refl}
+use Prim.Native.Nat.{ℕ, zero, suc}
 use borrow.Author.Needs.{needs}
-use Rattle.entries.specs.Sift.{keptOf}
-use Rattle.entries.proofs.Steps.{kept-is}
+use Rattle.queue.specs.declared.Entry.{Entry}
+use Rattle.entries.specs.Kept.{keptOf}
 use Rattle.entries.proofs.kept.Statement.{statement}
 use Rattle.entries.proofs.kept.Tie as tie
+
+kept-is : (e : Entry) (m : ℕ) → (m ≡ 0 → ⊥) → e ≡ keptOf e m
+kept-is e zero h = absurd (h refl)
+kept-is e (suc m) h = refl
 
 none-requires : tie.Need-none-requires
 none-requires c κs = search needs

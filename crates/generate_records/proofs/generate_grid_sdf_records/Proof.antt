@@ -82,9 +82,9 @@ use Rattle.entries.proofs.clear.Met as clear-thm
 use Rattle.running_row.proofs.run_row.Symbol as run-row-def
 use Rattle.running_row.proofs.run_row.Symbol.{name as #running-row·run-row}
 use Rattle.running_row.proofs.run_row.Met as run-row-thm
-use Rattle.outcome.proofs.close.Symbol as close-def
-use Rattle.outcome.proofs.close.Symbol.{name as #outcome·close}
-use Rattle.outcome.proofs.close.Met as close-thm
+use Rattle.closing.proofs.close.Symbol as close-def
+use Rattle.closing.proofs.close.Symbol.{name as #closing·close}
+use Rattle.closing.proofs.close.Met as close-thm
 use Rattle.generate_records.proofs.generate_grid_sdf_records.Key.{name as #generate-records·generate-grid-sdf-records}
 use Rattle.generate_records.proofs.generate_grid_sdf_records as f
 use Rattle.generate_records.proofs.generate_grid_sdf_records.Statement as stated
@@ -195,7 +195,7 @@ module _ {M : Type 1} (𝓤 : URA M) (H : Heap 𝓤) (A : Atoms 𝓤) (W : Given
         owned ! P.the-row (Is P.the-row) (EL.makes P.the-type P′.the-plain 𝓤 H A) topology _ topology-is $ fjoin ! $ move ! (1 ∷ 0 ∷ []) $ fjoin ! $
         owned ! Gr.the-row (Is Gr.the-row) (LL.makes Gr.the-type Gr′.the-plain 𝓤 H A) grid _ grid-is $ fjoin ! $ owned ! An.the-row (Is An.the-row) (EL.makes An.the-type An′.the-plain 𝓤 H A) r _ r-is $ move ! (1 ∷ 0 ∷ []) $ done !
 
-    module _ (𝓣 : Tables 𝓤 H) (begin : Triple 𝓤 (𝓣 .C #beginning·begin) (Begin 𝓤 H A mem run)) (refused : Triple 𝓤 (𝓣 .C #generate-records·refused) (RefusedFirst 𝓤 H A mem run)) (clear : Triple 𝓤 (𝓣 .C #entries·clear) (Clear 𝓤 H A mem run)) (run-row : Triple 𝓤 (𝓣 .C #running-row·run-row) (RunRow 𝓤 H A mem run)) (close : Triple 𝓤 (𝓣 .C #outcome·close) (Close 𝓤 H A mem run)) (l₀ l₁ l₂ l₃ l₄ l₅ l₆ l₇ l₈ l₉ l₁₀ l₁₁ l₁₂ l₁₃ l₁₄ l₁₅ l₁₆ l₁₇ l₁₈ l₁₉ l₂₀ l₂₁ l₂₂ l₂₃ l₂₄ l₂₅ l₂₆ l₂₇ l₂₈ l₂₉ l₃₀ l₃₁ l₃₂ l₃₃ l₃₄ l₃₅ l₃₆ l₃₇ l₃₈ l₃₉ l₄₀ l₄₁ : ℕ) where
+    module _ (𝓣 : Tables 𝓤 H) (begin : Triple 𝓤 (𝓣 .C #beginning·begin) (Begin 𝓤 H A mem run)) (refused : Triple 𝓤 (𝓣 .C #generate-records·refused) (RefusedFirst 𝓤 H A mem run)) (clear : Triple 𝓤 (𝓣 .C #entries·clear) (Clear 𝓤 H A mem run)) (run-row : Triple 𝓤 (𝓣 .C #running-row·run-row) (RunRow 𝓤 H A mem run)) (close : Triple 𝓤 (𝓣 .C #closing·close) (Close 𝓤 H A mem run)) (l₀ l₁ l₂ l₃ l₄ l₅ l₆ l₇ l₈ l₉ l₁₀ l₁₁ l₁₂ l₁₃ l₁₄ l₁₅ l₁₆ l₁₇ l₁₈ l₁₉ l₂₀ l₂₁ l₂₂ l₂₃ l₂₄ l₂₅ l₂₆ l₂₇ l₂₈ l₂₉ l₃₀ l₃₁ l₃₂ l₃₃ l₃₄ l₃₅ l₃₆ l₃₇ l₃₈ l₃₉ l₄₀ l₄₁ : ℕ) where
       abbrev C : Calls 𝓤 H
       C = 𝓣 .C
 
@@ -311,7 +311,7 @@ module _ {M : Type 1} (𝓤 : URA M) (H : Heap 𝓤) (A : Atoms 𝓤) (W : Given
           move ! (1 ∷ []) $ fsplit ! $ move ! (1 ∷ []) $ fsplit ! $ move ! (1 ∷ []) $ fsplit ! $ drop ! $ drop ! $ move ! (7 ∷ []) $ split ! $ move ! (1 ∷ []) $ split ! $ move ! (1 ∷ []) $ split ! $ move ! (1 ∷ []) $ split ! $
           move ! (1 ∷ []) $ split ! $ move ! (1 ∷ []) $ split ! $ move ! (1 ∷ []) $ split ! $ move ! (1 ∷ []) $ drop ! $ move ! (13 ∷ 6 ∷ 12 ∷ 5 ∷ 11 ∷ 4 ∷ 10 ∷ 3 ∷ 9 ∷ 2 ∷ 8 ∷ 1 ∷ 7 ∷ 0 ∷ []) $ goes
 
-    walk : (𝓣 : Tables 𝓤 H) → Triple 𝓤 (𝓣 .C #beginning·begin) (Begin 𝓤 H A mem run) → Triple 𝓤 (𝓣 .C #generate-records·refused) (RefusedFirst 𝓤 H A mem run) → Triple 𝓤 (𝓣 .C #entries·clear) (Clear 𝓤 H A mem run) → Triple 𝓤 (𝓣 .C #running-row·run-row) (RunRow 𝓤 H A mem run) → Triple 𝓤 (𝓣 .C #outcome·close) (Close 𝓤 H A mem run) → ent 𝓤 (onEntry 𝓤 H A f.signature (κ-vertices, (κ-indices, (κ-field, (κ-names, (κ-crossings, (κ-rows, (κ-queue, tt))))))) (q-vertices, (q-indices, (q-field, (q-names, (q-crossings, (q-rows, (q-queue, tt))))))) a values)
+    walk : (𝓣 : Tables 𝓤 H) → Triple 𝓤 (𝓣 .C #beginning·begin) (Begin 𝓤 H A mem run) → Triple 𝓤 (𝓣 .C #generate-records·refused) (RefusedFirst 𝓤 H A mem run) → Triple 𝓤 (𝓣 .C #entries·clear) (Clear 𝓤 H A mem run) → Triple 𝓤 (𝓣 .C #running-row·run-row) (RunRow 𝓤 H A mem run) → Triple 𝓤 (𝓣 .C #closing·close) (Close 𝓤 H A mem run) → ent 𝓤 (onEntry 𝓤 H A f.signature (κ-vertices, (κ-indices, (κ-field, (κ-names, (κ-crossings, (κ-rows, (κ-queue, tt))))))) (q-vertices, (q-indices, (q-field, (q-names, (q-crossings, (q-rows, (q-queue, tt))))))) a values)
         (WpFn 𝓤 H (𝓣 .C) (𝓣 .Λ) code.function (LL.val Gr.the-type Gr′.the-laws grid ∷ s-vertices ∷ EL.val P.the-type P′.the-laws topology ∷ EL.val I.the-type I′.the-laws given ∷ s-indices ∷ s-field ∷ s-names ∷ s-crossings ∷ s-rows ∷ s-queue ∷ vint w32 limit ∷ []) Post)
     walk 𝓣 begin refused clear run-row close =
         qed W ((‵ (flft κ-vertices q-vertices) ⊛ (‵ (flft κ-indices q-indices) ⊛ (‵ (flft κ-field q-field) ⊛ (‵ (flft κ-names q-names) ⊛ (‵ (flft κ-crossings q-crossings) ⊛ (‵ (flft κ-rows q-rows) ⊛ (‵ (flft κ-queue q-queue) ⊛ ‵ ftrue))))))) ∷ ‵ (owns (Gr.the-row ∷ ShrSlice (named 0) κ-vertices f32 ∷ P.the-row ∷ I.the-row ∷ ShrSlice (named 1) κ-indices u32 ∷ MutSlice (named 2) κ-field f32 ∷ MutSlice (named 3) κ-names u32 ∷ MutSlice (named 4) κ-crossings u32 ∷ MutSlice (named 5) κ-rows u32 ∷ MutSlice (named 6) κ-queue E.the-row ∷ u32 ∷ []) a values) ∷ []) ∵ enter ! (𝓣 .C) (𝓣 .Λ) code.function (LL.val Gr.the-type Gr′.the-laws grid ∷ s-vertices ∷ EL.val P.the-type P′.the-laws topology ∷ EL.val I.the-type I′.the-laws given ∷ s-indices ∷ s-field ∷ s-names ∷ s-crossings ∷ s-rows ∷ s-queue ∷ vint w32 limit ∷ []) _ $
@@ -328,13 +328,13 @@ module _ {M : Type 1} (𝓤 : URA M) (H : Heap 𝓤) (A : Atoms 𝓤) (W : Given
         begins 𝓣 begin refused clear run-row close l₀ l₁ l₂ l₃ l₄ l₅ l₆ l₇ l₈ l₉ l₁₀ l₁₁ l₁₂ l₁₃ l₁₄ l₁₅ l₁₆ l₁₇ l₁₈ l₁₉ l₂₀ l₂₁ l₂₂ l₂₃ l₂₄ l₂₅ l₂₆ l₂₇ l₂₈ l₂₉ l₃₀ l₃₁ l₃₂ l₃₃ l₃₄ l₃₅ l₃₆ l₃₇ l₃₈ l₃₉ l₄₀ l₄₁))))))))))))))))))))))))))))))))))))))))))
 
 module _ {M : Type 1} (𝓤 : URA M) (H : Heap 𝓤) (A : Atoms 𝓤) (W : Given 𝓤 H A) (mem : Memory → SProp 𝓤) (run : Routine → Fun 𝓤) where
-  walks : (𝓣 : Tables 𝓤 H) → Triple 𝓤 (𝓣 .C #beginning·begin) (Begin 𝓤 H A mem run) → Triple 𝓤 (𝓣 .C #generate-records·refused) (RefusedFirst 𝓤 H A mem run) → Triple 𝓤 (𝓣 .C #entries·clear) (Clear 𝓤 H A mem run) → Triple 𝓤 (𝓣 .C #running-row·run-row) (RunRow 𝓤 H A mem run) → Triple 𝓤 (𝓣 .C #outcome·close) (Close 𝓤 H A mem run) → Walks 𝓤 H A f.ended stayed (WpFn 𝓤 H (𝓣 .C) (𝓣 .Λ) code.function) (f.clauses 𝓤 H A mem run)
+  walks : (𝓣 : Tables 𝓤 H) → Triple 𝓤 (𝓣 .C #beginning·begin) (Begin 𝓤 H A mem run) → Triple 𝓤 (𝓣 .C #generate-records·refused) (RefusedFirst 𝓤 H A mem run) → Triple 𝓤 (𝓣 .C #entries·clear) (Clear 𝓤 H A mem run) → Triple 𝓤 (𝓣 .C #running-row·run-row) (RunRow 𝓤 H A mem run) → Triple 𝓤 (𝓣 .C #closing·close) (Close 𝓤 H A mem run) → Walks 𝓤 H A f.ended stayed (WpFn 𝓤 H (𝓣 .C) (𝓣 .Λ) code.function) (f.clauses 𝓤 H A mem run)
   walks 𝓣 begin refused clear run-row close = walked 𝓤 H A f.ended stayed (f.clauses 𝓤 H A mem run) (WpFn 𝓤 H (𝓣 .C) (𝓣 .Λ) code.function)
       (λ κs. (LL.vals Gr.the-type Gr′.the-laws, (slice-vals, (EL.vals P.the-type P′.the-laws, (EL.vals I.the-type I′.the-laws, (slice-vals, (slice-vals, (slice-vals, (slice-vals, (slice-vals, (slice-vals, (uint-vals w32, tt))))))))))))
       (λ κs. (LL.tells Gr.the-type Gr′.the-laws, (shr-slice-tells (named 0) (κs .0) f32, (EL.tells P.the-type P′.the-laws, (EL.tells I.the-type I′.the-laws, (shr-slice-tells (named 1) (κs .1 .0) u32, (mut-slice-tells (named 2) (κs .1 .1 .0) f32, (mut-slice-tells (named 3) (κs .1 .1 .1 .0) u32, (mut-slice-tells (named 4) (κs .1 .1 .1 .1 .0) u32, (mut-slice-tells (named 5) (κs .1 .1 .1 .1 .1 .0) u32, (mut-slice-tells (named 6) (κs .1 .1 .1 .1 .1 .1 .0) E.the-row, (uint-tells w32, tt))))))))))))
       (λ κs qs bounds a g are. via 𝓤 _ (fst∗ 𝓤 _ (emp 𝓤)) (walk 𝓤 H A W mem run (a .0) (κs .0) (qs .0) (a .1 .0) (a .1 .1 .0) (a .1 .1 .1 .0) (κs .1 .0) (qs .1 .0) (a .1 .1 .1 .1 .0) (κs .1 .1 .0) (qs .1 .1 .0) (a .1 .1 .1 .1 .1 .0 .ptr .0) (a .1 .1 .1 .1 .1 .0 .ptr .1) (a .1 .1 .1 .1 .1 .0 .name) (a .1 .1 .1 .1 .1 .0 .now) (κs .1 .1 .1 .0) (qs .1 .1 .1 .0) (a .1 .1 .1 .1 .1 .1 .0 .ptr .0) (a .1 .1 .1 .1 .1 .1 .0 .ptr .1) (a .1 .1 .1 .1 .1 .1 .0 .name) (a .1 .1 .1 .1 .1 .1 .0 .now) (κs .1 .1 .1 .1 .0) (qs .1 .1 .1 .1 .0) (a .1 .1 .1 .1 .1 .1 .1 .0 .ptr .0) (a .1 .1 .1 .1 .1 .1 .1 .0 .ptr .1) (a .1 .1 .1 .1 .1 .1 .1 .0 .name) (a .1 .1 .1 .1 .1 .1 .1 .0 .now) (κs .1 .1 .1 .1 .1 .0) (qs .1 .1 .1 .1 .1 .0) (a .1 .1 .1 .1 .1 .1 .1 .1 .0 .ptr .0) (a .1 .1 .1 .1 .1 .1 .1 .1 .0 .ptr .1) (a .1 .1 .1 .1 .1 .1 .1 .1 .0 .name) (a .1 .1 .1 .1 .1 .1 .1 .1 .0 .now) (κs .1 .1 .1 .1 .1 .1 .0) (qs .1 .1 .1 .1 .1 .1 .0) (a .1 .1 .1 .1 .1 .1 .1 .1 .1 .0 .ptr .0) (a .1 .1 .1 .1 .1 .1 .1 .1 .1 .0 .ptr .1) (a .1 .1 .1 .1 .1 .1 .1 .1 .1 .0 .name) (a .1 .1 .1 .1 .1 .1 .1 .1 .1 .0 .now) (a .1 .1 .1 .1 .1 .1 .1 .1 .1 .1 .0) (are .0) (are .1 .0 .0 .1) (are .1 .1 .0) (are .1 .1 .1 .0) (are .1 .1 .1 .1 .0 .0 .1) (are .1 .1 .1 .1 .1 .0 .0 .1) (are .1 .1 .1 .1 .1 .1 .0 .0 .1) (are .1 .1 .1 .1 .1 .1 .1 .0 .0 .1) (are .1 .1 .1 .1 .1 .1 .1 .1 .0 .0 .1) (are .1 .1 .1 .1 .1 .1 .1 .1 .1 .0 .0 .1) (are .1 .1 .1 .1 .1 .1 .1 .1 .1 .1 .0 .1) 𝓣 begin refused clear run-row close))
 
-meets : {M : Type 1} (𝓤 : URA M) (H : Heap 𝓤) (A : Atoms 𝓤) → Given 𝓤 H A → (mem : Memory → SProp 𝓤) (run : Routine → Fun 𝓤) (𝓣 : Tables 𝓤 H) → Triple 𝓤 (𝓣 .C #beginning·begin) (Begin 𝓤 H A mem run) → Triple 𝓤 (𝓣 .C #generate-records·refused) (RefusedFirst 𝓤 H A mem run) → Triple 𝓤 (𝓣 .C #entries·clear) (Clear 𝓤 H A mem run) → Triple 𝓤 (𝓣 .C #running-row·run-row) (RunRow 𝓤 H A mem run) → Triple 𝓤 (𝓣 .C #outcome·close) (Close 𝓤 H A mem run) → Meets 𝓤 H A f.signature (WpFn 𝓤 H (𝓣 .C) (𝓣 .Λ) code.function) (f.spec 𝓤 H A mem run)
+meets : {M : Type 1} (𝓤 : URA M) (H : Heap 𝓤) (A : Atoms 𝓤) → Given 𝓤 H A → (mem : Memory → SProp 𝓤) (run : Routine → Fun 𝓤) (𝓣 : Tables 𝓤 H) → Triple 𝓤 (𝓣 .C #beginning·begin) (Begin 𝓤 H A mem run) → Triple 𝓤 (𝓣 .C #generate-records·refused) (RefusedFirst 𝓤 H A mem run) → Triple 𝓤 (𝓣 .C #entries·clear) (Clear 𝓤 H A mem run) → Triple 𝓤 (𝓣 .C #running-row·run-row) (RunRow 𝓤 H A mem run) → Triple 𝓤 (𝓣 .C #closing·close) (Close 𝓤 H A mem run) → Meets 𝓤 H A f.signature (WpFn 𝓤 H (𝓣 .C) (𝓣 .Λ) code.function) (f.spec 𝓤 H A mem run)
 meets 𝓤 H A W mem run 𝓣 begin refused clear run-row close =
     walk-meets 𝓤 H A f.ended stayed W
     (goes-none 𝓤 H A W 7 (λ _. Gr.the-row) yes (λ κs x f. refl), (goes-none-slice 𝓤 H A W 7 (0 ∷ []) tt (plain (λ _. f32)) yes, (goes-none 𝓤 H A W 7 (λ _. P.the-row) yes (λ κs x f. refl), (goes-none 𝓤 H A W 7 (λ _. I.the-row) yes (λ κs x f. refl), (goes-none-slice 𝓤 H A W 7 (1 ∷ []) tt (plain (λ _. u32)) yes, (goes-slice 𝓤 H A W 7 2 tt (plain (λ _. f32)), (goes-slice 𝓤 H A W 7 3 tt (plain (λ _. u32)), (goes-slice 𝓤 H A W 7 4 tt (plain (λ _. u32)), (goes-slice 𝓤 H A W 7 5 tt (plain (λ _. u32)), (goes-slice 𝓤 H A W 7 6 tt (plain (λ _. E.the-row)), (goes-none 𝓤 H A W 7 (λ _. u32) yes (λ κs x f. refl), tt)))))))))))
@@ -350,4 +350,4 @@ generate-grid-sdf-records-spec 𝓤 H 𝓜 𝓖 𝓡 =
     (cited 𝓤 H (RefusedFirst 𝓤 H (𝓖 .A) (𝓜 .mem) (𝓡 .run)) 𝓜 𝓡 code.env #generate-records·refused refused-def.routine code.calls-generate-records·refused (refused-thm.met 𝓤 H 𝓜 𝓖 𝓡))
     (cited 𝓤 H (Clear 𝓤 H (𝓖 .A) (𝓜 .mem) (𝓡 .run)) 𝓜 𝓡 code.env #entries·clear clear-def.routine code.calls-entries·clear (clear-thm.met 𝓤 H 𝓜 𝓖 𝓡))
     (cited 𝓤 H (RunRow 𝓤 H (𝓖 .A) (𝓜 .mem) (𝓡 .run)) 𝓜 𝓡 code.env #running-row·run-row run-row-def.routine code.calls-running-row·run-row (run-row-thm.met 𝓤 H 𝓜 𝓖 𝓡))
-    (cited 𝓤 H (Close 𝓤 H (𝓖 .A) (𝓜 .mem) (𝓡 .run)) 𝓜 𝓡 code.env #outcome·close close-def.routine code.calls-outcome·close (close-thm.met 𝓤 H 𝓜 𝓖 𝓡)))
+    (cited 𝓤 H (Close 𝓤 H (𝓖 .A) (𝓜 .mem) (𝓡 .run)) 𝓜 𝓡 code.env #closing·close close-def.routine code.calls-closing·close (close-thm.met 𝓤 H 𝓜 𝓖 𝓡)))

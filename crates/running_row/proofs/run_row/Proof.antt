@@ -66,12 +66,12 @@ use Rattle.running_row.proofs.Calls.{Begun, QueueCells, Spread, calls-b
 use Rattle.running_row.proofs.begun.Symbol as begun-def
 use Rattle.running_row.proofs.begun.Symbol.{name as #running-row·begun}
 use Rattle.running_row.proofs.begun.Met as begun-thm
-use Rattle.records.proofs.queue_cells.Symbol as queue-cells-def
-use Rattle.records.proofs.queue_cells.Symbol.{name as #records·queue-cells}
-use Rattle.records.proofs.queue_cells.Met as queue-cells-thm
-use Rattle.records.proofs.spread.Symbol as spread-def
-use Rattle.records.proofs.spread.Symbol.{name as #records·spread}
-use Rattle.records.proofs.spread.Met as spread-thm
+use Rattle.records_queue.proofs.queue_cells.Symbol as queue-cells-def
+use Rattle.records_queue.proofs.queue_cells.Symbol.{name as #records-queue·queue-cells}
+use Rattle.records_queue.proofs.queue_cells.Met as queue-cells-thm
+use Rattle.records_spread.proofs.spread.Symbol as spread-def
+use Rattle.records_spread.proofs.spread.Symbol.{name as #records-spread·spread}
+use Rattle.records_spread.proofs.spread.Met as spread-thm
 use Rattle.running_row.proofs.run_row.Key.{name as #running-row·run-row}
 use Rattle.running_row.proofs.run_row as f
 use Rattle.running_row.proofs.run_row.Statement as stated
@@ -176,7 +176,7 @@ module _ {M : Type 1} (𝓤 : URA M) (H : Heap 𝓤) (A : Atoms 𝓤) (W : Given
       owned ! P.the-row (Is P.the-row) (EL.makes P.the-type P′.the-plain 𝓤 H A) topology _ topology-is $ fjoin ! $ move ! (1 ∷ 0 ∷ []) $ fjoin ! $
       owned ! Gr.the-row (Is Gr.the-row) (LL.makes Gr.the-type Gr′.the-plain 𝓤 H A) grid _ grid-is $ fjoin ! $ owned ! G.the-row (Is G.the-row) (LL.makes G.the-type G′.the-plain 𝓤 H A) r _ r-is $ move ! (1 ∷ 0 ∷ []) $ done !
 
-  module _ (𝓣 : Tables 𝓤 H) (begun : Triple 𝓤 (𝓣 .C #running-row·begun) (Begun 𝓤 H A mem run)) (queue-cells : Triple 𝓤 (𝓣 .C #records·queue-cells) (QueueCells 𝓤 H A mem run)) (spread : Triple 𝓤 (𝓣 .C #records·spread) (Spread 𝓤 H A mem run)) (l₀ l₁ l₂ l₃ l₄ l₅ l₆ l₇ l₈ l₉ l₁₀ l₁₁ l₁₂ l₁₃ l₁₄ l₁₅ l₁₆ l₁₇ l₁₈ l₁₉ l₂₀ l₂₁ l₂₂ l₂₃ l₂₄ l₂₅ l₂₆ l₂₇ : ℕ) where
+  module _ (𝓣 : Tables 𝓤 H) (begun : Triple 𝓤 (𝓣 .C #running-row·begun) (Begun 𝓤 H A mem run)) (queue-cells : Triple 𝓤 (𝓣 .C #records-queue·queue-cells) (QueueCells 𝓤 H A mem run)) (spread : Triple 𝓤 (𝓣 .C #records-spread·spread) (Spread 𝓤 H A mem run)) (l₀ l₁ l₂ l₃ l₄ l₅ l₆ l₇ l₈ l₉ l₁₀ l₁₁ l₁₂ l₁₃ l₁₄ l₁₅ l₁₆ l₁₇ l₁₈ l₁₉ l₂₀ l₂₁ l₂₂ l₂₃ l₂₄ l₂₅ l₂₆ l₂₇ : ℕ) where
     abbrev C : Calls 𝓤 H
     C = 𝓣 .C
 
@@ -264,7 +264,7 @@ module _ {M : Type 1} (𝓤 : URA M) (H : Heap 𝓤) (A : Atoms 𝓤) (W : Given
         move ! (1 ∷ []) $ fsplit ! $ drop ! $ fsplit ! $ drop ! $ drop ! $ move ! (5 ∷ []) $ split ! $ move ! (1 ∷ []) $ split ! $ move ! (1 ∷ []) $ split ! $ move ! (1 ∷ []) $ split ! $ move ! (1 ∷ []) $ split ! $ move ! (1 ∷ []) $
         drop ! $ move ! (9 ∷ 4 ∷ 8 ∷ 3 ∷ 7 ∷ 2 ∷ 6 ∷ 1 ∷ 5 ∷ 0 ∷ []) $ goes
 
-  walk : (𝓣 : Tables 𝓤 H) → Triple 𝓤 (𝓣 .C #running-row·begun) (Begun 𝓤 H A mem run) → Triple 𝓤 (𝓣 .C #records·queue-cells) (QueueCells 𝓤 H A mem run) → Triple 𝓤 (𝓣 .C #records·spread) (Spread 𝓤 H A mem run) → ent 𝓤 (onEntry 𝓤 H A f.signature (κ-vertices, (κ-indices, (κ-field, (κ-names, (κ-row, tt))))) (q-vertices, (q-indices, (q-field, (q-names, (q-row, tt))))) a values)
+  walk : (𝓣 : Tables 𝓤 H) → Triple 𝓤 (𝓣 .C #running-row·begun) (Begun 𝓤 H A mem run) → Triple 𝓤 (𝓣 .C #records-queue·queue-cells) (QueueCells 𝓤 H A mem run) → Triple 𝓤 (𝓣 .C #records-spread·spread) (Spread 𝓤 H A mem run) → ent 𝓤 (onEntry 𝓤 H A f.signature (κ-vertices, (κ-indices, (κ-field, (κ-names, (κ-row, tt))))) (q-vertices, (q-indices, (q-field, (q-names, (q-row, tt))))) a values)
       (WpFn 𝓤 H (𝓣 .C) (𝓣 .Λ) code.function (LL.val Gr.the-type Gr′.the-laws grid ∷ s-vertices ∷ EL.val P.the-type P′.the-laws topology ∷ EL.val I.the-type I′.the-laws given ∷ s-indices ∷ s-field ∷ s-names ∷ s-row ∷ vint w32 number ∷ vint w32 limit ∷ []) Post)
   walk 𝓣 begun queue-cells spread =
       qed W ((‵ (flft κ-vertices q-vertices) ⊛ (‵ (flft κ-indices q-indices) ⊛ (‵ (flft κ-field q-field) ⊛ (‵ (flft κ-names q-names) ⊛ (‵ (flft κ-row q-row) ⊛ ‵ ftrue))))) ∷ ‵ (owns (Gr.the-row ∷ ShrSlice (named 0) κ-vertices f32 ∷ P.the-row ∷ I.the-row ∷ ShrSlice (named 1) κ-indices u32 ∷ MutSlice (named 2) κ-field f32 ∷ MutSlice (named 3) κ-names u32 ∷ MutSlice (named 4) κ-row E.the-row ∷ u32 ∷ u32 ∷ []) a values) ∷ []) ∵ enter ! (𝓣 .C) (𝓣 .Λ) code.function (LL.val Gr.the-type Gr′.the-laws grid ∷ s-vertices ∷ EL.val P.the-type P′.the-laws topology ∷ EL.val I.the-type I′.the-laws given ∷ s-indices ∷ s-field ∷ s-names ∷ s-row ∷ vint w32 number ∷ vint w32 limit ∷ []) _ $
@@ -279,14 +279,14 @@ module _ {M : Type 1} (𝓤 : URA M) (H : Heap 𝓤) (A : Atoms 𝓤) (W : Given
       begins 𝓣 begun queue-cells spread l₀ l₁ l₂ l₃ l₄ l₅ l₆ l₇ l₈ l₉ l₁₀ l₁₁ l₁₂ l₁₃ l₁₄ l₁₅ l₁₆ l₁₇ l₁₈ l₁₉ l₂₀ l₂₁ l₂₂ l₂₃ l₂₄ l₂₅ l₂₆ l₂₇))))))))))))))))))))))))))))
 
 module _ {M : Type 1} (𝓤 : URA M) (H : Heap 𝓤) (A : Atoms 𝓤) (W : Given 𝓤 H A) (mem : Memory → SProp 𝓤) (run : Routine → Fun 𝓤) where
-  walks : (𝓣 : Tables 𝓤 H) → Triple 𝓤 (𝓣 .C #running-row·begun) (Begun 𝓤 H A mem run) → Triple 𝓤 (𝓣 .C #records·queue-cells) (QueueCells 𝓤 H A mem run) → Triple 𝓤 (𝓣 .C #records·spread) (Spread 𝓤 H A mem run) → Walks 𝓤 H A f.ended stayed (WpFn 𝓤 H (𝓣 .C) (𝓣 .Λ) code.function) (f.clauses 𝓤 H A mem run)
+  walks : (𝓣 : Tables 𝓤 H) → Triple 𝓤 (𝓣 .C #running-row·begun) (Begun 𝓤 H A mem run) → Triple 𝓤 (𝓣 .C #records-queue·queue-cells) (QueueCells 𝓤 H A mem run) → Triple 𝓤 (𝓣 .C #records-spread·spread) (Spread 𝓤 H A mem run) → Walks 𝓤 H A f.ended stayed (WpFn 𝓤 H (𝓣 .C) (𝓣 .Λ) code.function) (f.clauses 𝓤 H A mem run)
   walks 𝓣 begun queue-cells spread = walked 𝓤 H A f.ended stayed (f.clauses 𝓤 H A mem run) (WpFn 𝓤 H (𝓣 .C) (𝓣 .Λ) code.function)
       (λ κs. (LL.vals Gr.the-type Gr′.the-laws, (slice-vals, (EL.vals P.the-type P′.the-laws, (EL.vals I.the-type I′.the-laws, (slice-vals, (slice-vals, (slice-vals, (slice-vals, (uint-vals w32, (uint-vals w32, tt)))))))))))
       (λ κs. (LL.tells Gr.the-type Gr′.the-laws, (shr-slice-tells (named 0) (κs .0) f32, (EL.tells P.the-type P′.the-laws, (EL.tells I.the-type I′.the-laws, (shr-slice-tells (named 1) (κs .1 .0) u32, (mut-slice-tells (named 2) (κs .1 .1 .0) f32, (mut-slice-tells (named 3) (κs .1 .1 .1 .0) u32, (mut-slice-tells (named 4) (κs .1 .1 .1 .1 .0) E.the-row, (uint-tells w32, (uint-tells w32, tt)))))))))))
       (λ κs qs bounds a g are. needs 𝓤 (Fit (a .0) (meshOf (a .1 .0 .now) (a .1 .1 .0) (a .1 .1 .1 .0) (a .1 .1 .1 .1 .0 .now)) × Seeded (a .0) (meshOf (a .1 .0 .now) (a .1 .1 .0) (a .1 .1 .1 .0) (a .1 .1 .1 .1 .0 .now)) (a .1 .1 .1 .1 .1 .1 .1 .1 .0) (a .1 .1 .1 .1 .1 .0 .now) (a .1 .1 .1 .1 .1 .1 .0 .now) (a .1 .1 .1 .1 .1 .1 .1 .0 .now)) _
       (λ pre. walk 𝓤 H A W mem run (a .0) (κs .0) (qs .0) (a .1 .0) (a .1 .1 .0) (a .1 .1 .1 .0) (κs .1 .0) (qs .1 .0) (a .1 .1 .1 .1 .0) (κs .1 .1 .0) (qs .1 .1 .0) (a .1 .1 .1 .1 .1 .0 .ptr .0) (a .1 .1 .1 .1 .1 .0 .ptr .1) (a .1 .1 .1 .1 .1 .0 .name) (a .1 .1 .1 .1 .1 .0 .now) (κs .1 .1 .1 .0) (qs .1 .1 .1 .0) (a .1 .1 .1 .1 .1 .1 .0 .ptr .0) (a .1 .1 .1 .1 .1 .1 .0 .ptr .1) (a .1 .1 .1 .1 .1 .1 .0 .name) (a .1 .1 .1 .1 .1 .1 .0 .now) (κs .1 .1 .1 .1 .0) (qs .1 .1 .1 .1 .0) (a .1 .1 .1 .1 .1 .1 .1 .0 .ptr .0) (a .1 .1 .1 .1 .1 .1 .1 .0 .ptr .1) (a .1 .1 .1 .1 .1 .1 .1 .0 .name) (a .1 .1 .1 .1 .1 .1 .1 .0 .now) (a .1 .1 .1 .1 .1 .1 .1 .1 .0) (a .1 .1 .1 .1 .1 .1 .1 .1 .1 .0) (are .0) (are .1 .0 .0 .1) (are .1 .1 .0) (are .1 .1 .1 .0) (are .1 .1 .1 .1 .0 .0 .1) (are .1 .1 .1 .1 .1 .0 .0 .1) (are .1 .1 .1 .1 .1 .1 .0 .0 .1) (are .1 .1 .1 .1 .1 .1 .1 .0 .0 .1) (are .1 .1 .1 .1 .1 .1 .1 .1 .0 .1) (are .1 .1 .1 .1 .1 .1 .1 .1 .1 .0 .1) (pre .0) (pre .1) 𝓣 begun queue-cells spread))
 
-meets : {M : Type 1} (𝓤 : URA M) (H : Heap 𝓤) (A : Atoms 𝓤) → Given 𝓤 H A → (mem : Memory → SProp 𝓤) (run : Routine → Fun 𝓤) (𝓣 : Tables 𝓤 H) → Triple 𝓤 (𝓣 .C #running-row·begun) (Begun 𝓤 H A mem run) → Triple 𝓤 (𝓣 .C #records·queue-cells) (QueueCells 𝓤 H A mem run) → Triple 𝓤 (𝓣 .C #records·spread) (Spread 𝓤 H A mem run) → Meets 𝓤 H A f.signature (WpFn 𝓤 H (𝓣 .C) (𝓣 .Λ) code.function) (f.spec 𝓤 H A mem run)
+meets : {M : Type 1} (𝓤 : URA M) (H : Heap 𝓤) (A : Atoms 𝓤) → Given 𝓤 H A → (mem : Memory → SProp 𝓤) (run : Routine → Fun 𝓤) (𝓣 : Tables 𝓤 H) → Triple 𝓤 (𝓣 .C #running-row·begun) (Begun 𝓤 H A mem run) → Triple 𝓤 (𝓣 .C #records-queue·queue-cells) (QueueCells 𝓤 H A mem run) → Triple 𝓤 (𝓣 .C #records-spread·spread) (Spread 𝓤 H A mem run) → Meets 𝓤 H A f.signature (WpFn 𝓤 H (𝓣 .C) (𝓣 .Λ) code.function) (f.spec 𝓤 H A mem run)
 meets 𝓤 H A W mem run 𝓣 begun queue-cells spread =
     walk-meets 𝓤 H A f.ended stayed W
     (goes-none 𝓤 H A W 5 (λ _. Gr.the-row) yes (λ κs x f. refl), (goes-none-slice 𝓤 H A W 5 (0 ∷ []) tt (plain (λ _. f32)) yes, (goes-none 𝓤 H A W 5 (λ _. P.the-row) yes (λ κs x f. refl), (goes-none 𝓤 H A W 5 (λ _. I.the-row) yes (λ κs x f. refl), (goes-none-slice 𝓤 H A W 5 (1 ∷ []) tt (plain (λ _. u32)) yes, (goes-slice 𝓤 H A W 5 2 tt (plain (λ _. f32)), (goes-slice 𝓤 H A W 5 3 tt (plain (λ _. u32)), (goes-slice 𝓤 H A W 5 4 tt (plain (λ _. E.the-row)), (goes-none 𝓤 H A W 5 (λ _. u32) yes (λ κs x f. refl), (goes-none 𝓤 H A W 5 (λ _. u32) yes (λ κs x f. refl), tt))))))))))
@@ -299,5 +299,5 @@ run-row-spec 𝓤 H 𝓜 𝓖 𝓡 =
     (tables 𝓤 H 𝓜 𝓡 code.env .C) (tables 𝓤 H 𝓜 𝓡 code.env .Λ) #running-row·run-row code.function (code.unfolded 𝓤 H 𝓜 𝓡)
     (meets 𝓤 H (𝓖 .A) (givenOf 𝓤 H 𝓜 𝓖) (𝓜 .mem) (𝓡 .run) (tablesOf 𝓤 H 𝓜 (tables 𝓤 H 𝓜 𝓡 code.env))
     (cited 𝓤 H (Begun 𝓤 H (𝓖 .A) (𝓜 .mem) (𝓡 .run)) 𝓜 𝓡 code.env #running-row·begun begun-def.routine code.calls-running-row·begun (begun-thm.met 𝓤 H 𝓜 𝓖 𝓡))
-    (cited 𝓤 H (QueueCells 𝓤 H (𝓖 .A) (𝓜 .mem) (𝓡 .run)) 𝓜 𝓡 code.env #records·queue-cells queue-cells-def.routine code.calls-records·queue-cells (queue-cells-thm.met 𝓤 H 𝓜 𝓖 𝓡))
-    (cited 𝓤 H (Spread 𝓤 H (𝓖 .A) (𝓜 .mem) (𝓡 .run)) 𝓜 𝓡 code.env #records·spread spread-def.routine code.calls-records·spread (spread-thm.met 𝓤 H 𝓜 𝓖 𝓡)))
+    (cited 𝓤 H (QueueCells 𝓤 H (𝓖 .A) (𝓜 .mem) (𝓡 .run)) 𝓜 𝓡 code.env #records-queue·queue-cells queue-cells-def.routine code.calls-records-queue·queue-cells (queue-cells-thm.met 𝓤 H 𝓜 𝓖 𝓡))
+    (cited 𝓤 H (Spread 𝓤 H (𝓖 .A) (𝓜 .mem) (𝓡 .run)) 𝓜 𝓡 code.env #records-spread·spread spread-def.routine code.calls-records-spread·spread (spread-thm.met 𝓤 H 𝓜 𝓖 𝓡)))

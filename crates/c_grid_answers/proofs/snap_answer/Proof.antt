@@ -1,0 +1,21 @@
+-- `snap_answer`: by the answer's case. Assumes nothing.
+use borrow.Author.Needs.{needs}
+use Rattle.c_records.specs.C.{snap}
+use Rattle.c_grid_answers.proofs.snap_answer.Statement.{statement}
+use Rattle.c_grid_answers.proofs.snap_answer.Tie as tie
+
+pub snap-answer-spec : {M : Type 1} → statement M
+unfolding snap
+snap-answer-spec =
+    tie.close
+    (tie.spec
+    (λ c. search needs)
+    (λ c κs. tt)
+    (λ c. search needs)
+    (λ c. search needs)
+    (λ c κs. tt)
+    (λ c. search needs)
+    (λ c κs. tt)
+    (λ c. cc)
+    (λ c. cc)
+    (λ c. cc))

@@ -1,0 +1,139 @@
+// The answers of the grid's questions, as C gets them.
+use c_records::SdfBoxAnswer;
+use c_records::SdfCell;
+use c_records::SdfCellAnswer;
+use c_records::SdfGridAnswer;
+use c_records::SdfNumberAnswer;
+use c_records::SdfPointAnswer;
+use c_records::SdfSnapAnswer;
+use grid::SnapResult;
+use grid_asked::BoxAnswer as GridBoxAnswer;
+use grid_asked::CellAnswer;
+use grid_asked::CountsAnswer;
+use grid_asked::GridAnswer;
+use grid_asked::NumberAnswer;
+use grid_asked::PointAnswer as GridPointAnswer;
+use grid_asked::SnapAnswer;
+ghost use mathlib.Core.Path.{_≡_};
+ghost use Rattle.grid_asked.specs.Reply as Reply;
+ghost use Rattle.c_records.specs.C as C;
+
+pub fn number_answer(a: NumberAnswer) -> SdfNumberAnswer
+    ensures { λ r. ⌜ r ≡ C.number (Reply.number a) ⌝ }
+{
+    match a {
+        NumberAnswer::Refused(n) => SdfNumberAnswer {
+            number: n,
+            value: 0,
+        },
+        NumberAnswer::Number(i) => SdfNumberAnswer {
+            number: 0,
+            value: i,
+        },
+    }
+}
+
+pub fn cell_answer(a: CellAnswer) -> SdfCellAnswer
+    ensures { λ r. ⌜ r ≡ C.cell (Reply.cell a) ⌝ }
+{
+    match a {
+        CellAnswer::Refused(n) => SdfCellAnswer {
+            number: n,
+            cell: c_records::no_cell(),
+        },
+        CellAnswer::At(c) => SdfCellAnswer {
+            number: 0,
+            cell: c_records::cell_out(c),
+        },
+    }
+}
+
+pub fn counts_answer(a: CountsAnswer) -> SdfCellAnswer
+    ensures { λ r. ⌜ r ≡ C.counts (Reply.counts a) ⌝ }
+{
+    match a {
+        CountsAnswer::Refused(n) => SdfCellAnswer {
+            number: n,
+            cell: c_records::no_cell(),
+        },
+        CountsAnswer::Are(c) => SdfCellAnswer {
+            number: 0,
+            cell: SdfCell {
+                x: c.x,
+                y: c.y,
+                z: c.z,
+            },
+        },
+    }
+}
+
+pub fn point_answer(a: GridPointAnswer) -> SdfPointAnswer
+    ensures { λ r. ⌜ r ≡ C.point (Reply.point a) ⌝ }
+{
+    match a {
+        GridPointAnswer::Refused(n) => SdfPointAnswer {
+            number: n,
+            point: c_records::no_point(),
+        },
+        GridPointAnswer::At(p) => SdfPointAnswer {
+            number: 0,
+            point: c_records::point_out(p),
+        },
+    }
+}
+
+pub fn box_answer(a: GridBoxAnswer) -> SdfBoxAnswer
+    ensures { λ r. ⌜ r ≡ C.box (Reply.box a) ⌝ }
+{
+    match a {
+        GridBoxAnswer::Refused(n) => SdfBoxAnswer {
+            number: n,
+            min: c_records::no_point(),
+            max: c_records::no_point(),
+        },
+        GridBoxAnswer::Is(b) => SdfBoxAnswer {
+            number: 0,
+            min: c_records::point_out(b.min),
+            max: c_records::point_out(b.max),
+        },
+    }
+}
+
+pub fn snap_answer(a: SnapAnswer) -> SdfSnapAnswer
+    ensures { λ r. ⌜ r ≡ C.snap (Reply.snapped a) ⌝ }
+{
+    match a {
+        SnapAnswer::Refused(n) => SdfSnapAnswer {
+            number: n,
+            inside: 0,
+            cell: c_records::no_cell(),
+        },
+        SnapAnswer::Snapped(s) => match s {
+            SnapResult::Inside(c) => SdfSnapAnswer {
+                number: 0,
+                inside: 1,
+                cell: c_records::cell_out(c),
+            },
+            SnapResult::Outside(c) => SdfSnapAnswer {
+                number: 0,
+                inside: 0,
+                cell: c_records::cell_out(c),
+            },
+        },
+    }
+}
+
+pub fn grid_answer(a: GridAnswer) -> SdfGridAnswer
+    ensures { λ r. ⌜ r ≡ C.grid (Reply.grid a) ⌝ }
+{
+    match a {
+        GridAnswer::Refused(n) => SdfGridAnswer {
+            number: n,
+            grid: c_records::no_grid(),
+        },
+        GridAnswer::Made(g) => SdfGridAnswer {
+            number: 0,
+            grid: c_records::grid_out(g),
+        },
+    }
+}

@@ -1,0 +1,3 @@
+pub mod Sinking
+pub mod Steps
+pub mod Children

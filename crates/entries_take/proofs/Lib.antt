@@ -1,0 +1,2 @@
+pub mod Takes
+pub mod RowCalls

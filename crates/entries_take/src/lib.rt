@@ -1,0 +1,29 @@
+// The first entry taken out of the queue of the run that is a lent row of entry records. A part of the port:
+// users call `sdf`.
+use queue::Entry;
+use topology::Indices;
+use topology::Topology;
+ghost use Prim.Native.Nat.{_^_, _<_};
+ghost use Rattle.queue.specs.Order.{orderOf};
+ghost use Rattle.entries.specs.Row.{HeldRow, TakenRow};
+
+// Takes the first of the n entries that wait, and leaves zero in the room that this frees.
+pub fn take(
+    row: &mut [Entry],
+    n: usize,
+    topology: Topology,
+    given: Indices,
+    indices: &[u32],
+    vertices: usize,
+) -> Entry
+    requires { ⌜ (vertices < 2 ^ 32) × HeldRow (orderOf topology given (now indices) vertices) (now row) n × (0 < n) ⌝ }
+    ensures { λ r. ⌜ TakenRow (orderOf topology given (now (indices .entry)) vertices) r (now (row .entry)) (now (row .exit)) n ⌝ }
+{
+    let m = n - 1;
+    let r = row[0];
+    let last = row[m];
+    let e = entries::kept(last, m);
+    row[m] = entries::none();
+    entries_sift::sift_down(row, m, e, topology, given, indices, vertices);
+    r
+}

@@ -1,0 +1,3 @@
+-- The laws of the offers of a pop.
+pub mod Batches
+mod Gathering

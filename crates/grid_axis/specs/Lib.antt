@@ -1,0 +1,2 @@
+pub mod OnAxis
+pub mod AxisBounds

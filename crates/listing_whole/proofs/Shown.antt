@@ -1,0 +1,28 @@
+-- What is written of an answer, by its two cases. Assumes nothing.
+use Prim.Native.Nat.{ℕ, _≤_, _<_}
+use native.Mathlib.Omega.{arith}
+use mathlib.Core.Path.{_≡_, refl, ap, sym, subst}
+use mathlib.Core.List.{List, [], _∷_, _++_}
+use lib.Ieee.{Float}
+use Rattle.outcome.specs.declared.Answer.{Answer}
+use Rattle.outcome.specs.declared.Answer.the-variants.{Refused, Done}
+use Rattle.outcome.specs.Outcome.{peakOf}
+use Rattle.text.specs.Words.{bytes, decimal, lf, line}
+use Rattle.writing.specs.Put.{Put}
+use Rattle.listing.specs.Listing.{listed}
+use Rattle.listing.specs.Written.{shown, Few, Listable}
+
+module _ {a : Answer} {field : List Float} {names rows old new : List ℕ} {k : ℕ} where
+  pub refused-written : (n : ℕ) → a ≡ Refused n → Few field names rows old → Put old 0 (bytes "answer=" ++ decimal n ++ lf ∷ []) new k
+      → Listable a field names rows old × Put old 0 (listed a (shown field names rows)) new k
+  unfolding listed line
+  refused-written n e f p = rw e (record { few = f; peak-fits = omega arith }, p)
+
+  pub done-written : (pops peak : ℕ) → a ≡ Done pops peak → Few field names rows old → peak ≤ 4294967295
+      → Put old 0 (listed (Done pops peak) (shown field names rows)) new k
+      → Listable a field names rows old × Put old 0 (listed a (shown field names rows)) new k
+  done-written pops peak e f h p = rw e (record { few = f; peak-fits = h }, p)
+
+pub too-high : {a : Answer} {field : List Float} {names rows old : List ℕ} (pops peak : ℕ) → a ≡ Done pops peak → 4294967295 < peak
+    → Listable a field names rows old → ⊥
+too-high pops peak e h l = omega (arith, l .peak-fits, ap peakOf e)

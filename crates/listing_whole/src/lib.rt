@@ -1,0 +1,70 @@
+// The whole listing of an answer, written into lent bytes. A part of the port: users run the job program.
+use listing::Written;
+use listing::put_cells;
+use listing::put_rows;
+use outcome::Answer;
+use writing::put_number;
+ghost use Prim.Native.Nat.{_≤_, _<_};
+ghost use lib.ListN.{length};
+ghost use mathlib.Core.Path.{_≡_};
+ghost use Rattle.outcome.specs.declared.Answer.the-variants.{Done};
+ghost use Rattle.writing.specs.Put.{Put};
+ghost use Rattle.listing.specs.Listing.{listed};
+ghost use Rattle.listing.specs.Written.{shown, Few, Writes};
+
+// The listing of a job that is done.
+fn put_done(
+    out: &mut [u8],
+    pops: u32,
+    peak: u32,
+    field: &[f32],
+    names: &[u32],
+    rows: &[u32],
+) -> usize
+    requires { ⌜ Few (now field) (now names) (now rows) (now out) ⌝ }
+    ensures { λ r. ⌜ Put (now (out .entry)) 0 (listed (Done pops peak) (shown (now (field .entry)) (now (names .entry)) (now (rows .entry)))) (now (out .exit)) r ⌝ }
+{
+    let a = put_number(out, 0, b"answer=", 0);
+    let b = put_number(out, a, b"pops=", pops);
+    let c = put_number(out, b, b"peak=", peak);
+    let d = put_cells(out, c, field, names);
+    put_rows(out, d, rows)
+}
+
+// Writes the listing of an answer and of what its job left, where it has at most 512 cells and layers, and
+// `out` is at least 32,768 bytes long, which hold any such listing. Else it writes nothing.
+pub fn write_listing(
+    answer: Answer,
+    field: &[f32],
+    names: &[u32],
+    rows: &[u32],
+    out: &mut [u8],
+) -> Written
+    ensures { λ r. ⌜ Writes answer (now (field .entry)) (now (names .entry)) (now (rows .entry)) (now (out .entry)) (now (out .exit)) r ⌝ }
+{
+    if out.len() < 32768 {
+        return Written::Nothing;
+    }
+    if 512 < field.len() {
+        return Written::Nothing;
+    }
+    if names.len() != field.len() {
+        return Written::Nothing;
+    }
+    if 512 < rows.len() {
+        return Written::Nothing;
+    }
+    match answer {
+        Answer::Refused(number) => {
+            let n = put_number(out, 0, b"answer=", number);
+            Written::Bytes(n)
+        }
+        Answer::Done { pops, peak } => {
+            if 4294967295 < peak {
+                return Written::Nothing;
+            }
+            let n = put_done(out, pops, peak as u32, field, names, rows);
+            Written::Bytes(n)
+        }
+    }
+}

@@ -1,0 +1,3 @@
+pub mod Pushing
+pub mod RecordCalls
+pub mod AllCalls

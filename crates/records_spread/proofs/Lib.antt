@@ -1,0 +1,2 @@
+pub mod Popping
+pub mod RunCalls
