@@ -16,7 +16,8 @@ use Rattle.grid.specs.declared.Grid.{Grid}
 use Rattle.grid.specs.declared.Cell.{Cell}
 use Rattle.grid.specs.Axes.{cell, firstOn, sizeOn}
 use Rattle.grid.specs.Index.{Inside, index, indexOf}
-use Rattle.grid.specs.Place.{centreOn, centreOf}
+use Rattle.grid_axis.specs.OnAxis.{centreOn}
+use Rattle.grid.specs.Place.{centreOf}
 use Rattle.closest.specs.declared.Facet.{Facet}
 use Rattle.squares.specs.Distance.{squaredOn, Squares}
 use Rattle.squares.proofs.Laws.{nan-alike}

@@ -53,9 +53,9 @@ fn squares_from(grid: Grid, f: Facet, at: Cell) -> [f32; 4]
     let ys = [p.y; 4];
     let zs = [
         p.z,
-        grid::centre_on(first, size, at.z + 1),
-        grid::centre_on(first, size, at.z + 2),
-        grid::centre_on(first, size, at.z + 3),
+        grid_axis::centre_on(first, size, at.z + 1),
+        grid_axis::centre_on(first, size, at.z + 2),
+        grid_axis::centre_on(first, size, at.z + 3),
     ];
     let mut squares = [0.0f32; 4];
     squares::squares_on(f, &xs, &ys, &zs, &mut squares);
