@@ -5,7 +5,8 @@
 //!
 //! The Rust's parts are what its own log lines say. The library has one call for a whole job, and its parts come out of
 //! three calls: with no pop allowed it ends after seeding and queueing; with one pop less than the job takes it ends
-//! before the crossings. The difference of two is the part between. What a refusal clears again stands in both.
+//! before the crossings. The difference of two is the part between. What a refusal clears again stands in both. The
+//! whole is timed over a row of records too.
 
 #![allow(dead_code)] // Each module serves compare.rs too.
 
@@ -20,7 +21,7 @@ mod shapes;
 use model::grid::Grid;
 use model::topology::triangles;
 use model::Job;
-use port::{ask, ask_with_room, Lent};
+use port::{ask, ask_records, ask_with_room, Lent};
 use random::Random;
 use shapes::Mesh;
 use web_time::Instant;
@@ -56,6 +57,15 @@ fn ours(job: &Job, lent: &mut Lent, pops: u32) -> Times {
     [seeded, spread, whole, whole]
 }
 
+/// The whole over a row of records; what makes the row of the three lists, and back, is counted too.
+fn over_records(job: &Job, lent: &mut Lent) -> f64 {
+    let begin = Instant::now();
+    let answer = ask_records(job, job.vertices.as_flattened(), lent, u32::MAX);
+    let time = begin.elapsed().as_secs_f64() * 1e3;
+    assert_eq!(answer.number, 0, "the answer over records");
+    time
+}
+
 fn theirs(job: &Job) -> Times {
     let begin = Instant::now();
     let answer = rust::run(job).expect("the Rust runs through");
@@ -68,7 +78,7 @@ fn main() {
     let (rounds, largest) = (number(1).unwrap_or(5), number(2).unwrap_or(100));
     mesh_oracle::begin();
     println!("load before: {}", load());
-    let mut slowest = [f64::MAX; 4];
+    let (mut slowest, mut slowest_records) = ([f64::MAX; 4], f64::MAX);
     for (workload, mesh) in WORKLOADS {
         for (edge, number) in SIZES.into_iter().filter(|(edge, _)| *edge <= largest) {
             let grid = Grid { first: [0.05; 3], size: [0.1; 3], count: [edge; 3] };
@@ -76,10 +86,11 @@ fn main() {
             let mesh = mesh(&grid, number, &mut Random::new(7, 0));
             let job = meshes::plain(grid, mesh);
             let answer = ask_with_room(&job, &mut lent);
-            let (mut a, mut b) = ([f64::MAX; 4], [f64::MAX; 4]);
+            let (mut a, mut b, mut records) = ([f64::MAX; 4], [f64::MAX; 4], f64::MAX);
             for _ in 0..if edge == 100 { rounds.min(3) } else { rounds } {
                 least(&mut a, ours(&job, &mut lent, answer.pops));
                 least(&mut b, theirs(&job));
+                records = records.min(over_records(&job, &mut lent));
             }
             // Out of the three calls, the three parts.
             a = [a[0], a[1] - a[0], a[2] - a[1], a[3]];
@@ -103,8 +114,12 @@ fn main() {
                     b[part]
                 );
             }
+            let ratio = b[3] / records;
+            slowest_records = slowest_records.min(ratio);
+            println!("    {:<10} {records:>10.2} ms over a row of records {:>25} {ratio:.2} times as fast", "whole", "");
         }
     }
+    println!("whole over a row of records: at least {slowest_records:.2} times as fast");
     for part in 0..4 {
         println!("{}: at least {:.2} times as fast", PARTS[part], slowest[part]);
     }

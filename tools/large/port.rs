@@ -27,29 +27,8 @@ extern "C" {
         cells_length: usize,
         triangles: *mut u32,
         triangles_length: usize,
-        limit: u32,
-        number: *mut u32,
-        pops: *mut u32,
-        peak: *mut usize,
-    );
-    fn port_job_records(
-        grid: *const u32,
-        vertices: *const f32,
-        coordinate_count: usize,
-        topology: u32,
-        given: u32,
-        indices: *const u32,
-        index_count: usize,
-        field: *mut f32,
-        field_length: usize,
-        names: *mut u32,
-        names_length: usize,
-        crossings: *mut u32,
-        crossings_length: usize,
-        rows: *mut u32,
-        rows_length: usize,
-        queue: *mut [u32; 3],
-        queue_length: usize,
+        row: *mut [u32; 3],
+        row_length: usize,
         limit: u32,
         number: *mut u32,
         pops: *mut u32,
@@ -118,7 +97,17 @@ pub fn ask(job: &Job, lent: &mut Lent, limit: u32) -> Answer {
 
 /// The same with other coordinates than the job's.
 pub fn ask_with(job: &Job, coordinates: &[f32], lent: &mut Lent, limit: u32) -> Answer {
-    let grid = grid_words(job);
+    call(job, coordinates, lent, None, limit)
+}
+
+/// The job over the lent buffers, with the row for a queue where there is one.
+fn call(job: &Job, coordinates: &[f32], lent: &mut Lent, row: Option<&mut [[u32; 3]]>, limit: u32) -> Answer {
+    let Grid { first, size, count } = job.grid;
+    let mut grid = [0; 9];
+    for axis in 0..3 {
+        (grid[axis], grid[3 + axis], grid[6 + axis]) = (first[axis].to_bits(), size[axis].to_bits(), count[axis]);
+    }
+    let (row, row_length) = row.map_or((std::ptr::null_mut(), 0), |row| (row.as_mut_ptr(), row.len()));
     let indices = job.indices.as_deref().unwrap_or(&[]);
     let mut answer = Answer::default();
     // SAFETY: every pointer is that of a slice or a number, with the slice's own length; none are shared.
@@ -145,6 +134,8 @@ pub fn ask_with(job: &Job, coordinates: &[f32], lent: &mut Lent, limit: u32) -> 
             lent.cells.len(),
             lent.triangles.as_mut_ptr(),
             lent.triangles.len(),
+            row,
+            row_length,
             limit,
             &mut answer.number,
             &mut answer.pops,
@@ -168,48 +159,11 @@ pub fn ask_with_room(job: &Job, lent: &mut Lent) -> Answer {
     }
 }
 
-fn grid_words(job: &Job) -> [u32; 9] {
-    let Grid { first, size, count } = job.grid;
-    let mut grid = [0; 9];
-    for axis in 0..3 {
-        (grid[axis], grid[3 + axis], grid[6 + axis]) = (first[axis].to_bits(), size[axis].to_bits(), count[axis]);
-    }
-    grid
-}
-
 /// The job over a row of records, which is what the three lists of `lent`'s queue hold, entry by entry.
 pub fn ask_records(job: &Job, coordinates: &[f32], lent: &mut Lent, limit: u32) -> Answer {
-    let grid = grid_words(job);
-    let indices = job.indices.as_deref().unwrap_or(&[]);
     let mut row: Vec<[u32; 3]> =
         (0..lent.distances.len()).map(|i| [lent.distances[i], lent.cells[i], lent.triangles[i]]).collect();
-    let mut answer = Answer::default();
-    // SAFETY: as above.
-    unsafe {
-        port_job_records(
-            grid.as_ptr(),
-            coordinates.as_ptr(),
-            coordinates.len(),
-            u32::from(job.topology == Topology::Strip),
-            u32::from(job.indices.is_some()),
-            indices.as_ptr(),
-            indices.len(),
-            lent.field.as_mut_ptr(),
-            lent.field.len(),
-            lent.names.as_mut_ptr(),
-            lent.names.len(),
-            lent.crossings.as_mut_ptr(),
-            lent.crossings.len(),
-            lent.rows.as_mut_ptr(),
-            lent.rows.len(),
-            row.as_mut_ptr(),
-            row.len(),
-            limit,
-            &mut answer.number,
-            &mut answer.pops,
-            &mut answer.peak,
-        );
-    }
+    let answer = call(job, coordinates, lent, Some(&mut row), limit);
     for (i, entry) in row.iter().enumerate() {
         [lent.distances[i], lent.cells[i], lent.triangles[i]] = *entry;
     }
