@@ -168,31 +168,43 @@ uint32_t sdf_sqrt_bits(uint32_t bits);
 /* The order of two distances. Refuses by 6. */
 sdf_order_answer sdf_compare_distances(float a, float b);
 
-/* Geometry. All refuse by 2; those with a point or a distance for an answer then by 6. */
+/* Geometry, by value. All refuse by 2 a coordinate out of bounds, and those with a point or a distance for an answer
+ * then by 6 a NaN in it. */
+
+/* The least and the greatest corner of a triangle's box. Refuses by 2. */
 sdf_box_answer sdf_triangle_bounding_box(sdf_point a, sdf_point b, sdf_point c);
+/* The point of the segment from a to b that is closest to p. Refuses by 2, then 6. */
 sdf_point_answer sdf_closest_point_segment(sdf_point p, sdf_point a, sdf_point b);
+/* The point of the triangle that is closest to p. Refuses by 2, then 6. */
 sdf_point_answer sdf_closest_point_triangle(sdf_point p, sdf_point a, sdf_point b, sdf_point c);
+/* The distance of p from the triangle: what the field's magnitudes are made of. Refuses by 2, then 6. */
 sdf_distance_answer sdf_point_triangle_distance(sdf_point p, sdf_point a, sdf_point b, sdf_point c);
-/* A ray from o along an axis: 0 is x, 1 is y, any other number z. */
+/* Whether a ray from o along an axis, 0 is x, 1 is y, any other number z, meets the triangle, and how far away: what the
+ * crossings count. Refuses by 2. */
 sdf_ray_answer sdf_ray_triangle_intersection_aligned(sdf_point o, sdf_point v0, sdf_point v1, sdf_point v2,
                                                      uint32_t axis);
 
-/* The grid's questions. All refuse by 1. */
+/* The grid's questions, by value. All refuse by 1 a grid out of bounds. */
+
+/* The centre of the first cell. */
 sdf_point_answer sdf_grid_first(sdf_grid grid);
 /* One cell past the last, as the source computes it. */
 sdf_point_answer sdf_grid_last(sdf_grid grid);
+/* The size of every cell. */
 sdf_point_answer sdf_grid_size(sdf_grid grid);
+/* How many cells there are along each axis. */
 sdf_cell_answer sdf_grid_counts(sdf_grid grid);
-/* How many cells there are. */
+/* How many cells there are: the length of field and names. */
 sdf_number_answer sdf_grid_total(sdf_grid grid);
 /* The box that the cells fill. */
 sdf_box_answer sdf_grid_box(sdf_grid grid);
-/* The index of a cell, z fastest, and the cell of an index. Both refuse by 4 after 1. */
+/* The index of a cell, z fastest: where it stands in field and names. Refuses by 4 after 1. */
 sdf_number_answer sdf_grid_index(sdf_grid grid, sdf_cell cell);
+/* The cell of an index. Refuses by 4 after 1. */
 sdf_cell_answer sdf_grid_coordinates(sdf_grid grid, uint32_t index);
 /* The centre of a cell. Refuses by 4 after 1. */
 sdf_point_answer sdf_grid_centre(sdf_grid grid, sdf_cell cell);
-/* The cell that a point lies in. Any point may be asked for. */
+/* The cell that a point lies in, or the nearest one. Any point may be asked for. */
 sdf_snap_answer sdf_grid_snap(sdf_grid grid, sdf_point point);
 /* The grid of so many cells that fills a box. Refuses by 1 what it would make. */
 sdf_grid_answer sdf_grid_from_bounding_box(sdf_point min, sdf_point max, sdf_cell count);
