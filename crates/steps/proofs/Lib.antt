@@ -1,3 +1,4 @@
 -- Laws that the crate's proofs cite.
 pub mod Floats
 pub mod Places
+pub mod Orders

@@ -1,8 +1,9 @@
--- Steps 0 to 7 but 2, the root and the geometry: when the answer that a case stores is that of the definitions which the asked function's own
+-- Steps 0 to 7, the root, the comparison and the geometry: when the answer that a case stores is that of the definitions which the asked function's own
 -- contract names. A case has what goes in from word 1 on, and then what comes out. Definitions only.
 use mathlib.Core.Bool.{Bool, _&&_}
 use mathlib.Core.List.{List}
-use Prim.Native.Nat.{ℕ, _+_}
+use Prim.Native.Nat.{ℕ, zero, suc, _+_}
+use lib.IntN.{ℤ, pos, negsuc}
 use Rattle.float.specs.RootOf.{rootOf, rootBits}
 use Rattle.geo.specs.Asked.{askedBox, askedSegment, askedTriangle, askedDistance, askedRay}
 use Rattle.c_records.specs.C as C
@@ -11,6 +12,7 @@ use Rattle.c_records.specs.declared.SdfPointAnswer.{SdfPointAnswer}
 use Rattle.c_records.specs.declared.SdfBoxAnswer.{SdfBoxAnswer}
 use Rattle.c_records.specs.declared.SdfDistanceAnswer.{SdfDistanceAnswer}
 use Rattle.c_records.specs.declared.SdfRayAnswer.{SdfRayAnswer}
+use Rattle.c_records.specs.declared.SdfOrderAnswer.{SdfOrderAnswer}
 use Rattle.steps.specs.Words.{wordAt, realAt, pointAt, isWord, isReal, isPoint}
 
 -- ---- an answer that is stored from word k on
@@ -27,6 +29,16 @@ isDistanceAnswer text base k r = isWord text base k (r .number) && isReal text b
 abbrev pub isRayAnswer : List ℕ → ℕ → ℕ → SdfRayAnswer → Bool
 isRayAnswer text base k r = isWord text base k (r .number) && isWord text base (k + 1) (r .hit) && isReal text base (k + 2) (r .t)
 
+-- -1, 0 or 1 in 32 bits
+abbrev pub orderWord : ℤ → ℕ
+orderWord (pos zero) = 0
+orderWord (pos (suc zero)) = 1
+orderWord (pos (suc (suc n))) = 4294967295
+orderWord (negsuc n) = 4294967295
+
+abbrev pub isOrderAnswer : List ℕ → ℕ → ℕ → SdfOrderAnswer → Bool
+isOrderAnswer text base k r = isWord text base k (r .number) && isWord text base (k + 1) (orderWord (r .order))
+
 -- ---- the steps
 
 abbrev pub sqrt : List ℕ → ℕ → Bool
@@ -34,6 +46,9 @@ sqrt text base = isReal text base 2 (rootOf (realAt text base 1))
 
 abbrev pub sqrtBits : List ℕ → ℕ → Bool
 sqrtBits text base = isWord text base 2 (rootBits (wordAt text base 1))
+
+abbrev pub compare : List ℕ → ℕ → Bool
+compare text base = isOrderAnswer text base 3 (C.compared (realAt text base 1) (realAt text base 2))
 
 abbrev pub triangleBox : List ℕ → ℕ → Bool
 triangleBox text base =

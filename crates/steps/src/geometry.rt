@@ -25,14 +25,25 @@ pub fn sqrt_bits(text: &[u8], base: usize) -> bool
 }
 
 // The order is stored as -1, 0 or 1 in 32 bits.
-pub fn compare(text: &[u8], base: usize) -> bool {
-    let r = c_geometry::sdf_compare_distances(real(text, base, 1), real(text, base, 2));
-    let sign = r.order;
-    let order: u32 = match sign {
-        0 => 0,
-        1 => 1,
-        _ => 0xffff_ffff,
-    };
+fn order_word(order: i32) -> u32
+    ensures { λ r. ⌜ r ≡ Geometry.orderWord order ⌝ }
+{
+    if order == 0 {
+        return 0;
+    }
+    if order == 1 {
+        return 1;
+    }
+    0xffff_ffff
+}
+
+pub fn compare(text: &[u8], base: usize) -> bool
+    ensures { λ r. ⌜ r ≡ Geometry.compare (now (text .entry)) base ⌝ }
+{
+    let a = real(text, base, 1);
+    let b = real(text, base, 2);
+    let r = c_geometry::sdf_compare_distances(a, b);
+    let order = order_word(r.order);
     is_word(text, base, 3, r.number) & is_word(text, base, 4, order)
 }
 
