@@ -1,6 +1,7 @@
 //! The kinds of jobs. Each takes random numbers and gives the text of one job.
 
 use crate::damage;
+use crate::inside;
 use crate::random::Random;
 use crate::shapes::{self, Mesh};
 use model::grid::Grid;
@@ -15,7 +16,7 @@ const MOST_VERTICES: u32 = 256;
 const MOST_INDICES: u32 = 768;
 const MOST_ENTRIES: u32 = 2_048;
 
-type Make = fn(&mut Random) -> Job;
+pub type Make = fn(&mut Random) -> Job;
 
 /// Kinds that are asked for by name alone: they lie beyond the job program's limits.
 pub const LARGE: [(&str, Make); 5] = [
@@ -26,7 +27,8 @@ pub const LARGE: [(&str, Make); 5] = [
     ("large-too-many-vertices", too_many_vertices),
 ];
 
-pub const KINDS: [(&str, Make); 69] = [
+/// The kinds that the base was built with.
+pub const BASE: [(&str, Make); 69] = [
     // Closed hulls, and a tank with its blanking plate on or off.
     ("box", closed_box),
     ("box-on-centres", box_on_centres),
@@ -109,9 +111,19 @@ pub const KINDS: [(&str, Make); 69] = [
     ("damaged-small", one_triangle),
 ];
 
+/// The kinds that take turns: those of a set, `base` or `inside`, or of both.
+pub fn of_set(set: Option<&str>) -> Vec<&'static str> {
+    let names = |kinds: &'static [(&'static str, Make)]| kinds.iter().map(|(name, _)| *name);
+    match set {
+        Some("base") => names(&BASE).collect(),
+        Some("inside") => names(&inside::KINDS).collect(),
+        _ => names(&BASE).chain(names(&inside::KINDS)).collect(),
+    }
+}
+
 /// The text of one job of the kind.
 pub fn make(kind: &str, r: &mut Random) -> Option<Vec<u8>> {
-    let (_, make) = KINDS.iter().chain(&LARGE).find(|(name, _)| *name == kind)?;
+    let (_, make) = BASE.iter().chain(&inside::KINDS).chain(&LARGE).find(|(name, _)| *name == kind)?;
     let text = text::write(&make(r));
     Some(match kind {
         // The two begin at different ways, so that together they show all of them sooner.
@@ -141,7 +153,7 @@ fn counts(r: &mut Random, most: u32) -> [u32; 3] {
 }
 
 /// A grid of a plain or an odd measure, well within bounds. Mostly small.
-fn grid(r: &mut Random) -> Grid {
+pub fn grid(r: &mut Random) -> Grid {
     let most = r.pick(&[4, 12, 30, 30, 64, 64, 125, 216]);
     let count = counts(r, most);
     let (first, size) = match r.below(6) {
@@ -161,7 +173,7 @@ fn span(grid: &Grid) -> [f64; 3] {
 
 // Jobs out of a grid and a mesh in cell units.
 
-fn job(grid: Grid, mesh: &Mesh, r: &mut Random) -> Job {
+pub fn job(grid: Grid, mesh: &Mesh, r: &mut Random) -> Job {
     let vertices = mesh.vertices.iter().map(|v| place(&grid, *v)).collect();
     let indices = Some(mesh.triangles.iter().flatten().copied().collect());
     let queue = if r.once_in(12) { r.between(0, MOST_ENTRIES) } else { MOST_ENTRIES };
@@ -170,14 +182,14 @@ fn job(grid: Grid, mesh: &Mesh, r: &mut Random) -> Job {
 }
 
 /// A place in cell units as a point, held within the bounds.
-fn place(grid: &Grid, at: [f64; 3]) -> [f32; 3] {
+pub fn place(grid: &Grid, at: [f64; 3]) -> [f32; 3] {
     [0, 1, 2].map(|axis| {
         let x = f64::from(grid.first[axis]) + at[axis] * f64::from(grid.size[axis]);
         (x as f32).clamp(-BOUND, BOUND)
     })
 }
 
-fn shuffle<T>(list: &mut [T], r: &mut Random) {
+pub fn shuffle<T>(list: &mut [T], r: &mut Random) {
     for i in (1..list.len()).rev() {
         list.swap(i, r.below(i as u64 + 1) as usize);
     }
@@ -257,14 +269,14 @@ fn two_boxes(r: &mut Random) -> Job {
     job(grid, &mesh, r)
 }
 
-fn join(mesh: &mut Mesh, other: Mesh) {
+pub fn join(mesh: &mut Mesh, other: Mesh) {
     let base = mesh.vertices.len() as u32;
     mesh.vertices.extend(other.vertices);
     mesh.triangles.extend(other.triangles.iter().map(|t| t.map(|v| v + base)));
 }
 
 /// Middle and half widths of a body that fills a good part of the grid.
-fn body(grid: &Grid, r: &mut Random) -> ([f64; 3], [f64; 3]) {
+pub fn body(grid: &Grid, r: &mut Random) -> ([f64; 3], [f64; 3]) {
     let middle = grid.count.map(|n| (f64::from(n) - 1.0) / 2.0 + f64::from(r.unit()) * 0.3);
     let half = grid.count.map(|n| f64::from(n) * (0.3 + 0.25 * f64::from(r.unit().abs())));
     (middle, half)

@@ -1,8 +1,10 @@
-//! jobs N SEED [KIND]: prints N jobs, each as a line `job=INDEX KIND BYTES` and then exactly that many bytes of the
-//! job's text. The same seed gives the same jobs; job INDEX does not depend on N. Without a KIND the kinds take turns.
+//! jobs N SEED [KIND | SET]: prints N jobs, each as a line `job=INDEX KIND BYTES` and then exactly that many bytes of
+//! the job's text. The same seed gives the same jobs; job INDEX does not depend on N. Without a KIND the kinds take turns:
+//! those of the set `base`, of the set `inside` (all triangles within the grid's box), or of both.
 //! jobs --kinds: prints the names of the kinds.
 
 mod damage;
+mod inside;
 mod kinds;
 mod random;
 mod shapes;
@@ -13,20 +15,27 @@ use std::io::Write;
 fn main() {
     let args: Vec<String> = std::env::args().skip(1).collect();
     if args == ["--kinds"] {
-        kinds::KINDS.iter().for_each(|(name, _)| println!("{name}"));
+        kinds::BASE.iter().for_each(|(name, _)| println!("{name} (base)"));
+        inside::KINDS.iter().for_each(|(name, _)| println!("{name} (inside)"));
         kinds::LARGE.iter().for_each(|(name, _)| println!("{name} (by name alone)"));
         return;
     }
     let number = |i: usize| args.get(i).and_then(|a| a.parse::<u64>().ok());
     let (Some(jobs), Some(seed)) = (number(0), number(1)) else {
-        eprintln!("usage: jobs N SEED [KIND] | jobs --kinds");
+        eprintln!("usage: jobs N SEED [KIND | base | inside] | jobs --kinds");
         std::process::exit(2);
     };
     let mut out = std::io::BufWriter::new(std::io::stdout().lock());
+    // One kind by name is a turn by itself.
+    let word = args.get(2).map(String::as_str);
+    let kinds = match word {
+        None | Some("base" | "inside") => kinds::of_set(word),
+        Some(kind) => vec![kind],
+    };
+    let turns = kinds.len() as u64;
     for index in 0..jobs {
-        let turns = kinds::KINDS.len() as u64;
-        let kind = args.get(2).map_or(kinds::KINDS[(index % turns) as usize].0, |kind| kind);
-        let round = if args.len() > 2 { index } else { index / turns };
+        let kind = kinds[(index % turns) as usize];
+        let round = index / turns;
         // Two numbers of one generator seed another: seeds and jobs do not run into each other.
         let start = Random::new(seed, 0).next().wrapping_add(index);
         let mut r = Random::new(Random::new(start, 0).next(), round);

@@ -12,6 +12,8 @@
 
 #[path = "../generator/damage.rs"]
 mod damage;
+#[path = "../generator/inside.rs"]
+mod inside;
 #[path = "../generator/kinds.rs"]
 mod kinds;
 mod meshes;
@@ -130,16 +132,17 @@ fn main() {
 /// One job over buffers that hold noise, some of them of a wrong length: answer and buffers are the model's. Then the
 /// same with room and pops lifted, against the Rust.
 fn small(index: u64, r: &mut Random, seen: &mut Seen) -> (String, Result<(), String>) {
-    let turns = kinds::KINDS.len() as u64;
+    let all = kinds::of_set(None);
+    let turns = all.len() as u64;
     let kind = match index % 100 {
         // Beyond the program's limits, for the two bounds that they keep out of sight.
         98 => "large-too-many-triangles",
         99 => "large-too-many-vertices",
-        _ => kinds::KINDS[(index % turns) as usize].0,
+        _ => all[(index % turns) as usize],
     };
     let mut of_kind = Random::new(r.next(), index / turns);
     let made = kinds::make(kind, &mut of_kind).expect("a kind of the table");
-    let Some(job) = text::read(&made).filter(|job| text::within_limits(job) || bounds::check(job).is_err()) else {
+    let Some(job) = text::read(&made).filter(|job| text::within_limits(job) || bounds::check(job, model::LANDED).is_err()) else {
         return ("unreadable, or beyond the program's limits".to_string(), Ok(()));
     };
     let verdict = hold_to_model(&job, r, seen).and_then(|number| {
@@ -184,7 +187,7 @@ fn hold_to_model(job: &Job, r: &mut Random, seen: &mut Seen) -> Result<u32, Stri
 
 /// Document 01's answer. A job's text lends no buffers and has whole vertices: those two are added here.
 fn owed(job: &Job, uneven: bool, wrong: bool) -> Result<Done, u32> {
-    let checked = bounds::check(job);
+    let checked = bounds::check(job, model::LANDED);
     if uneven && checked != Err(1) {
         return Err(2);
     }
@@ -192,7 +195,7 @@ fn owed(job: &Job, uneven: bool, wrong: bool) -> Result<Done, u32> {
     if wrong {
         return Err(5);
     }
-    model::run::run(job)
+    model::run::run(job, model::LANDED)
 }
 
 struct Noise {

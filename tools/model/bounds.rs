@@ -1,6 +1,8 @@
 //! "Bounds on a job" and, in the order of "Reply numbers", what is checked before the run.
 
-use crate::{topology, Job, Refusal};
+use crate::grid::AXES;
+use crate::topology::Topology;
+use crate::{topology, Job, Refusal, Requests};
 
 const MOST_OF_ONE_COUNT: u32 = 1_024;
 const MOST_CELLS: u128 = 1_048_576;
@@ -10,12 +12,16 @@ const LARGEST_SIZE: f32 = 1_024.0;
 const MOST_VERTICES: usize = 393_216;
 const MOST_TRIANGLES: usize = 131_072;
 
-pub fn check(job: &Job) -> Result<(), Refusal> {
+pub fn check(job: &Job, requests: Requests) -> Result<(), Refusal> {
     if !grid_in_bounds(job) {
         return Err(1);
     }
     if job.vertices.len() > MOST_VERTICES || !job.vertices.iter().flatten().all(|&x| coordinate_in_bounds(x)) {
         return Err(2);
+    }
+    // §7: strips are withdrawn.
+    if requests.has(7) && job.topology == Topology::Strip {
+        return Err(13);
     }
     let triangles = topology::triangles(job);
     if triangles.len() > MOST_TRIANGLES {
@@ -24,7 +30,18 @@ pub fn check(job: &Job) -> Result<(), Refusal> {
     if !triangles.iter().flatten().all(|&index| (index as usize) < job.vertices.len()) {
         return Err(4);
     }
+    // §6: no triangles off the grid.
+    if requests.has(6) && triangles.iter().any(|t| off_grid(job, *t)) {
+        return Err(10);
+    }
     Ok(())
+}
+
+/// On some axis all three corners lie below the grid box's minimum, or all three above its maximum.
+fn off_grid(job: &Job, triangle: [u32; 3]) -> bool {
+    let (low, high) = (job.grid.box_minimum(), job.grid.box_maximum());
+    let all = |test: &dyn Fn(f32) -> bool, axis: usize| triangle.iter().all(|&v| test(job.vertices[v as usize][axis]));
+    AXES.iter().any(|&axis| all(&|x| x < low[axis], axis) || all(&|x| x > high[axis], axis))
 }
 
 fn grid_in_bounds(job: &Job) -> bool {

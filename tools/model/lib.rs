@@ -8,6 +8,9 @@
 //!   topology.rs   Topology
 //!   run.rs        The run; Reply numbers 6 to 8
 //!
+//! The requests of document 02 come in one by one. Each is an option that is off until it lands (`LANDED`), so that what a
+//! landing changes in the answers can be told before, and is the request's alone.
+//!
 //! Nothing here is meant to be fast. Every f32 operation below is one of IEEE 754 binary32, rounded once: that is
 //! what Rust gives. Reply number 5 speaks of lent buffers; a job's text lends none, so it cannot occur.
 
@@ -36,7 +39,25 @@ pub struct Job {
     pub pops: u32,
 }
 
-/// The number of a refusal, 1 to 9.
+/// Which requests of document 02 are in force, by their numbers.
+#[derive(Clone, Copy)]
+pub struct Requests(u32);
+
+/// Those that have landed.
+pub const LANDED: Requests = Requests(0);
+/// Those that the model knows.
+pub const KNOWN: [u32; 3] = [2, 6, 7];
+
+impl Requests {
+    pub fn with(self, number: u32) -> Requests {
+        Requests(self.0 | 1 << number)
+    }
+    pub fn has(self, number: u32) -> bool {
+        self.0 >> number & 1 == 1
+    }
+}
+
+/// The number of a refusal, 1 to 9, and those of document 02.
 pub type Refusal = u32;
 
 /// The name of a cell that took no triangle.
@@ -51,12 +72,17 @@ pub struct Done {
     pub names: Vec<u32>,
     /// Crossing counts along x, y, z of each cell.
     pub crossings: Vec<[u32; 3]>,
-    /// Cells with a distance less than zero, for each layer z.
+    /// Cells with a distance less than zero, for each layer z; from §2 on cells with a sign bit.
     pub rows: Vec<u32>,
 }
 
 /// The answer to a job: the first number that applies, or Done.
 pub fn answer(job: &Job) -> Result<Done, Refusal> {
-    bounds::check(job)?;
-    run::run(job)
+    answer_with(job, LANDED)
+}
+
+/// The same with other requests in force.
+pub fn answer_with(job: &Job, requests: Requests) -> Result<Done, Refusal> {
+    bounds::check(job, requests)?;
+    run::run(job, requests)
 }

@@ -4,16 +4,16 @@
 use crate::geometry::Point;
 use crate::grid::Grid;
 use crate::topology::Topology;
-use crate::{answer, bounds, Job};
+use crate::{answer_with, bounds, Job, Requests};
 use std::fmt::Write;
 
 /// The job program: the listing for a text. `large` lifts its own limits.
-pub fn listing(text: &[u8], large: bool, crossings: bool) -> String {
+pub fn listing(text: &[u8], large: bool, crossings: bool, requests: Requests) -> String {
     let job = match read(text) {
         Some(job) if large || within_limits(&job) => job,
         _ => return "answer=9\n".to_string(),
     };
-    let done = match answer(&job) {
+    let done = match answer_with(&job, requests) {
         Ok(done) => done,
         Err(number) => return format!("answer={number}\n"),
     };
