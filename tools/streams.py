@@ -1,7 +1,8 @@
 """Streams of jobs: for each a line `job=INDEX KIND BYTES`, then exactly that many bytes. tools/jobs prints one, and
 the model and the oracle read one with --batch and print one of answers."""
 import subprocess
-import sys
+
+from begin import build
 
 
 def parts(stream):
@@ -46,8 +47,8 @@ def values(listing):
 def owed(jobs):
     """The listings that document 01 owes the jobs: the unmodified Rust's field and pops, the model's number, peak, names
     and rows. Where both speak they must agree. Builds the oracle and the model."""
-    subprocess.run(["tools/oracle/build"], check=True, stdout=sys.stderr)
-    subprocess.run(["tools/model/build"], check=True, stdout=sys.stderr)
+    build("tools/oracle/build")
+    build("tools/model/build")
     model = batch(["build/model/model", "--batch"], jobs)
     rust = batch(["build/oracle/oracle", "--batch"], jobs)
     return [joined(ours, theirs) for ours, theirs in zip(model, rust)]

@@ -1,31 +1,34 @@
-/* The signed distance field of a triangle mesh on a grid, for C: the whole job, and the questions of it asked by
- * themselves. What they owe is document 01, the specification; every function is proved to meet it.
+/* SPDX-License-Identifier: MIT OR Apache-2.0 (NOTICE, LICENSE-MIT, LICENSE-APACHE)
  *
- * Build: `rt staticlib sdf_c` leaves target/staticlib/libsdf_c.a, for x86-64 Linux. It needs no other library.
- * No function keeps anything between calls, allocates, prints, or needs another call before it. Two calls may run
- * at the same time on two threads if no buffer that one of them writes is lent to the other.
+ * The signed distance field of a triangle mesh on a grid, for C and C++: the whole job, and the questions of it asked by
+ * themselves. What they owe is docs/SPECIFICATION.md, whose sections stand here as [4.1]; every function is proved to
+ * meet it.
  *
- * The questions take everything by value, and any values: NaNs too. The whole job borrows arrays; what C owes it
- * stands with it below. Each answer begins with document 01's number: 0, and the value follows; or a refusal, and
- * all that follows is zero. Floats are IEEE 754 binary32.
+ * In six lines, with buffers of n floats, n, 3 n and 64 numbers and n entries:
  *
- * Numbers of the whole job, in the order in which they are checked; the first that applies is given:
+ *   sdf_grid grid = {{0.05f, 0.05f, 0.05f}, {0.1f, 0.1f, 0.1f}, {64, 64, 64}};
+ *   size_t n = sdf_grid_total(grid).value;
+ *   sdf_job_answer a = sdf_generate_grid_sdf_records(grid, vertices, 3 * vertex_count, SDF_LIST, SDF_INDICES, indices,
+ *       index_count, field, n, names, n, crossings, 3 * n, rows, 64, queue, n, UINT32_MAX);
+ *   if (a.number == SDF_QUEUE_FULL) lend twice the queue and call again;
+ *   if (a.number == SDF_DONE) field[i] < 0 is inside, and rows[z] counts the inside cells of layer z;
  *
- *   1  the grid is out of bounds: a count outside 1 .. 1,024, more than 1,048,576 cells, a first coordinate
- *      not finite or above 1,048,576 in magnitude, a size outside 1/1,024 .. 1,024
- *   2  the coordinates are not a multiple of three, more than 393,216 vertices, or a coordinate (of an unused
- *      vertex too) not finite or above 1,048,576 in magnitude
- *   3  more than 131,072 triangles
- *   4  an index that a triangle uses is not below the count of vertices
- *   5  a buffer's length is not the one that the grid asks for, or the queue's three lengths differ (a queue that
- *      is a row of records has one length)
- *   6  a distance met in seeding or spreading is a NaN
- *   7  an entry had to be queued and the queue was full
- *   8  entries waited and the pops taken were the limit
- *   0  done
+ * examples/c/tank.c is a whole program.
  *
- * Numbers of a question asked by itself: 1 for the grid, as above; 2 for a coordinate not finite or above
- * 2,097,152 in magnitude; 4 for a cell or an index outside the counts; 6 for a NaN compared or in the result. */
+ * Build: `rt staticlib sdf_c` leaves target/staticlib/libsdf_c.a, for x86-64 Linux. Of the C library it needs memcpy and
+ * memset alone. No function keeps anything between calls, allocates, prints, calls back, or needs another call before it.
+ * Two calls may run at the same time on two threads if no buffer that one of them writes is lent to the other. Stack: the
+ * whole job takes about 16 KB (15,544 bytes were measured; 13 KB are four local arrays), a question less than 1 KB. No
+ * function calls itself, so no input takes more.
+ *
+ * What C owes to every function is the floating-point environment in which IEEE 754 holds: rounding to nearest, no
+ * flush-to-zero and no denormals-are-zero, which is how a program starts. A program that gcc links with -ffast-math or
+ * -Ofast starts otherwise: its start-up code sets both, however the files were compiled. Then answers are wrong: the root
+ * of 00000001 came out as 00000001, where 1a3504f3 is owed. The same holds where fesetround was called, or MXCSR set,
+ * before. What more the whole job is owed stands with it below.
+ *
+ * The questions take everything by value, and any values: NaNs too. Each answer begins with a number: SDF_DONE, and the
+ * value follows; or a refusal, and all that follows is zero. Floats are IEEE 754 binary32. */
 #ifndef SDF_H
 #define SDF_H
 
@@ -35,6 +38,33 @@
 #ifdef __cplusplus
 extern "C" {
 #endif
+
+/* Raised whenever a function, a record or a number below is no longer what it was. */
+#define SDF_VERSION 1
+
+/* The numbers of the whole job [4.1], in the order in which they are checked; the first that applies is given. A
+ * question asked by itself [4.4] gives 1 for the grid, 2 for a coordinate that is not finite or above 2,097,152 in
+ * magnitude, 4 for a cell or an index outside the counts, and 6 for a NaN compared or in its result. */
+enum {
+    SDF_DONE = 0,         /* not refused */
+    SDF_GRID = 1,         /* the grid is out of bounds: a count outside 1 .. 1,024, more than 1,048,576 cells, a first
+                             coordinate not finite or above 1,048,576 in magnitude, a size outside 1/1,024 .. 1,024 */
+    SDF_COORDINATES = 2,  /* the coordinates are not a multiple of three, more than 393,216 vertices, or a coordinate (of
+                             an unused vertex too) not finite or above 1,048,576 in magnitude */
+    SDF_TRIANGLES = 3,    /* more than 131,072 triangles */
+    SDF_INDEX = 4,        /* an index that a triangle uses is not below the count of vertices */
+    SDF_LENGTHS = 5,      /* a buffer's length is not the one that the grid asks for, or the queue's three lengths differ
+                             (a queue that is a row of records has one length) */
+    SDF_NOT_A_NUMBER = 6, /* a distance met in seeding or spreading is a NaN: two corners a hair apart */
+    SDF_QUEUE_FULL = 7,   /* an entry had to be queued and the queue was full */
+    SDF_LIMIT_MET = 8     /* entries waited and the pops taken were the limit */
+};
+
+/* The axes. For C an axis is a plain number: 0 is x, 1 is y, and any other number z. */
+enum { SDF_X = 0, SDF_Y = 1, SDF_Z = 2 };
+
+/* What a comparison finds. */
+enum { SDF_LESS = -1, SDF_EQUAL = 0, SDF_GREATER = 1 };
 
 typedef struct {
     float x, y, z;
@@ -92,7 +122,7 @@ typedef struct {
     float t;
 } sdf_ray_answer;
 
-/* order: -1 less, 0 equal, 1 greater. */
+/* order: SDF_LESS, SDF_EQUAL or SDF_GREATER. */
 typedef struct {
     uint32_t number;
     int32_t order;
@@ -117,32 +147,40 @@ enum { SDF_NO_INDICES = 0, SDF_INDICES = 1 };
 /* The name of a cell that took no triangle. */
 #define SDF_NONE UINT32_C(4294967295)
 
-/* The whole job: field, names, crossings and rows of a mesh on a grid, signs by rays.
+/* The whole job [9]: field, names, crossings and rows of a mesh on a grid, signs by rays.
  *
  * Lent to be read, for the call alone:
  *   vertices     coordinate_count floats, x, y, z of each vertex in turn
- *   indices      index_count vertex numbers; looked at only if `given` is not 0. Without them the vertices are
- *                taken in their order
- * topology       SDF_LIST: consecutive threes, one or two left over are ignored. SDF_STRIP: every window of three
+ *   indices      index_count vertex numbers; looked at only if `given` is not 0, and never null. Without them the
+ *                vertices are taken in their order
+ * topology       SDF_LIST: consecutive threes, one or two left over are ignored. SDF_STRIP: every window of three [8]
  * Lent to be written, with n cells in the grid (sdf_grid_total, the product of the counts):
- *   field        n floats: the signed distance of each cell, by the cell's index, z fastest (sdf_grid_index)
+ *   field        n floats: the signed distance of each cell's centre, by the cell's index, z fastest (sdf_grid_index).
+ *                Negative is inside: where at least two of the cell's three counts of crossings are odd. A centre on
+ *                the surface has 0 or, where two are odd, -0
  *   names        n numbers: the triangle, counted from 0, that the distance is to; SDF_NONE with none
  *   crossings    3 n numbers: the rays' hits along x, y, z of each cell in turn
- *   rows         as many as the z count: how many cells of each layer have a distance less than zero
+ *   rows         as many as the z count: how many cells of each layer have a distance less than zero. -0 is not less than
+ *                zero, so a cell whose centre lies on the surface is not counted
  *   distances, cells, triangles
  *                the queue: three arrays of one length, its room. Any length, 0 too
  * limit          how many entries may be taken
  *
- * What is left in the buffers that are written, whatever they held before:
+ * How much to lend: room for n entries was enough in every job of docs/SPEED.md (a tank took 0.1 to 0.8 n, triangles
+ * everywhere n); on SDF_QUEUE_FULL call again with twice the room. All of the room is cleared before and after the run, so
+ * much more than is needed costs time. For the limit UINT32_MAX will do; those jobs took 1.0 to 2.1 n pops.
+ *
+ * What is left in the buffers that are written, whatever they held before [4.3]:
  *   0            field, names, crossings and rows as above; the queue all zero
  *   1 to 5       nothing was changed
- *   6 to 8       the field all FLT_MAX, the names all SDF_NONE, crossings, rows and queue all zero
- * With no triangle the answer is 0, the field all FLT_MAX and the names all SDF_NONE.
+ *   6 to 8       the field all FLT_MAX (of <float.h>), the names all SDF_NONE, crossings, rows and queue all zero
+ * With no triangle the answer is 0, the field all FLT_MAX and the names all SDF_NONE. A cell is left so too, though there
+ * are triangles, if every distance offered to it was infinite; inside it holds -FLT_MAX, and its row counts it.
  *
- * What C owes, and no function can check: a pointer is not null, not even with a length of 0; it is aligned for
- * its type and points to at least as many elements as the length beside it; no byte of a buffer that is written
- * is in another of the nine; and no other thread writes any of the nine during the call. Every value in them is
- * allowed. */
+ * What C owes, and no function can check, besides the floating-point environment above: a pointer is not null, not even
+ * with a length of 0, nor `indices` where none are given; it is aligned for its type and points to at least as many
+ * elements as the length beside it; no byte of a buffer that is written is in another of the nine; and no other thread
+ * writes any of the nine during the call. Every value in them is allowed. */
 sdf_job_answer sdf_generate_grid_sdf(sdf_grid grid, const float *vertices, size_t coordinate_count, uint32_t topology,
                                      uint32_t given, const uint32_t *indices, size_t index_count, float *field,
                                      size_t field_length, uint32_t *names, size_t names_length, uint32_t *crossings,
@@ -160,18 +198,20 @@ sdf_job_answer sdf_generate_grid_sdf_records(sdf_grid grid, const float *vertice
                                              uint32_t *rows, size_t rows_length, sdf_entry *queue,
                                              size_t queue_length, uint32_t limit);
 
-/* The square root, rounded to nearest. No refusal: what is below zero, and a NaN, gives a NaN. */
+/* The square root, rounded to nearest [6.5]. No refusal: what is below zero, and a NaN, gives a NaN. */
 float sdf_sqrt(float x);
 /* The same on bit patterns; a NaN comes out as 7fc00000. */
 uint32_t sdf_sqrt_bits(uint32_t bits);
 
-/* The order of two distances. Refuses by 6. */
+/* The order of two distances [7]: by magnitude, but for two of opposite sign bits whose magnitudes are alike, of which the
+ * positive one is less. Alike: equal, or with a difference, rounded, of at most 1e-6, or with bit patterns at most 2
+ * apart. Refuses by 6. */
 sdf_order_answer sdf_compare_distances(float a, float b);
 
-/* Geometry, by value. All refuse by 2 a coordinate out of bounds, and those with a point or a distance for an answer
+/* Geometry, by value [6]. All refuse by 2 a coordinate out of bounds, and those with a point or a distance for an answer
  * then by 6 a NaN in it. */
 
-/* The least and the greatest corner of a triangle's box. Refuses by 2. */
+/* The least and the greatest corner of a triangle's box, which is 0.0001 larger on every side [6.1]. Refuses by 2. */
 sdf_box_answer sdf_triangle_bounding_box(sdf_point a, sdf_point b, sdf_point c);
 /* The point of the segment from a to b that is closest to p. Refuses by 2, then 6. */
 sdf_point_answer sdf_closest_point_segment(sdf_point p, sdf_point a, sdf_point b);
@@ -179,12 +219,12 @@ sdf_point_answer sdf_closest_point_segment(sdf_point p, sdf_point a, sdf_point b
 sdf_point_answer sdf_closest_point_triangle(sdf_point p, sdf_point a, sdf_point b, sdf_point c);
 /* The distance of p from the triangle: what the field's magnitudes are made of. Refuses by 2, then 6. */
 sdf_distance_answer sdf_point_triangle_distance(sdf_point p, sdf_point a, sdf_point b, sdf_point c);
-/* Whether a ray from o along an axis, 0 is x, 1 is y, any other number z, meets the triangle, and how far away: what the
- * crossings count. Refuses by 2. */
+/* Whether a ray from o along +x, +y or +z meets the triangle, and how far away: what the crossings count [6.6]. It is a hit
+ * only with t > 0, and only through the triangle's inside: a ray through an edge or a corner misses. Refuses by 2. */
 sdf_ray_answer sdf_ray_triangle_intersection_aligned(sdf_point o, sdf_point v0, sdf_point v1, sdf_point v2,
                                                      uint32_t axis);
 
-/* The grid's questions, by value. All refuse by 1 a grid out of bounds. */
+/* The grid's questions, by value [5]. All refuse by 1 a grid out of bounds. */
 
 /* The centre of the first cell. */
 sdf_point_answer sdf_grid_first(sdf_grid grid);

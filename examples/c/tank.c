@@ -16,8 +16,8 @@ enum {
     ROOM = 2 * CELLS            /* entries; docs/SPEED.md has what such jobs need */
 };
 
-/* A ray that meets an edge counts no hit there (document 01), so a mesh whose edges run through cell centres loses
- * cells. In metres: 6.4 on each axis, cells of 0.1. The tank stands between layers 2 and 3. */
+/* A ray that meets an edge counts no hit there (docs/SPECIFICATION.md, 6.6), so a mesh whose edges run through cell
+ * centres loses cells. In metres: 6.4 on each axis, cells of 0.1. The tank stands between layers 2 and 3. */
 static const float cell = 0.1f;
 static const double pi = 3.14159265358979323846;
 static const double radius = 2.75, bottom = 0.3, height = 5.5, middle = 3.2;
@@ -72,7 +72,7 @@ int main(void) {
         grid, vertices, 3 * VERTICES, SDF_LIST, SDF_INDICES, indices, 3 * TRIANGLES, field, CELLS, names, CELLS,
         crossings, 3 * CELLS, rows, EDGE, distances, ROOM, cells, ROOM, triangles, ROOM, UINT32_MAX);
     printf("answer=%u\n", (unsigned)answer.number);
-    if (answer.number != 0)
+    if (answer.number != SDF_DONE)
         return EXIT_FAILURE;
     printf("pops=%u\npeak=%zu\n", (unsigned)answer.pops, answer.peak);
     double inside = 0;

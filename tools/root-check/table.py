@@ -1,8 +1,9 @@
 #!/usr/bin/env python3
-"""Prints the rows of crates/root_table/src/lib.rt. Row i is for the roots, from 2^23 to 2^24, of the digits in part i:
+"""tools/root-check/table.py: prints the rows of crates/root_table/src/lib.rt. Row i is for the roots, from 2^23 to 2^24, of the digits in part i:
 64 parts for an even exponent, then 64 for an odd one, of which the digits count twice. On a part the root is nearly
 c0 + c1 * u + c2 * u * (1 - u) for u from 0 to 1; c2 is rounded first, then the others are fitted to what is left."""
 import math
+import sys
 
 PARTS = 64
 
@@ -36,6 +37,8 @@ def row(odd, part):
     return k0 << 35 | k1 << 13 | k2
 
 
+if sys.argv[1:]:
+    sys.exit(print(__doc__) if sys.argv[1:] == ["-h"] else 2)
 for i in range(2 * PARTS):
     digits = "%016x" % row(*divmod(i, PARTS))
     print("        %d => 0x%s," % (i, "_".join(digits[k : k + 4] for k in range(0, 16, 4))))
