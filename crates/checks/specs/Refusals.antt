@@ -2,7 +2,7 @@
 -- that are checked before the run. Definitions only.
 use Prim.Native.Nat.{ℕ, _*_, _%_}
 use mathlib.Core.Bool.{Bool, not, _||_}
-use mathlib.Core.List.{List, [], _∷_}
+use mathlib.Core.List.{List, [], _∷_, map}
 use lib.Dec.{ltb, eqb}
 use lib.ListN.{length}
 use lib.Ieee.{Float}
@@ -76,6 +76,9 @@ checks g m l =
     record { applies = wrongIndices m; number = 4 } ∷
     record { applies = wrongLengths g l; number = 5 } ∷
     []
+
+abbrev pub numbersOf : List Check → List ℕ
+numbersOf cs = map (λ c. c .number) cs
 
 -- the first that applies, and 0 where none does
 abbrev pub firstOf : List Check → ℕ

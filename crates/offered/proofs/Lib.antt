@@ -4,3 +4,4 @@ pub mod Values
 pub mod Exact
 pub mod Cells
 pub mod Theorem
+pub mod Smallest

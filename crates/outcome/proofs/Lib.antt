@@ -1,2 +1,3 @@
 -- Laws of the proofs, and of the crates above.
 pub mod Outcomes
+pub mod Numbers

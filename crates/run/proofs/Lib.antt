@@ -9,3 +9,4 @@ pub mod Done
 pub mod Steps
 pub mod Ways
 pub mod Grounds
+pub mod Numbers
