@@ -22,6 +22,7 @@ pub use types.Kit.{Given, Item, Sq, prop, runs, atRet, _$_, !, by, move}
 pub use types.Run.{bin, first, blocks, exec}
 pub use types.Part.{agg, rep}
 pub use sound.WpLaws.{WpFn-mono}
+pub use denote.Laws.{Is}
 pub use denote.Builtin.{u32, f32}
 pub use denote.Triple.Spec.{Meets, tripleOf}
 pub use denote.Triple.Statement.{Triple}
