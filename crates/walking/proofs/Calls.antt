@@ -96,3 +96,12 @@ module _ {M : Type 1} {𝓤 : URA M} {H : Heap 𝓤} {A : Atoms 𝓤} {K : Type 
     where
       is : (r : k .row .Denot) (w : Val) → Is (k .row) r (w ∷ []) → Is (k .row) r (k .val r ∷ [])
       is r w e = subst (Is (k .row) r) (k .tells r (w ∷ []) e) e
+
+module _ {M : Type 1} {𝓤 : URA M} {H : Heap 𝓤} {A : Atoms 𝓤} {K : Type 0} {W : Given 𝓤 H A} {Γ : List (Item 𝓤)} {E : Env 𝓤 H} {σ : List Cell} {q : Post 𝓤 H} where
+  -- a call of which it is said what it returns
+  pub calls-is : {f : Name} {xs : List Operand} {i : ℕ} {rest : Body} → K → (𝓣 : Tables 𝓤 H) (ps : List (Arg 𝓤 H A)) (k : Kind 𝓤 H A) (x : k .row .Denot) → Does (𝓣 .C) f ps k (λ r zs. r ≡ x)
+      → slices ps (behind ps Γ) ≡ Γ → map (opdCell 𝓤 H E σ) xs ≡ map holds (words ps) → Takes 𝓤 H E σ i (k .mir)
+      → (Is (k .row) x (k .val x ∷ []) → (zs : Changes ps) (l : Long ps zs) → Seq K W (Locals 𝓤 H E (set σ i (holds (k .val x))) ∷ slices (after ps zs l) (behind ps Γ)) (runs (𝓣 .C) (𝓣 .Λ) E rest q))
+      → Seq K W (Locals 𝓤 H E σ ∷ Γ) (runs (𝓣 .C) (𝓣 .Λ) E (seq (call f xs (place i [])) rest) q)
+  calls-is {f} {xs} {i} {rest} t 𝓣 ps k x does these os to on = calls t 𝓣 ps k (λ r zs. r ≡ x) does these os to (λ r zs l told.
+      subst (λ (y : k .row .Denot). Is (k .row) y (k .val y ∷ []) → Seq K W (Locals 𝓤 H E (set σ i (holds (k .val y))) ∷ slices (after ps zs l) (behind ps Γ)) (runs (𝓣 .C) (𝓣 .Λ) E rest q)) (sym told) (λ is. on is zs l) (r .is))

@@ -1,6 +1,6 @@
 -- `entries::clear` meets its contract: a walk of its MIR, by hand. A turn writes one entry, and all before it are blank. Assumes nothing.
-use Rattle.walking.proofs.Prelude.{_≡_, refl, sym, _∙_, subst, ℕ, _+_, _-_, _^_, _<_, arith, List, [], _∷_, _++_, map, length, getD, put, length-set, ltb, T, ltb→lt, nltb→le, URA, Val, SProp, ent, emp, via, fst∗, Memory, Routine, Heap, Env, WpFn, Tables, afterTurn, Atoms, Fun, givenOf, tables, tablesOf, Given, Item, Sq, prop, runs, atRet, _$_, !, by, bin, first, blocks, exec, WpFn-mono, Meets, tripleOf, Triple, entered, cited, walkOf, Walks, ends-at, walked, walk-meets, onEntry}
-use Rattle.walking.proofs.Prelude.{empty, holds, Blocks, envOf, Locals, opd, copies, puts, puts-last, returns-at, keeps-first, enters, whiles, Slice, taken, holding, Valued, Arg, lent, slices, lefts, fitting, after, bound-to, words, asking-nothing, calls, own-bound, typed, from-entry, to-exit, in-turn, again-at, loops-at, points, writes-at, a-usize, a-unit, Sort, to-write, stays, spells, tells, all-go}
+use Rattle.walking.proofs.Prelude.{_≡_, refl, _∙_, ℕ, _+_, _-_, _^_, _<_, arith, List, [], _∷_, _++_, map, length, getD, put, length-set, ltb, T, ltb→lt, nltb→le, Is, URA, Val, SProp, ent, emp, via, fst∗, Memory, Routine, Heap, Env, WpFn, Tables, afterTurn, Atoms, Fun, givenOf, tables, tablesOf, Given, Item, Sq, prop, runs, atRet, _$_, !, by, bin, first, blocks, exec, WpFn-mono, Meets, tripleOf, Triple, entered, cited, walkOf, Walks, ends-at, walked, walk-meets, onEntry}
+use Rattle.walking.proofs.Prelude.{empty, holds, Blocks, envOf, Locals, opd, copies, puts, puts-last, returns-at, keeps-first, enters, whiles, Slice, taken, holding, Valued, Arg, lent, slices, lefts, fitting, after, bound-to, words, asking-nothing, calls-is, own-bound, typed, from-entry, to-exit, in-turn, again-at, loops-at, points, writes-at, a-usize, a-unit, Sort, to-write, stays, spells, tells, all-go}
 use Rattle.queue.specs.declared.Entry.{Entry}
 use Rattle.queue.specs.Queue.{blank}
 use Rattle.queue.proofs.Entry as E
@@ -38,9 +38,9 @@ module _ {M : Type 1} (𝓤 : URA M) (H : Heap 𝓤) (A : Atoms 𝓤) (W : Given
       abbrev En : Env 𝓤 H
       En = envOf 𝓤 H (f.Code.function .locals) bs
 
-      module _ (unused : Valued (an-entry W)) (is : unused .it ≡ blank) where
+      module _ (is : Is E.the-row blank (an-entry W .val blank ∷ [])) where
         abbrev At : State → List (Item 𝓤)
-        At w = Locals 𝓤 H En ((empty ∷ map holds (words ps)) ++ (holds (an-entry W .val (unused .it)) ∷ holds (a-usize W .val (w .2 .it)) ∷ [])) ∷ slices (after ps (w .0, tt) (w .1, tt)) []
+        At w = Locals 𝓤 H En ((empty ∷ map holds (words ps)) ++ (holds (an-entry W .val blank) ∷ holds (a-usize W .val (w .2 .it)) ∷ [])) ∷ slices (after ps (w .0, tt) (w .1, tt)) []
 
         abbrev Facts : ℕ → State → Type 0
         Facts t w = (w .2 .it + t ≡ length (row .ref .now)) × ((k : ℕ) → k < w .2 .it → getD (w .0) k blank ≡ blank)
@@ -54,10 +54,10 @@ module _ {M : Type 1} (𝓤 : URA M) (H : Heap 𝓤) (A : Atoms 𝓤) (W : Given
         unfolding afterTurn
         turn t w facts =
             copies ! refl (tt, refl) $ puts ! (bin ! (opd ! refl) (opd ! refl) tt) tt (tt, tt) $
-            whiles ! (opd ! refl) (λ h. points ! (an-entry W) now i (below h) refl tt refl refl (tt, refl) (tt, refl) $ writes-at ! (an-entry W) now i unused (below h) refl refl (λ Δ. opd ! refl) $
+            whiles ! (opd ! refl) (λ h. points ! (an-entry W) now i (below h) refl tt refl refl (tt, refl) (tt, refl) $ writes-at ! (an-entry W) now i (record { it = blank; is = is }) (below h) refl refl (λ Δ. opd ! refl) $
             puts-last ! (bin ! (opd ! refl) (opd ! refl) (record { fits = next h })) tt (tt, record { fits = next h }) $ keeps-first ! 4 tt $
-            again-at ! At Facts t (length (row .ref .now) - (i + 1)) (put (w .0) i (unused .it), length-set (w .0) i (unused .it) ∙ w .1, record { it = i + 1; is = (refl, next h) })
-            (omega (arith, below h, facts .0, w .1)) (omega (arith, below h, w .1), subst (λ (x : Entry). (k : ℕ) → k < i + 1 → getD (put (w .0) i x) k blank ≡ blank) (sym is) (one-more (w .0) i (below h) (facts .1)))) (λ h.
+            again-at ! At Facts t (length (row .ref .now) - (i + 1)) (put (w .0) i blank, length-set (w .0) i blank ∙ w .1, record { it = i + 1; is = (refl, next h) })
+            (omega (arith, below h, facts .0, w .1)) (omega (arith, below h, w .1), one-more (w .0) i (below h) (facts .1))) (λ h.
             exec ! (𝓣 .C) (𝓣 .Λ) En f.Code.Mir.t-4 (atRet En Post) $ keeps-first ! 4 tt $
             leaves w (blank-row (row .ref .now) (w .0) (blanks (w .0) (length (row .ref .now)) (w .1) (λ k l. facts .1 k (omega (arith, l, nltb→le i (row .count) h, row .long))))))
           where
@@ -75,8 +75,8 @@ module _ {M : Type 1} (𝓤 : URA M) (H : Heap 𝓤) (A : Atoms 𝓤) (W : Given
 
       goes : Sq W (Locals 𝓤 H En (empty ∷ map holds (words ps)) ∷ slices ps []) (runs (𝓣 .C) (𝓣 .Λ) En f.Code.Mir.t-1 (atRet En Post))
       goes =
-          calls ! 𝓣 to-none (an-entry W) (λ r zs. r ≡ blank) (asking-nothing to-none (λ n. met (bound-to to-none n))) refl refl (tt, refl) (λ r _ _ is. copies ! refl (tt, refl) $ first ! $ blocks ! $
-          loops-at ! 𝓣 (At r is) (Facts r is) (turn r is) (length (row .ref .now)) (row .ref .now, refl, record { it = 0; is = (refl, omega arith) }) (omega arith, λ k w. absurd (omega (arith, w))))
+          calls-is ! 𝓣 to-none (an-entry W) blank (asking-nothing to-none (λ n. met (bound-to to-none n))) refl refl (tt, refl) (λ is _ _. copies ! refl (tt, refl) $ first ! $ blocks ! $
+          loops-at ! 𝓣 (At is) (Facts is) (turn is) (length (row .ref .now)) (row .ref .now, refl, record { it = 0; is = (refl, omega arith) }) (omega arith, λ k w. absurd (omega (arith, w))))
 
     walk : ent 𝓤 (onEntry 𝓤 H A f.signature (own-bound ps .0 .0) (own-bound ps .0 .1) (own-bound ps .0 .3) (own-bound ps .0 .4)) (WpFn 𝓤 H (𝓣 .C) (𝓣 .Λ) f.Code.function (words ps) Post)
     walk = from-entry 𝓤 H A W ps (enters ! (𝓣 .C) (𝓣 .Λ) _ _ f.Code.function (words ps) Post refl (typed ps) goes)
