@@ -4,3 +4,4 @@ pub mod Projections
 pub mod Calls
 pub mod First
 pub mod Unused
+pub mod ByValue

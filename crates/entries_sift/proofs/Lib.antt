@@ -1,3 +1,2 @@
 pub mod Sinking
 pub mod Steps
-pub mod Children

@@ -1,0 +1,11 @@
+pub mod Element
+pub mod Again
+pub mod Frame
+pub mod Tests
+pub mod Lends
+pub mod Calls
+pub mod Own
+pub mod Access
+pub mod ByValue
+pub mod Sorts
+pub mod Prelude
