@@ -38,13 +38,15 @@ use denote.Triple.Spec.{Meets, tripleOf}
 use denote.Triple.Statement.{Triple}
 use denote.Triple.Table.{entered, cited}
 use denote.Triple.Walked.{says, Stays, stay-slice, walkOf, goes-slice, Walks, ends-at, walked, walk-meets}
+use Rattle.lists.specs.Table.{Filled}
+use Rattle.lists.proofs.Table.{filled-none, filled-more, filled-alike}
 use Rattle.queue.specs.declared.Entry.{Entry}
 use Rattle.queue.specs.Queue.{blank}
 use Rattle.queue.proofs.Entry as E
 use Rattle.queue.proofs.Entry.Laws as E′
 use Rattle.entries.specs.Row.{ClearedRow}
 use Rattle.entries.proofs.Element.{at, Spelt, spelt-as, opens-at, puts-at}
-use Rattle.entries.proofs.Projections.{blanks, blank-row, one-more}
+use Rattle.entries.proofs.Projections.{blank-row}
 use Rattle.entries.proofs.Calls.{val, here, whiles, releases, releases-room}
 use Rattle.entries.proofs.First.{entryVal}
 use Rattle.entries.proofs.Unused.{None, calls-none}
@@ -120,7 +122,7 @@ module _ {M : Type 1} (𝓤 : URA M) (H : Heap 𝓤) (A : Atoms 𝓤) (W : Given
     At w = Row (w .0) ∷ ‵ (flft κ q) ∷ Locals (‵ (fat fullShare E′.mir l₂ 0 (entryVal blank))) (‵ (fat fullShare word l₃ 0 (vint w64 (w .1)))) []
 
     abbrev Facts : ℕ → List Entry × ℕ → Type 0
-    Facts t w = (w .1 + t ≡ length ys) × (length (w .0) ≡ length ys) × ((k : ℕ) → k < w .1 → getD (w .0) k blank ≡ blank)
+    Facts t w = (w .1 + t ≡ length ys) × (length (w .0) ≡ length ys) × Filled blank (λ k. blank) ys (w .1) (w .0)
 
     abbrev Inv : ℕ → SProp 𝓤
     Inv t = ex 𝓤 (λ (w : List Entry × ℕ). guard 𝓤 (Facts t w) (⋆ 𝓤 H A (At w)))
@@ -152,10 +154,10 @@ module _ {M : Type 1} (𝓤 : URA M) (H : Heap 𝓤) (A : Atoms 𝓤) (W : Given
         puts-at ! tt R (LL.makes E.the-type E′.the-plain 𝓤 H A) b o zs s i blank (getD zs i blank) (vals blank) _ spelt (i-in h) b-is $
         assigns-last ! (bin ! (val ! 8 refl) (lit ! tt) (record { fits = next h })) (here !) (store ! 8 refl (tt, record { fits = next h })) $
         forget ! 6 refl $ forget ! 4 refl $ forget ! 2 refl $
-        by ! (again t (length ys - (i + 1)) (set zs i blank, i + 1) (omega (arith, i-in h, facts .0, facts .1)) (omega (arith, i-in h, facts .1), length-set zs i blank ∙ facts .1, one-more zs i (i-in h) (facts .2))))) (λ h.
+        by ! (again t (length ys - (i + 1)) (set zs i blank, i + 1) (omega (arith, i-in h, facts .0, facts .1)) (omega (arith, i-in h, facts .1), length-set zs i blank ∙ facts .1, filled-more blank (λ k. blank) ys i zs blank (omega (arith, i-in h, facts .1)) refl (facts .2))))) (λ h.
         exec ! C Λ En mir.t-4 (atRet En Post) $ assigns ! (of-opd ! (unit-lit !)) (here !) (init ! 14 refl (tt, tt)) $ returns ! (look ! 14 refl) $
         releases ! 14 refl refl $ releases ! 12 refl refl $ releases ! 10 refl refl $ releases ! 8 refl refl $ releases ! 6 refl refl $ releases ! 4 refl refl $ releases-room ! 2 refl refl $
-        free0 ! $ by ! (exits zs (facts .1) (blank-row ys zs (blanks zs (length ys) (facts .1) (λ k w. facts .2 k (omega (arith, w, nltb→le i (length ys) h)))))))
+        free0 ! $ by ! (exits zs (facts .1) (blank-row ys zs (filled-alike blank blank ys zs i (length ys) refl (nltb→le i (length ys) h) (facts .2)))))
       where
         zs : List Entry
         zs = w .0
@@ -180,7 +182,7 @@ module _ {M : Type 1} (𝓤 : URA M) (H : Heap 𝓤) (A : Atoms 𝓤) (W : Given
 
     loops : Is R blank (vals blank) → ent 𝓤 (⋆ 𝓤 H A (At (ys, 0))) (Wp 𝓤 H C Λ En (loop mir.turn-1) Left)
     loops b-is =
-        via 𝓤 (Inv (length ys)) (reaches (length ys) (ys, 0) (omega arith, refl, λ k w. absurd (omega (arith, w))))
+        via 𝓤 (Inv (length ys)) (reaches (length ys) (ys, 0) (omega arith, refl, filled-none blank (λ k. blank) ys))
         (loop-rule 𝓤 H (W .laws) 𝓣 _<_ (Nat·lt-wfRel .wf) En mir.turn-1 Left Inv (turns b-is) (length ys))
 
     -- unused room is made, and the loop begins
