@@ -13,7 +13,8 @@ use borrow.Author.Tests.{lt-ltb, le-ltb, lt-leb, le-leb, leb-true, leb-false, no
 use Rattle.float.specs.Arith.{if_then_else_}
 use Rattle.distances.specs.declared.Order.the-variants.{Less, Equal, Greater}
 use Rattle.distances.specs.Compare.{signBit, ofNumbers}
-use Rattle.distances.specs.Total.{Total, Value, notGreater, goesFirst}
+use Rattle.lists.specs.Total.{Total}
+use Rattle.distances.specs.Total.{Value, notGreater, goesFirst}
 use Rattle.distances.proofs.Values.{same-value}
 use Rattle.distances.proofs.Farther.{beyondAt, beyond-up, beyond-down}
 use Rattle.distances.proofs.Signs.{pattern, pattern-small, order-same, order-positive, order-negative}

@@ -1,18 +1,10 @@
 -- "That comparison is a total order" (document 02 §8), over the values that are no NaN. Definitions only.
-use mathlib.Core.Path.{_≡_}
 use mathlib.Core.Bool.{Bool, true, false, not}
 use lib.Dec.{T}
 use lib.Ieee.{Float, binary32, fits, isNan}
 use Rattle.distances.specs.Compare.{order}
 use Rattle.distances.specs.declared.Order.{Order}
 use Rattle.distances.specs.declared.Order.the-variants.{Less, Equal, Greater}
-
--- a test `le` that is a total order: of any two one goes first; what goes first before a second goes first before all that the second does;
--- and two that each go first are the same
-pub record Total {A : Type 0} (le : A → A → Bool) : Type 0 where
-  pub total : (x y : A) → le x y ≡ false → le y x ≡ true
-  pub trans : (x y z : A) → le x y ≡ true → le y z ≡ true → le x z ≡ true
-  pub antisym : (x y : A) → le x y ≡ true → le y x ≡ true → x ≡ y
 
 -- a value of binary32 that is no NaN
 pub record Value : Type 0 where

@@ -1,16 +1,13 @@
 -- A row's three projections, put together again, are the row: so what waits in the row is what waits in the three lists. Assumes nothing.
-use Prim.Native.Nat.{ℕ, zero, suc, _+_, _<_, _≤_}
-use native.Mathlib.Omega.{arith}
-use native.Mathlib.Decide.{ℕ-discrete}
-use mathlib.Core.Path.{_≡_, refl, sym, ap, ap₂, _∙_}
+use Prim.Native.Nat.{ℕ, _≤_}
+use mathlib.Core.Path.{_≡_, refl, sym, ap, _∙_}
 use mathlib.Core.Bool.{Bool}
 use mathlib.Core.List.{List, [], _∷_, map}
-use lib.ListN.{length, getD, set, replicate, length-map, length-replicate, getD-replicate}
-use lib.Seq.{ext-getD, getD-set-other}
+use lib.ListN.{length, replicate, length-map}
+use Rattle.lists.proofs.Table.{map-replicate}
 use Rattle.queue.specs.declared.Entry.{Entry}
 use Rattle.queue.specs.Heap.{Keeps}
 use Rattle.queue.specs.Queue.{blank, entries, Even}
-use Rattle.queue.proofs.Sift.{put-at}
 use Rattle.entries.specs.Row.{distances, cells, triangles, HeldRow, ClearedRow}
 
 pub row-entries : (row : List Entry) → entries (distances row) (cells row) (triangles row) ≡ row
@@ -41,25 +38,9 @@ module _ {le : Entry → Entry → Bool} where
   held-in row n h = of-held row n h .fit
 
 -- ---- a row that is all blank
-pub blanks : (row : List Entry) (n : ℕ) → length row ≡ n → ((k : ℕ) → k < n → getD row k blank ≡ blank) → row ≡ replicate n blank
-blanks row n e h =
-    ext-getD blank row (replicate n blank) (e ∙ sym (length-replicate n blank)) (λ i w. let k : i < n = omega (arith, w, e) in h i k ∙ sym (getD-replicate n i blank blank k))
-
-each : (f : Entry → ℕ) (n : ℕ) → f blank ≡ 0 → map f (replicate n blank) ≡ replicate n 0
-each f zero z = refl
-each f (suc n) z = ap₂ _∷_ z (each f n z)
-
 pub blank-row : (row row′ : List Entry) → row′ ≡ replicate (length row) blank → ClearedRow row row′
 blank-row row row′ e = record {
-  distances = ap (map (λ x. x .distance)) e ∙ each (λ x. x .distance) (length row) refl ∙ ap (λ (n : ℕ). replicate n 0) (sym (length-map row (λ x. x .distance)));
-  cells = ap (map (λ x. x .cell)) e ∙ each (λ x. x .cell) (length row) refl ∙ ap (λ (n : ℕ). replicate n 0) (sym (length-map row (λ x. x .cell)));
-  triangles = ap (map (λ x. x .triangle)) e ∙ each (λ x. x .triangle) (length row) refl ∙ ap (λ (n : ℕ). replicate n 0) (sym (length-map row (λ x. x .triangle)));
+  distances = ap (map (λ x. x .distance)) e ∙ map-replicate (λ x. x .distance) (length row) blank ∙ ap (λ (n : ℕ). replicate n 0) (sym (length-map row (λ x. x .distance)));
+  cells = ap (map (λ x. x .cell)) e ∙ map-replicate (λ x. x .cell) (length row) blank ∙ ap (λ (n : ℕ). replicate n 0) (sym (length-map row (λ x. x .cell)));
+  triangles = ap (map (λ x. x .triangle)) e ∙ map-replicate (λ x. x .triangle) (length row) blank ∙ ap (λ (n : ℕ). replicate n 0) (sym (length-map row (λ x. x .triangle)));
 }
-
--- one place more is blank
-pub one-more : (row : List Entry) (i : ℕ) → i < length row → ((k : ℕ) → k < i → getD row k blank ≡ blank) → (k : ℕ) → k < i + 1 → getD (set row i blank) k blank ≡ blank
-one-more row i il h k w = go (ℕ-discrete k i)
-  where
-    go : Dec (k ≡ i) → getD (set row i blank) k blank ≡ blank
-    go (yes e) = put-at blank row i k blank il e
-    go (no e) = getD-set-other row i k blank blank e ∙ h k (omega arith)

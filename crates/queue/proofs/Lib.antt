@@ -3,6 +3,5 @@ pub mod Sift
 pub mod Moves
 pub mod Order
 pub mod Flat
-pub mod Zeros
 pub mod Meaning
 pub mod Uses

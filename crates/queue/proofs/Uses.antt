@@ -7,11 +7,11 @@ use mathlib.Core.Path.{_≡_, refl, ap, subst, _∙_}
 use mathlib.Core.Bool.{Bool, true}
 use mathlib.Core.List.{List, [], List·Memᴰ}
 use lib.ListN.{length, getD, take, replicate}
+use Rattle.lists.proofs.Table.{alike}
 use Rattle.queue.specs.declared.Entry.{Entry}
 use Rattle.queue.specs.InOrder.{Total, inOrder}
 use Rattle.queue.specs.Queue.{blank, entries, Even, Held, waiting, Cleared, Taken}
 use Rattle.queue.proofs.Flat.{at-entries, held-fit}
-use Rattle.queue.proofs.Zeros.{zeros}
 use Rattle.queue.proofs.Meaning.{length-inOrder, count, count-inOrder, Sorted, sorted-inOrder, after-member}
 
 module _ (le : Entry → Entry → Bool) where
@@ -43,9 +43,9 @@ module _ {le : Entry → Entry → Bool} where
   -- it holds zeros
   pub left-zero : (ds cs ts : List ℕ) → Held le ds cs ts 0 → (ds ≡ replicate (length ds) 0) × (cs ≡ replicate (length cs) 0) × (ts ≡ replicate (length ts) 0)
   left-zero ds cs ts h = (
-    zeros ds (length ds) refl (λ k w. ap (λ (x : Entry). x .distance) (at k w)),
-    zeros cs (length cs) refl (λ k w. ap (λ (x : Entry). x .cell) (at k (omega (arith, h .even .cells)))),
-    zeros ts (length ts) refl (λ k w. ap (λ (x : Entry). x .triangle) (at k (omega (arith, h .even .triangles)))),
+    alike 0 0 (length ds) ds refl (λ k w. ap (λ (x : Entry). x .distance) (at k w)),
+    alike 0 0 (length cs) cs refl (λ k w. ap (λ (x : Entry). x .cell) (at k (omega (arith, h .even .cells)))),
+    alike 0 0 (length ts) ts refl (λ k w. ap (λ (x : Entry). x .triangle) (at k (omega (arith, h .even .triangles)))),
   )
     where
       at : (k : ℕ) → k < length ds → _≡_ {A = Entry} (record { distance = getD ds k 0; cell = getD cs k 0; triangle = getD ts k 0 }) blank

@@ -6,6 +6,8 @@ ghost use Prim.Native.Nat.{_^_, _≤_};
 // exponent, then 64 for an odd one. In 32nds its start, plus a half to round, stands from bit 35
 // on, and the rise over the part from bit 13 on; below it in 16ths is how far it bulges, times 4.
 // A `match` is compiled to a table in the program's constants, which a `const` array is not.
+// Its size is all that is promised, and no more is owed: `root::nearest_root` finds the nearest root from any guess of
+// that size, so a wrong row costs time and changes no root.
 pub fn entry(i: u32) -> u64
     ensures { λ r. ⌜ 2 ^ 63 ≤ r ⌝ }
 {

@@ -1,4 +1,3 @@
 mod Equal
-mod Runs
 -- what crates above cite
 pub mod Laws

@@ -1,7 +1,7 @@
 -- The row of triangles by numbers: how many there are, and the corners of the k-th. A list goes down by three corners at a step
 -- and a strip by one, so each law is an induction over the corners, by threes or by ones. Assumes nothing.
 use mathlib.Core.Path.{_≡_, refl, sym, ap, _∙_}
-use mathlib.Core.Bool.{Bool, true, false, _&&_, and-false, true≢false}
+use mathlib.Core.Bool.{true, _&&_}
 use mathlib.Core.List.{List, [], _∷_}
 use Prim.Native.Nat.{ℕ, zero, suc, _+_, _-_, _*_, _/_, _<_}
 use native.Mathlib.Nat.{add-zero}
@@ -9,6 +9,7 @@ use native.Mathlib.Omega.{arith}
 use lib.Dec.{ltb}
 use lib.ListN.{length, getD}
 use borrow.Author.Tests.{ltb-true}
+use Rattle.lists.proofs.Every.{both, every-at}
 use Rattle.topology.specs.declared.Topology.{Topology}
 use Rattle.topology.specs.declared.Topology.the-variants.{TriangleList, TriangleStrip}
 use Rattle.topology.specs.declared.Indices.{Indices}
@@ -100,27 +101,11 @@ unfolding triangles
 kth-is TriangleList cs k h = at-threes cs k (omega (arith, count-threes cs))
 kth-is TriangleStrip cs k h = at-windows cs k (omega (arith, count-windows cs))
 
--- ---- every corner of every triangle below the vertex count
-pub below-each : (v : ℕ) (ts : List Triangle) → ((k : ℕ) → k < length ts → belowCount v (kth ts k) ≡ true) → allBelowCount v ts ≡ true
-unfolding allBelowCount
-below-each v [] h = refl
-below-each v (t ∷ ts) h = rw (h 0 (omega arith)) (below-each v ts (λ k l. h (suc k) (omega arith)))
-
-pub below-one-not : (v : ℕ) (ts : List Triangle) (k : ℕ) → k < length ts → belowCount v (kth ts k) ≡ false → allBelowCount v ts ≡ false
-unfolding allBelowCount
-below-one-not v [] k l h = absurd (omega arith)
-below-one-not v (t ∷ ts) zero l h = rw h
-below-one-not v (t ∷ ts) (suc k) l h = rw (below-one-not v ts k (omega arith) h) (and-false (belowCount v t))
-
 -- what passes refusal 4: the corners of each triangle are vertices
 pub record Vertices (v : ℕ) (t : Triangle) : Type 0 where
   pub a-below : t .a < v
   pub b-below : t .b < v
   pub c-below : t .c < v
-
-both : (a b : Bool) → (a && b) ≡ true → (a ≡ true) × (b ≡ true)
-both true b h = (refl, h)
-both false b h = absurd (true≢false (sym h))
 
 vertices-of : (v : ℕ) (t : Triangle) → belowCount v t ≡ true → Vertices v t
 vertices-of v t h =
@@ -133,7 +118,4 @@ vertices-of v t h =
     }
 
 pub vertices-at : (v : ℕ) (ts : List Triangle) (k : ℕ) → allBelowCount v ts ≡ true → k < length ts → Vertices v (kth ts k)
-unfolding allBelowCount
-vertices-at v [] k h l = absurd (omega arith)
-vertices-at v (t ∷ ts) zero h l = vertices-of v t (both (belowCount v t) (allBelowCount v ts) h .0)
-vertices-at v (t ∷ ts) (suc k) h l = vertices-at v ts k (both (belowCount v t) (allBelowCount v ts) h .1) (omega arith)
+vertices-at v ts k h l = vertices-of v (kth ts k) (every-at (belowCount v) (triangle 0 0 0) ts k h l)

@@ -1,10 +1,11 @@
 -- Refusals 3 and 4 of document 01: "too many triangles", of which 0 to 131,072 are accepted, and "an index used by a triangle is
 -- not below the vertex count". Both speak of the triangles, so an index left over is not checked. Definitions only.
-use mathlib.Core.Bool.{Bool, true, _&&_}
-use mathlib.Core.List.{List, [], _∷_}
+use mathlib.Core.Bool.{Bool, _&&_}
+use mathlib.Core.List.{List}
 use Prim.Native.Nat.{ℕ}
 use lib.Dec.{ltb}
 use lib.ListN.{length}
+use Rattle.lists.specs.Every.{every}
 use Rattle.topology.specs.declared.Triangle.{Triangle}
 
 -- 3: more triangles than a job may have
@@ -15,6 +16,5 @@ tooManyTriangles ts = ltb 131072 (length ts)
 abbrev pub belowCount : ℕ → Triangle → Bool
 belowCount vertices t = ltb (t .a) vertices && ltb (t .b) vertices && ltb (t .c) vertices
 
-unfoldable pub allBelowCount : ℕ → List Triangle → Bool
-allBelowCount vertices [] = true
-allBelowCount vertices (t ∷ ts) = belowCount vertices t && allBelowCount vertices ts
+abbrev pub allBelowCount : ℕ → List Triangle → Bool
+allBelowCount vertices ts = every (belowCount vertices) ts

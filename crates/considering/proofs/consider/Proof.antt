@@ -25,7 +25,7 @@ returns-3 : tie.Need-returns-3
 returns-3 c =
     let n = c .before .before .before in
     let s = n .before .before .before .before in
-    was-passed (s .args .k) (s .args .to) (s .args .q) (s .args .field .now) (s .args .names .now) (n .before .if1 .left) (s .pre .alike) (n .if2 .left) (c .before .root-not-below .ensures (c .if3 .taken))
+    was-passed (s .args .k) (s .args .to) (s .args .q) (s .args .field .now) (s .args .names .now) (n .before .if1 .left) (s .pre .alike) (n .if2 .left) (c .before .root-not-below .ensures .not-below (c .if3 .taken))
 
 slice-write-field : tie.Need-slice-write-field
 slice-write-field c =

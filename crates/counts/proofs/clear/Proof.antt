@@ -1,10 +1,10 @@
 -- `counts::clear`: the loop fills the slice with 0 from the front. Assumes nothing.
 use Prim.Native.Nat.{ℕ, _-_, _≤_}
 use native.Mathlib.Omega.{arith}
-use mathlib.Core.Path.{_≡_, refl, _∙_}
+use mathlib.Core.Path.{_≡_, refl}
 use lib.ListN.{length}
 use Rattle.lists.specs.Table.{Filled}
-use Rattle.lists.proofs.Table.{filled-none, filled-more, filled-all, table-replicate}
+use Rattle.lists.proofs.Table.{filled-none, filled-more, filled-alike}
 use Rattle.counts.proofs.clear.Statement.{statement}
 use Rattle.counts.proofs.clear.Tie as tie
 
@@ -45,7 +45,7 @@ returns : tie.Need-returns Inv-loop μ-loop
 returns c =
     let l = c .before .loop in
     let s = c .before .before .args .s .now in
-    filled-all 0 zero-at s (l .s) (l .i) (length s) refl (omega arith) (l .inv .2) ∙ table-replicate 0 (length s)
+    filled-alike 0 0 s (l .s) (l .i) (length s) refl (omega arith) (l .inv .2)
 
 pub clear-spec : {M : Type 1} → statement M
 clear-spec =

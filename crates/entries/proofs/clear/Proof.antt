@@ -1,12 +1,14 @@
 -- `entries::clear` meets its contract: a walk of its MIR, by hand. A turn writes one entry, and all before it are blank. Assumes nothing.
-use Rattle.walking.proofs.Prelude.{_≡_, refl, _∙_, ℕ, _+_, _-_, _^_, _<_, arith, List, [], _∷_, _++_, map, length, getD, put, length-set, ltb, T, ltb→lt, nltb→le, Is, URA, Val, SProp, ent, emp, via, fst∗, Memory, Routine, Heap, Env, WpFn, Tables, afterTurn, Atoms, Fun, givenOf, tables, tablesOf, Given, Item, Sq, prop, runs, atRet, _$_, !, by, bin, first, blocks, exec, WpFn-mono, Meets, tripleOf, Triple, entered, cited, walkOf, Walks, ends-at, walked, walk-meets, onEntry}
+use Rattle.walking.proofs.Prelude.{_≡_, refl, _∙_, ℕ, _+_, _-_, _^_, _<_, arith, List, [], _∷_, _++_, map, length, put, length-set, ltb, T, ltb→lt, nltb→le, Is, URA, Val, SProp, ent, emp, via, fst∗, Memory, Routine, Heap, Env, WpFn, Tables, afterTurn, Atoms, Fun, givenOf, tables, tablesOf, Given, Item, Sq, prop, runs, atRet, _$_, !, by, bin, first, blocks, exec, WpFn-mono, Meets, tripleOf, Triple, entered, cited, walkOf, Walks, ends-at, walked, walk-meets, onEntry}
 use Rattle.walking.proofs.Prelude.{empty, holds, Blocks, envOf, Locals, opd, copies, puts, puts-last, returns-at, keeps-first, enters, whiles, Slice, taken, holding, Valued, Arg, lent, slices, lefts, fitting, after, bound-to, words, asking-nothing, calls-is, own-bound, typed, from-entry, to-exit, in-turn, again-at, loops-at, points, writes-at, a-usize, a-unit, Sort, to-write, stays, spells, tells, all-go}
+use Rattle.lists.specs.Table.{Filled}
+use Rattle.lists.proofs.Table.{filled-none, filled-more, filled-alike}
 use Rattle.queue.specs.declared.Entry.{Entry}
 use Rattle.queue.specs.Queue.{blank}
 use Rattle.queue.proofs.Entry as E
 use Rattle.entries.specs.Row.{ClearedRow}
 use Rattle.entries.proofs.ByValue.{an-entry}
-use Rattle.entries.proofs.Projections.{blanks, blank-row, one-more}
+use Rattle.entries.proofs.Projections.{blank-row}
 use Rattle.entries.proofs.none as none
 use Rattle.entries.proofs.clear as f
 
@@ -43,7 +45,7 @@ module _ {M : Type 1} (𝓤 : URA M) (H : Heap 𝓤) (A : Atoms 𝓤) (W : Given
         At w = Locals 𝓤 H En ((empty ∷ map holds (words ps)) ++ (holds (an-entry W .val blank) ∷ holds (a-usize W .val (w .2 .it)) ∷ [])) ∷ slices (after ps (w .0, tt) (w .1, tt)) []
 
         abbrev Facts : ℕ → State → Type 0
-        Facts t w = (w .2 .it + t ≡ length (row .ref .now)) × ((k : ℕ) → k < w .2 .it → getD (w .0) k blank ≡ blank)
+        Facts t w = (w .2 .it + t ≡ length (row .ref .now)) × Filled blank (λ k. blank) (row .ref .now) (w .2 .it) (w .0)
 
         leaves : (w : State) → ClearedRow (row .ref .now) (w .0) → Sq W (At w) (runs (𝓣 .C) (𝓣 .Λ) En f.Code.Mir.t-4 (atRet En Post))
         leaves w cleared =
@@ -57,9 +59,9 @@ module _ {M : Type 1} (𝓤 : URA M) (H : Heap 𝓤) (A : Atoms 𝓤) (W : Given
             whiles ! (opd ! refl) (λ h. points ! (an-entry W) now i (below h) refl tt refl refl (tt, refl) (tt, refl) $ writes-at ! (an-entry W) now i (record { it = blank; is = is }) (below h) refl refl (λ Δ. opd ! refl) $
             puts-last ! (bin ! (opd ! refl) (opd ! refl) (record { fits = next h })) tt (tt, record { fits = next h }) $ keeps-first ! 4 tt $
             again-at ! At Facts t (length (row .ref .now) - (i + 1)) (put (w .0) i blank, length-set (w .0) i blank ∙ w .1, record { it = i + 1; is = (refl, next h) })
-            (omega (arith, below h, facts .0, w .1)) (omega (arith, below h, w .1), one-more (w .0) i (below h) (facts .1))) (λ h.
+            (omega (arith, below h, facts .0, w .1)) (omega (arith, below h, w .1), filled-more blank (λ k. blank) (row .ref .now) i (w .0) blank (omega (arith, below h, w .1)) refl (facts .1))) (λ h.
             exec ! (𝓣 .C) (𝓣 .Λ) En f.Code.Mir.t-4 (atRet En Post) $ keeps-first ! 4 tt $
-            leaves w (blank-row (row .ref .now) (w .0) (blanks (w .0) (length (row .ref .now)) (w .1) (λ k l. facts .1 k (omega (arith, l, nltb→le i (row .count) h, row .long))))))
+            leaves w (blank-row (row .ref .now) (w .0) (filled-alike blank blank (row .ref .now) (w .0) i (length (row .ref .now)) refl (omega (arith, nltb→le i (row .count) h, row .long)) (facts .1))))
           where
             i : ℕ
             i = w .2 .it
@@ -76,7 +78,7 @@ module _ {M : Type 1} (𝓤 : URA M) (H : Heap 𝓤) (A : Atoms 𝓤) (W : Given
       goes : Sq W (Locals 𝓤 H En (empty ∷ map holds (words ps)) ∷ slices ps []) (runs (𝓣 .C) (𝓣 .Λ) En f.Code.Mir.t-1 (atRet En Post))
       goes =
           calls-is ! 𝓣 to-none (an-entry W) blank (asking-nothing to-none (λ n. met (bound-to to-none n))) refl refl (tt, refl) (λ is _ _. copies ! refl (tt, refl) $ first ! $ blocks ! $
-          loops-at ! 𝓣 (At is) (Facts is) (turn is) (length (row .ref .now)) (row .ref .now, refl, record { it = 0; is = (refl, omega arith) }) (omega arith, λ k w. absurd (omega (arith, w))))
+          loops-at ! 𝓣 (At is) (Facts is) (turn is) (length (row .ref .now)) (row .ref .now, refl, record { it = 0; is = (refl, omega arith) }) (omega arith, filled-none blank (λ k. blank) (row .ref .now)))
 
     walk : ent 𝓤 (onEntry 𝓤 H A f.signature (own-bound ps .0 .0) (own-bound ps .0 .1) (own-bound ps .0 .3) (own-bound ps .0 .4)) (WpFn 𝓤 H (𝓣 .C) (𝓣 .Λ) f.Code.function (words ps) Post)
     walk = from-entry 𝓤 H A W ps (enters ! (𝓣 .C) (𝓣 .Λ) _ _ f.Code.function (words ps) Post refl (typed ps) goes)

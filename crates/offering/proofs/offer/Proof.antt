@@ -13,7 +13,7 @@ returns c =
 returns-2 : tie.Need-returns-2
 returns-2 c =
     let s = c .before .before .before .before .before .before .before .before .before .before .before in
-    offered-passed (s .args .at) (s .args .k) (s .args .c) (s .args .q) (s .pre .1 .0) (s .pre .1 .1 .0) (s .pre .1 .1 .3) (c .before .before .before .if1 .left) (c .before .root-not-below .ensures (c .if2 .taken))
+    offered-passed (s .args .at) (s .args .k) (s .args .c) (s .args .q) (s .pre .1 .0) (s .pre .1 .1 .0) (s .pre .1 .1 .3) (c .before .before .before .if1 .left) (c .before .root-not-below .ensures .not-below (c .if2 .taken))
 
 float-to-bits-distance : tie.Need-float-to-bits-distance
 float-to-bits-distance c = less-no-nan _ _ (c .if3 .taken)

@@ -21,7 +21,7 @@ returns-2 : tie.Need-returns-2
 returns-2 c =
     let e = c .before .before .before in
     let s = e .before .before .before in
-    passed (s .args .field .now) (s .args .names .now) (s .args .c) (s .args .k) (s .args .q) (s .pre .1) (e .if1 .left) (c .before .«root-not-below» .ensures (c .if2 .taken))
+    passed (s .args .field .now) (s .args .names .now) (s .args .c) (s .args .k) (s .args .q) (s .pre .1) (e .if1 .left) (c .before .«root-not-below» .ensures .not-below (c .if2 .taken))
 
 returns-3 : tie.Need-returns-3
 returns-3 c =

@@ -1,24 +1,25 @@
 -- `squares::squares_proper`: the invariant is that the elements below i hold their squared distances. Assumes nothing.
 use Prim.Native.Nat.{_≤_, _-_}
-use native.Mathlib.Nat.{not-suc-le-zero}
 use denote.Ref.{now}
 use native.Mathlib.Omega.{arith}
 use mathlib.Core.Path.{_≡_, sym, _∙_}
 use lib.ListN.{length, length-set}
+use lib.Ieee.{nan}
 use borrow.Author.Needs.{needs}
+use Rattle.lists.specs.Table.{Filled}
+use Rattle.lists.proofs.Table.{filled-none, filled-more}
 use Rattle.squares.specs.Distance.{squaredAt}
-use Rattle.squares.proofs.Runs.{Filled, filled-next}
 use Rattle.squares.proofs.squares_proper.Statement.{statement}
 use Rattle.squares.proofs.squares_proper.Tie as tie
 
 abbrev Inv-loop : tie.InvT-loop
-Inv-loop f xs ys zs out₀ i₀ out i = (i ≤ length xs) × (length out ≡ length xs) × Filled (squaredAt f xs ys zs) out i
+Inv-loop f xs ys zs out₀ i₀ out i = (i ≤ length xs) × (length out ≡ length xs) × Filled nan (squaredAt f xs ys zs) out₀ i out
 
 abbrev μ-loop : tie.MeasureT-loop
 μ-loop f xs ys zs out₀ i₀ out i = length xs - i
 
 loop-holds : tie.Need-loop-holds Inv-loop μ-loop
-loop-holds c = (search needs, search needs, λ k l. absurd (not-suc-le-zero l))
+loop-holds c = (search needs, search needs, filled-none _ _ _)
 
 loop-again : tie.Need-loop-again Inv-loop μ-loop
 loop-again c =
@@ -26,12 +27,12 @@ loop-again c =
     let s = l .before .before .before .before .before .args in (
       search needs,
       rw length-set (l .loop .inv .1),
-      filled-next (squaredAt (s .f) (now (s .xs)) (now (s .ys)) (now (s .zs))) (l .loop .out) (l .loop .i) (c .squared-proper .result) (omega arith) (c .squared-proper .ensures) (l .loop .inv .2),
+      filled-more nan (squaredAt (s .f) (now (s .xs)) (now (s .ys)) (now (s .zs))) (now (s .out)) (l .loop .i) (l .loop .out) (c .squared-proper .result) (omega arith) (c .squared-proper .ensures) (l .loop .inv .2),
     )
 
 returns : tie.Need-returns Inv-loop μ-loop
 returns c =
-    record { long = c .before .loop .inv .1; each = λ k h. c .before .loop .inv .2 k (omega arith) }
+    record { long = c .before .loop .inv .1; each = λ k h. c .before .loop .inv .2 .front k (omega arith) }
 
 same-length : tie.Need-same-length Inv-loop μ-loop
 same-length c = c .before .loop .inv .1 ∙ sym (c .before .before .before .before .before .before .pre .3)

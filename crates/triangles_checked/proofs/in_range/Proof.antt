@@ -7,9 +7,9 @@ use mathlib.Core.Path.{_≡_, sym, _∙_}
 use mathlib.Core.Bool.{true}
 use Prim.Native.Nat.{ℕ, _-_, _≤_, _<_}
 use native.Mathlib.Omega.{arith}
-use Rattle.topology.specs.Topology.{trianglesOf, kth}
+use Rattle.lists.proofs.Every.{every-each, every-not}
+use Rattle.topology.specs.Topology.{trianglesOf, triangle, kth}
 use Rattle.topology.specs.Refusals.{belowCount}
-use Rattle.topology.proofs.Laws.{below-each, below-one-not}
 use Rattle.triangles_checked.proofs.in_range.Statement.{statement}
 use Rattle.triangles_checked.proofs.in_range.Tie as tie
 
@@ -39,7 +39,7 @@ below-count-requires : tie.Need-below-count-requires Inv-loop μ-loop
 below-count-requires c κs = search needs
 
 returns : tie.Need-returns Inv-loop μ-loop
-returns c = sym (below-one-not _ _ (c .before .before .before .before .loop .k) (omega arith) (found (c .before) ∙ not-true _ (c .if1 .taken)))
+returns c = sym (every-not _ (triangle 0 0 0) _ (c .before .before .before .before .loop .k) (omega arith) (found (c .before) ∙ not-true _ (c .if1 .taken)))
 
 add-k : tie.Need-add-k Inv-loop μ-loop
 add-k c = omega arith
@@ -51,7 +51,7 @@ loop-again : tie.Need-loop-again Inv-loop μ-loop
 loop-again c = (omega arith, below-more _ _ (c .before .before .before .before .loop .inv .1) (found (c .before) ∙ not-false _ (c .if1 .left)))
 
 returns-2 : tie.Need-returns-2 Inv-loop μ-loop
-returns-2 c = sym (below-each _ _ (λ k h. c .before .loop .inv .1 k (omega arith)))
+returns-2 c = sym (every-each _ (triangle 0 0 0) _ (λ k h. c .before .loop .inv .1 k (omega arith)))
 
 pub in-range-spec : {M : Type 1} → statement M
 in-range-spec =
