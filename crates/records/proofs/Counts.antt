@@ -7,7 +7,7 @@ use borrow.Author.Tests.{eq-eqb, ne-eqb, eqb-true, eqb-false, not-true, not-fals
 use Rattle.float.specs.Arith.{if_then_else_}
 use Rattle.told.specs.declared.Progress.{Progress}
 use Rattle.told.specs.Told.{refusedBy}
-use Rattle.entries.proofs.Calls.{holds, fails}
+use Rattle.walking.proofs.Tests.{is-so, not-so}
 use Rattle.records.specs.Records.{stoppedBy, poppedBy}
 
 pub was-stopped : (number : ℕ) (p : Progress) → (p .number ≡ 0 → ⊥) → p ≡ stoppedBy number p
@@ -28,7 +28,7 @@ one-taken limit p z = ap (λ (t : Bool). if t then refusedBy 8 p else record { n
 
 -- the test `n != 0`
 pub not-zero : (n : ℕ) → T (not (eqb n 0)) → n ≡ 0 → ⊥
-not-zero n h = eqb-false n 0 (not-true (eqb n 0) (holds (not (eqb n 0)) h))
+not-zero n h = eqb-false n 0 (not-true (eqb n 0) (is-so (not (eqb n 0)) h))
 
 pub is-zero : (n : ℕ) → T (not (not (eqb n 0))) → n ≡ 0
-is-zero n h = eqb-true n 0 (not-false (eqb n 0) (fails (not (eqb n 0)) h))
+is-zero n h = eqb-true n 0 (not-false (eqb n 0) (not-so (not (eqb n 0)) h))
