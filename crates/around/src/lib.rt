@@ -101,7 +101,7 @@ fn step_from(grid: Grid, cell: Cell, step: u16) -> Spot
             y: shifted(grid.count_y, y, cell.y),
             z: shifted(grid.count_z, z, cell.z),
         };
-        let index = grid.get_cell_idx(to);
+        let index = grid::parts::get_cell_idx(grid, to);
         return Spot {
             index: index,
             cell: to,
@@ -131,7 +131,7 @@ fn gather(
     let mut j = 0;
     while j < 27 {
         let spot = step_from(grid, cell, steps[j]);
-        let centre = grid.get_cell_center(spot.cell);
+        let centre = grid::parts::get_cell_center(grid, spot.cell);
         to[j] = spot.index;
         xs[j] = centre.x;
         ys[j] = centre.y;
@@ -162,7 +162,7 @@ pub fn look_around(
     let mut xs = [0.0f32; 27];
     let mut ys = [0.0f32; 27];
     let mut zs = [0.0f32; 27];
-    let cell = grid.get_cell_integer_coordinates(e.cell);
+    let cell = grid::parts::get_cell_integer_coordinates(grid, e.cell);
     gather(grid, cell, steps, to, &mut xs, &mut ys, &mut zs);
     squares::squares_on(facet, &xs, &ys, &zs, squares);
 }

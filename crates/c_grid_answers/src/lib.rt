@@ -6,16 +6,16 @@ use c_records::SdfGridAnswer;
 use c_records::SdfNumberAnswer;
 use c_records::SdfPointAnswer;
 use c_records::SdfSnapAnswer;
+use grid::BoxAnswer as GridBoxAnswer;
+use grid::CellAnswer;
+use grid::CountsAnswer;
+use grid::GridAnswer;
+use grid::NumberAnswer;
+use grid::PointAnswer as GridPointAnswer;
+use grid::SnapAnswer;
 use grid::SnapResult;
-use grid_asked::BoxAnswer as GridBoxAnswer;
-use grid_asked::CellAnswer;
-use grid_asked::CountsAnswer;
-use grid_asked::GridAnswer;
-use grid_asked::NumberAnswer;
-use grid_asked::PointAnswer as GridPointAnswer;
-use grid_asked::SnapAnswer;
 ghost use mathlib.Core.Path.{_≡_};
-ghost use Rattle.grid_asked.specs.Reply as Reply;
+ghost use Rattle.grid.specs.Reply as Reply;
 ghost use Rattle.c_records.specs.C as C;
 
 pub fn number_answer(a: NumberAnswer) -> SdfNumberAnswer

@@ -21,7 +21,7 @@ use Rattle.grid.specs.declared.Counts.{Counts}
 use Rattle.grid.specs.declared.BoundingBox.{BoundingBox}
 use Rattle.grid.specs.declared.SnapResult.{SnapResult}
 use Rattle.grid.specs.declared.SnapResult.the-variants.{Inside, Outside}
-use Rattle.grid_asked.specs.Reply.{Reply, refused, given}
+use Rattle.grid.specs.Reply.{Reply, refused, given}
 use Rattle.bounding.specs.declared.TriangleBox.{TriangleBox}
 use Rattle.ray.specs.declared.RayHit.{RayHit}
 use Rattle.ray.specs.declared.RayHit.the-variants.{Miss, Hit}

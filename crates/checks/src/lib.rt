@@ -60,7 +60,7 @@ fn wrong_lengths(grid: Grid, l: Lengths) -> bool
     requires { ⌜ inBounds grid ≡ true ⌝ }
     ensures { λ r. ⌜ r ≡ wrongLengths grid l ⌝ }
 {
-    let n = grid.get_total_cell_count() as usize;
+    let n = grid::parts::get_total_cell_count(grid) as usize;
     let z = grid.count_z as usize;
     let kept = l.distances;
     (l.field != n)

@@ -38,7 +38,7 @@ fn cross_rows(
 {
     let xs = ray::along_x(cast, lines::centre(grid, axis, 0));
     let across = lines::next(axis);
-    let count = grid.count_on(across);
+    let count = grid::parts::count_on(grid, across);
     let mut u: u32 = 0;
     while u < count {
         let ys = ray::across_y(cast, lines::centre(grid, across, u));

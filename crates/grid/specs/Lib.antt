@@ -3,3 +3,4 @@ pub mod Index
 pub mod Place
 pub mod Bounds
 pub mod Cases
+pub mod Reply

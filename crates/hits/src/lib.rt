@@ -42,7 +42,7 @@ fn cross_line(grid: Grid, axis: Axis, u: u32, v: u32, hit: RayHit, crossings: &m
         RayHit::Miss => {}
         RayHit::Hit(t) => {
             let size = grid.cell_size;
-            let last = float::cell(t / size.get(axis), grid.count_on(axis));
+            let last = float::cell(t / size.get(axis), grid::parts::count_on(grid, axis));
             add_line(grid, axis, u, v, last.index, crossings);
         }
     }
@@ -68,7 +68,7 @@ fn cross_marked(
     requires { ⌜ Room 2 (now crossings) ⌝ }
     ensures { λ _. ⌜ Grown grid (rowCrossed grid axis u (rowHit (now (z0 .entry)) (now (z1 .entry)) (now (z2 .entry)) ys xs)) (now (crossings .entry)) (now (crossings .exit)) ⌝ }
 {
-    let count = grid.count_on(lines::second(axis));
+    let count = grid::parts::count_on(grid, lines::second(axis));
     let mut v: u32 = 0;
     while v < count {
         let at = v as usize;
@@ -99,7 +99,7 @@ pub fn cross_row(
     requires { ⌜ Room 2 (now crossings) ⌝ }
     ensures { λ _. ⌜ Grown grid (rowCrossed grid axis u (rowHit (now (z0 .entry)) (now (z1 .entry)) (now (z2 .entry)) ys xs)) (now (crossings .entry)) (now (crossings .exit)) ⌝ }
 {
-    let count = grid.count_on(lines::second(axis)) as usize;
+    let count = grid::parts::count_on(grid, lines::second(axis)) as usize;
     let any = marking::mark_row(z0, z1, z2, ys, count, flags);
     if any {
         cross_marked(grid, axis, u, z0, z1, z2, ys, xs, flags, crossings);

@@ -70,7 +70,7 @@ pub fn entry(grid: Grid, axis: Axis, cell: Cell) -> usize
     requires { ⌜ (inBounds grid ≡ true) × Inside grid cell ⌝ }
     ensures { λ r. ⌜ r ≡ Lines.entryOf grid axis cell ⌝ }
 {
-    let index = grid.get_cell_idx(cell);
+    let index = grid::parts::get_cell_idx(grid, cell);
     3 * (index as usize) + place(axis)
 }
 

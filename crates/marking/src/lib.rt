@@ -49,7 +49,7 @@ pub fn fill_across(
     requires { ⌜ (1024 ≤ length (now z0)) × (1024 ≤ length (now z1)) × (1024 ≤ length (now z2)) ⌝ }
     ensures { λ _. ⌜ Across grid axis cast (countOn axis grid) (now (z0 .exit)) (now (z1 .exit)) (now (z2 .exit)) ⌝ }
 {
-    let count = grid.count_on(axis);
+    let count = grid::parts::count_on(grid, axis);
     let mut i: u32 = 0;
     while i < count {
         let at = i as usize;

@@ -46,7 +46,7 @@ fn squares_from(grid: Grid, f: Facet, at: Cell) -> [f32; 4]
     requires { ⌜ (inBounds grid ≡ true) × Inside grid at ⌝ }
     ensures { λ r. ⌜ SquaresFrom grid f at r ⌝ }
 {
-    let p = grid.get_cell_center(at);
+    let p = grid::parts::get_cell_center(grid, at);
     let first = grid.first_cell.z;
     let size = grid.cell_size.z;
     let xs = [p.x; 4];
@@ -77,7 +77,7 @@ pub fn offer_four(
     ensures { λ r. ⌜ alongLine grid f k (at .x) (at .y) (at .z) last (seedState (now (field .entry)) (now (names .entry))) ≡ told r (seedState (now (field .exit)) (now (names .exit))) ⌝ }
 {
     let squares = squares_from(grid, f, at);
-    let c = grid.get_cell_idx(at) as usize;
+    let c = grid::parts::get_cell_idx(grid, at) as usize;
     let n = (last - at.z) as usize;
     let mut i = 0;
     while i <= n {

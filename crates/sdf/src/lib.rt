@@ -3,7 +3,8 @@
 //
 //   generate_grid_sdf          the whole job, over lent buffers (its contract stands in crate `generate`)
 //   generate_grid_sdf_records  the same with the queue as a lent row of records (crate `generate_records`)
-//   questions                  the grid, the geometry, the comparison and the root asked by themselves
+//   the methods of `Grid`      the grid's questions, asked by value (crate `grid`)
+//   questions                  the same as functions; the geometry, the comparison and the root asked by themselves
 //
 // The same for C stands in crate `sdf_c`.
 mod questions;
@@ -19,17 +20,17 @@ pub use geo::asked::DistanceAnswer;
 pub use geo::asked::PointAnswer as ClosestPointAnswer;
 pub use geo::asked::RayAnswer;
 pub use grid::BoundingBox;
+pub use grid::BoxAnswer as GridBoxAnswer;
 pub use grid::Cell;
+pub use grid::CellAnswer;
 pub use grid::Counts;
+pub use grid::CountsAnswer;
 pub use grid::Grid;
+pub use grid::GridAnswer;
+pub use grid::NumberAnswer;
+pub use grid::PointAnswer as GridPointAnswer;
+pub use grid::SnapAnswer;
 pub use grid::SnapResult;
-pub use grid_asked::BoxAnswer as GridBoxAnswer;
-pub use grid_asked::CellAnswer;
-pub use grid_asked::CountsAnswer;
-pub use grid_asked::GridAnswer;
-pub use grid_asked::NumberAnswer;
-pub use grid_asked::PointAnswer as GridPointAnswer;
-pub use grid_asked::SnapAnswer;
 pub use point::Axis;
 pub use point::Point;
 

@@ -7,16 +7,16 @@ use geo::asked::BoxAnswer as TriangleBoxAnswer;
 use geo::asked::DistanceAnswer;
 use geo::asked::PointAnswer as ClosestPointAnswer;
 use geo::asked::RayAnswer;
+use grid::BoxAnswer as GridBoxAnswer;
 use grid::Cell;
+use grid::CellAnswer;
 use grid::Counts;
+use grid::CountsAnswer;
 use grid::Grid;
-use grid_asked::BoxAnswer as GridBoxAnswer;
-use grid_asked::CellAnswer;
-use grid_asked::CountsAnswer;
-use grid_asked::GridAnswer;
-use grid_asked::NumberAnswer;
-use grid_asked::PointAnswer as GridPointAnswer;
-use grid_asked::SnapAnswer;
+use grid::GridAnswer;
+use grid::NumberAnswer;
+use grid::PointAnswer as GridPointAnswer;
+use grid::SnapAnswer;
 use point::Axis;
 use point::Point;
 ghost use mathlib.Core.Path.{_≡_};
@@ -25,7 +25,7 @@ ghost use Rattle.distances.specs.Asked.{Answered};
 ghost use Rattle.grid.specs.Axes.{countsOf};
 ghost use Rattle.grid.specs.Index.{indexOf, cellAt, total};
 ghost use Rattle.grid.specs.Place as Place;
-ghost use Rattle.grid_asked.specs.Reply as Reply;
+ghost use Rattle.grid.specs.Reply as Reply;
 ghost use Rattle.geo.specs.Asked as Asked;
 
 // ---- the root and the comparison
@@ -53,67 +53,67 @@ pub fn compare(a: f32, b: f32) -> Comparison
 pub fn get_first_cell(grid: Grid) -> GridPointAnswer
     ensures { λ r. ⌜ Reply.point r ≡ Reply.ofGrid grid (grid .«first_cell») ⌝ }
 {
-    grid_asked::get_first_cell(grid)
+    grid.get_first_cell()
 }
 
 pub fn get_last_cell(grid: Grid) -> GridPointAnswer
     ensures { λ r. ⌜ Reply.point r ≡ Reply.ofGrid grid (Place.lastCell grid) ⌝ }
 {
-    grid_asked::get_last_cell(grid)
+    grid.get_last_cell()
 }
 
 pub fn get_cell_size(grid: Grid) -> GridPointAnswer
     ensures { λ r. ⌜ Reply.point r ≡ Reply.ofGrid grid (grid .«cell_size») ⌝ }
 {
-    grid_asked::get_cell_size(grid)
+    grid.get_cell_size()
 }
 
 pub fn get_cell_count(grid: Grid) -> CountsAnswer
     ensures { λ r. ⌜ Reply.counts r ≡ Reply.ofGrid grid (countsOf grid) ⌝ }
 {
-    grid_asked::get_cell_count(grid)
+    grid.get_cell_count()
 }
 
 pub fn get_total_cell_count(grid: Grid) -> NumberAnswer
     ensures { λ r. ⌜ Reply.number r ≡ Reply.ofGrid grid (total grid) ⌝ }
 {
-    grid_asked::get_total_cell_count(grid)
+    grid.get_total_cell_count()
 }
 
 pub fn get_bounding_box(grid: Grid) -> GridBoxAnswer
     ensures { λ r. ⌜ Reply.box r ≡ Reply.ofGrid grid (Place.boxOf grid) ⌝ }
 {
-    grid_asked::get_bounding_box(grid)
+    grid.get_bounding_box()
 }
 
 pub fn get_cell_idx(grid: Grid, cell: Cell) -> NumberAnswer
     ensures { λ r. ⌜ Reply.number r ≡ Reply.ofCell grid cell (indexOf grid cell) ⌝ }
 {
-    grid_asked::get_cell_idx(grid, cell)
+    grid.get_cell_idx(cell)
 }
 
 pub fn get_cell_integer_coordinates(grid: Grid, cell_idx: u32) -> CellAnswer
     ensures { λ r. ⌜ Reply.cell r ≡ Reply.ofIndex grid «cell_idx» (cellAt grid «cell_idx») ⌝ }
 {
-    grid_asked::get_cell_integer_coordinates(grid, cell_idx)
+    grid.get_cell_integer_coordinates(cell_idx)
 }
 
 pub fn get_cell_center(grid: Grid, cell: Cell) -> GridPointAnswer
     ensures { λ r. ⌜ Reply.point r ≡ Reply.ofCell grid cell (Place.centreOf grid cell) ⌝ }
 {
-    grid_asked::get_cell_center(grid, cell)
+    grid.get_cell_center(cell)
 }
 
 pub fn snap_point_to_grid(grid: Grid, point: Point) -> SnapAnswer
     ensures { λ r. ⌜ Reply.snapped r ≡ Reply.ofGrid grid (Place.snap grid point) ⌝ }
 {
-    grid_asked::snap_point_to_grid(grid, point)
+    grid.snap_point_to_grid(point)
 }
 
 pub fn from_bounding_box(bbox_min: Point, bbox_max: Point, cell_count: Counts) -> GridAnswer
     ensures { λ r. ⌜ Reply.grid r ≡ Reply.made (Place.fromBox «bbox_min» «bbox_max» «cell_count») ⌝ }
 {
-    grid_asked::from_bounding_box(bbox_min, bbox_max, cell_count)
+    Grid::from_bounding_box(bbox_min, bbox_max, cell_count)
 }
 
 // ---- the geometry

@@ -38,7 +38,7 @@ fn raised(i: u32, count: u32, centre: f32, high: f32) -> u32
 fn snapped(grid: Grid, p: Point) -> Cell
     ensures { λ r. ⌜ r ≡ snapCell grid p ⌝ }
 {
-    match grid.snap_point_to_grid(p) {
+    match grid::parts::snap_point_to_grid(grid, p) {
         SnapResult::Inside(c) => c,
         SnapResult::Outside(c) => c,
     }
@@ -50,7 +50,7 @@ pub fn first_of(grid: Grid, low: Point) -> Cell
     ensures { λ r. ⌜ r ≡ firstOf grid low ⌝ }
 {
     let c = snapped(grid, low);
-    let m = grid.get_cell_center(c);
+    let m = grid::parts::get_cell_center(grid, c);
     Cell {
         x: lowered(c.x, m.x, low.x),
         y: lowered(c.y, m.y, low.y),
@@ -64,7 +64,7 @@ pub fn last_of(grid: Grid, high: Point) -> Cell
     ensures { λ r. ⌜ r ≡ lastOf grid high ⌝ }
 {
     let c = snapped(grid, high);
-    let m = grid.get_cell_center(c);
+    let m = grid::parts::get_cell_center(grid, c);
     Cell {
         x: raised(c.x, grid.count_x, m.x, high.x),
         y: raised(c.y, grid.count_y, m.y, high.y),

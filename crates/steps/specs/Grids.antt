@@ -7,7 +7,7 @@ use Rattle.grid.specs.declared.Grid.{Grid}
 use Rattle.grid.specs.Axes.{countsOf}
 use Rattle.grid.specs.Index as Index
 use Rattle.grid.specs.Place as Place
-use Rattle.grid_asked.specs.Reply.{ofGrid, ofCell, ofIndex, made}
+use Rattle.grid.specs.Reply.{ofGrid, ofCell, ofIndex, made}
 use Rattle.c_records.specs.C as C
 use Rattle.c_records.specs.C.{gridIn, cellIn, countsIn, pointIn}
 use Rattle.c_records.specs.declared.SdfGrid.{SdfGrid}

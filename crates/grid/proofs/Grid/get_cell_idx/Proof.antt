@@ -1,24 +1,17 @@
--- `Grid::get_cell_idx`: each product and each sum on the way is a part of the index, which is below 1,048,576 (`parts-fit`).
--- Assumes nothing.
-use mathlib.Core.Path.{refl}
-use Rattle.grid.specs.Axes.{countOn}
-use Rattle.point.specs.declared.Axis.the-variants.{Y, Z}
-use Rattle.grid.specs.Index.{index}
-use Rattle.grid.proofs.Facts.{Parts, parts-fit}
+-- `Grid::get_cell_idx`: refused by the test of the grid, then by that of the cell, else what the part gives. Assumes nothing.
+use Rattle.grid.proofs.Facts.{fails, passes, inside-of}
 use Rattle.grid.proofs.Grid.get_cell_idx.Statement.{statement}
 use Rattle.grid.proofs.Grid.get_cell_idx.Tie as tie
 
-parts : (c : tie.Start) → Parts (countOn Y (c .args .self)) (countOn Z (c .args .self)) (c .args .cell)
-parts c = parts-fit (c .args .self) (c .args .cell) (c .pre .0) (c .pre .1)
-
 pub get-cell-idx-spec : {M : Type 1} → statement M
-unfolding index
 get-cell-idx-spec =
     tie.close
     (tie.spec
-    (λ c. record { fits = parts (c .before .before) .y-nz })
-    (λ c. record { fits = parts (c .before .before .before) .z-y })
-    (λ c. record { fits = parts (c .before .before .before .before .before) .x-ny })
-    (λ c. record { fits = parts (c .before .before .before .before .before .before) .x-ny-nz })
-    (λ c. record { fits = parts (c .before .before .before .before .before .before) .whole })
-    (λ c. refl))
+    (λ c κs. tt)
+    (λ c. rw (fails (c .before .in-bounds .ensures) (c .if1 .taken)))
+    (λ c κs. tt)
+    (λ c. rw (passes (c .before .before .before .in-bounds .ensures) (c .before .before .if1 .left), fails (c .before .is-cell .ensures) (c .if2 .taken)))
+    (λ c κs.
+    let s = c .before .before .before .before .args in
+    (passes (c .before .before .before .in-bounds .ensures) (c .before .before .if1 .left), inside-of (s .self) (s .cell) (passes (c .before .is-cell .ensures) (c .if2 .left))))
+    (λ c. rw (passes (c .before .before .before .before .in-bounds .ensures) (c .before .before .before .if1 .left), passes (c .before .before .is-cell .ensures) (c .before .if2 .left), c .get-cell-idx .ensures)))

@@ -1,23 +1,15 @@
--- `Grid::get_cell_integer_coordinates`: the counts are above 0 and their products fit. Assumes nothing.
-use mathlib.Core.Path.{refl}
-use native.Mathlib.Nat.{mul-pos}
-use native.Mathlib.Omega.{arith}
-use Rattle.grid.specs.Index.{coordinates}
-use Rattle.grid.proofs.Facts.{Bounds, bounds-of, counts-fit}
+-- `Grid::get_cell_integer_coordinates`: refused by the test of the grid, then by that of the index, else what the part gives. Assumes nothing.
+use Rattle.grid.proofs.Facts.{fails, passes}
 use Rattle.grid.proofs.Grid.get_cell_integer_coordinates.Statement.{statement}
 use Rattle.grid.proofs.Grid.get_cell_integer_coordinates.Tie as tie
 
-bound : (c : tie.Start) → Bounds (c .args .self)
-bound c = bounds-of (c .args .self) (c .pre)
-
 pub get-cell-integer-coordinates-spec : {M : Type 1} → statement M
-unfolding coordinates
 get-cell-integer-coordinates-spec =
     tie.close
     (tie.spec
-    (λ c. let b = bound (c .before) in record { fits = counts-fit _ _ _ (b .on-y .few) (b .on-z .few) (b .on-x .few) .0 })
-    (λ c. let b = bound (c .before) in mul-pos (b .on-y .some) (b .on-z .some))
-    (λ c. let b = bound (c .before .before) in omega arith)
-    (λ c. let b = bound (c .before .before .before) in omega arith)
-    (λ c. let b = bound (c .before .before .before .before) in omega arith)
-    (λ c. refl))
+    (λ c κs. tt)
+    (λ c. rw (fails (c .before .in-bounds .ensures) (c .if1 .taken)))
+    (λ c κs. passes (c .before .in-bounds .ensures) (c .if1 .left))
+    (λ c. rw (passes (c .before .before .before .in-bounds .ensures) (c .before .before .if1 .left), fails (c .before .is-index .ensures) (c .if2 .taken)))
+    (λ c κs. passes (c .before .before .before .in-bounds .ensures) (c .before .before .if1 .left))
+    (λ c. rw (passes (c .before .before .before .before .in-bounds .ensures) (c .before .before .before .if1 .left), passes (c .before .before .is-index .ensures) (c .before .if2 .left), c .get-cell-integer-coordinates .ensures)))

@@ -5,27 +5,27 @@ use mathlib.Core.List.{List, [], _∷_}
 use Prim.Native.Nat.{ℕ}
 use Rattle.float.specs.Arith.{if_then_else_}
 use Rattle.point.specs.declared.Point.{Point}
 use Rattle.grid.specs.declared.Grid.{Grid}
 use Rattle.grid.specs.declared.Cell.{Cell}
 use Rattle.grid.specs.declared.Counts.{Counts}
 use Rattle.grid.specs.declared.BoundingBox.{BoundingBox}
 use Rattle.grid.specs.declared.SnapResult.{SnapResult}
-use Rattle.grid_asked.specs.declared.NumberAnswer.{NumberAnswer}
-use Rattle.grid_asked.specs.declared.NumberAnswer.the-variants as Number
-use Rattle.grid_asked.specs.declared.CellAnswer.{CellAnswer}
-use Rattle.grid_asked.specs.declared.CellAnswer.the-variants as CellOf
-use Rattle.grid_asked.specs.declared.PointAnswer.{PointAnswer}
-use Rattle.grid_asked.specs.declared.PointAnswer.the-variants as PointOf
-use Rattle.grid_asked.specs.declared.CountsAnswer.{CountsAnswer}
-use Rattle.grid_asked.specs.declared.CountsAnswer.the-variants as CountsOf
-use Rattle.grid_asked.specs.declared.BoxAnswer.{BoxAnswer}
-use Rattle.grid_asked.specs.declared.BoxAnswer.the-variants as BoxOf
-use Rattle.grid_asked.specs.declared.SnapAnswer.{SnapAnswer}
-use Rattle.grid_asked.specs.declared.SnapAnswer.the-variants as SnapOf
-use Rattle.grid_asked.specs.declared.GridAnswer.{GridAnswer}
-use Rattle.grid_asked.specs.declared.GridAnswer.the-variants as GridOf
+use Rattle.grid.specs.declared.NumberAnswer.{NumberAnswer}
+use Rattle.grid.specs.declared.NumberAnswer.the-variants as Number
+use Rattle.grid.specs.declared.CellAnswer.{CellAnswer}
+use Rattle.grid.specs.declared.CellAnswer.the-variants as CellOf
+use Rattle.grid.specs.declared.PointAnswer.{PointAnswer}
+use Rattle.grid.specs.declared.PointAnswer.the-variants as PointOf
+use Rattle.grid.specs.declared.CountsAnswer.{CountsAnswer}
+use Rattle.grid.specs.declared.CountsAnswer.the-variants as CountsOf
+use Rattle.grid.specs.declared.BoxAnswer.{BoxAnswer}
+use Rattle.grid.specs.declared.BoxAnswer.the-variants as BoxOf
+use Rattle.grid.specs.declared.SnapAnswer.{SnapAnswer}
+use Rattle.grid.specs.declared.SnapAnswer.the-variants as SnapOf
+use Rattle.grid.specs.declared.GridAnswer.{GridAnswer}
+use Rattle.grid.specs.declared.GridAnswer.the-variants as GridOf
 use Rattle.grid.specs.Index.{isCell, isIndex}
 use Rattle.grid.specs.Bounds.{inBounds}
 
 -- a reply: the paper's number, or what was asked for
 pub data Reply (A : Type 0) : Type 0 where
