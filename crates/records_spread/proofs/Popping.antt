@@ -26,9 +26,6 @@ use Rattle.gathering.specs.Gathered.{Offered}
 use Rattle.entries.proofs.Projections.{long-row}
 use Rattle.records.specs.Records.{waitingIn, stateIn, poppedBy, HoldsRow, ToldRow, OneOf, QueuedAll}
 
-pub same-row : (row row₀ : List Entry) → length (distances row) ≡ length (distances row₀) → length row ≡ length row₀
-same-row row row₀ e = sym (long-row row) ∙ e ∙ long-row row₀
-
 module _ (g : Grid) (m : Mesh) (field : List Float) (names : List ℕ) (row : List Entry) (p : Progress) (h : HoldsRow g m field names row (p .waiting))
     (e : Entry) (row₁ : List Entry) (t : TakenRow (orderIn m) e row row₁ (p .waiting)) (l₁ : length row₁ ≡ length row) where
   -- the entry that is taken is known
@@ -118,11 +115,7 @@ module _ (g : Grid) (m : Mesh) (limit : ℕ) (field₀ : List Float) (names₀ :
         pop : ToldRow g m (λ G s. takeFirst G goes (s .waiting) s) field names row p field′ names′ row′ r
         pop = pop-is g m field names row p (a .holds) e row₁ took l₁ field′ names′ b row′ r fl nl o (subst (λ (x : Progress). QueuedAll (orderIn m) b row₁ x row′ r) was w)
 
-        pub ends-stopped : (r .number ≡ 0 → ⊥) → ToldRow g m (λ G. spreading G limit) field₀ names₀ row₀ r₀ field′ names′ row′ r
-        ends-stopped y = spread-stops a some pop fewer y
-
-        pub spreads-on : length row′ ≡ length row₁ → r .number ≡ 0 → SpreadsRow g m limit field₀ names₀ row₀ r₀ field′ names′ row′ r
-        spreads-on l y = spread-on a some pop fewer (long-row row′ ∙ l ∙ l₁ ∙ sym (long-row row)) y
-
-        pub pop-counted : r .number ≡ 0 → (r .pops ≡ p .pops + 1) × (p .pops < limit)
-        pop-counted y = (counted a some pop y, fewer)
+        -- the pop ends the run, or one more pop is counted
+        pub after-pop : length row′ ≡ length row₁ → ((r .number ≡ 0 → ⊥) → ToldRow g m (λ G. spreading G limit) field₀ names₀ row₀ r₀ field′ names′ row′ r)
+            × (r .number ≡ 0 → SpreadsRow g m limit field₀ names₀ row₀ r₀ field′ names′ row′ r × (r .pops ≡ p .pops + 1) × (p .pops < limit))
+        after-pop l = (spread-stops a some pop fewer, λ y. (spread-on a some pop fewer (long-row row′ ∙ l ∙ l₁ ∙ sym (long-row row)) y, counted a some pop y, fewer))

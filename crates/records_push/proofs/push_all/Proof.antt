@@ -96,8 +96,10 @@ module _ {M : Type 1} (𝓤 : URA M) (H : Heap 𝓤) (A : Atoms 𝓤) (W : Given
           (asking (to-push q (waiting-of W p) (record { it = entryIn (b .it) (j .it); is = e-is })) _ (pre .0, facts .1 .held, omega (arith, had-room (length (row .ref .now)) (p .it) (fine is (is-zero (p′ .it .number) c)), w .1))
           (λ n. met .2 (bound-to (to-push q (waiting-of W p) (record { it = entryIn (b .it) (j .it); is = e-is })) n))) refl refl (tt, refl) (λ _ us l in-it.
           puts-last ! (bin ! (opd ! refl) (opd ! refl) (record { fits = next h })) tt (tt, record { fits = next h }) $ keeps-first ! 10 tt $
-          again-at ! At Facts t (b .it .count - (j .it + 1)) (us .0, l .0 ∙ w .1, p′, record { it = j .it + 1; is = (refl, next h) }) (omega (arith, below h, facts .0)) (omega (arith, below h),
-          subst (λ (r : Progress). Pushing order (b .it) (row .ref .now) (begin .it) (us .0) r (j .it + 1)) (sym (came is)) (push-on order (b .it) (row .ref .now) (begin .it) (w .0) (p .it) (j .it) (facts .1) (below h) (us .0) (fine is (is-zero (p′ .it .number) c)) (l .0) in-it))))))) (λ h.
+          again-at ! At Facts t (b .it .count - (j .it + 1)) (us .0, l .0 ∙ w .1, p′, record { it = j .it + 1; is = (refl, next h) }) (omega (arith, below h, facts .0)) (
+            omega (arith, below h),
+            subst (λ (r : Progress). Pushing order (b .it) (row .ref .now) (begin .it) (us .0) r (j .it + 1)) (sym (came is)) (push-on order (b .it) (row .ref .now) (begin .it) (w .0) (p .it) (j .it) (facts .1) (below h) (us .0) (fine is (is-zero (p′ .it .number) c)) (l .0) in-it),
+          )))))) (λ h.
           exec ! (𝓣 .C) (𝓣 .Λ) En f.Code.Mir.t-4 (atRet En Post) $ keeps-first ! 10 tt $
           leaves w (push-ends order (b .it) (row .ref .now) (begin .it) (w .0) (p .it) (j .it) (facts .1) (omega (arith, nltb→le (j .it) (b .it .count) h, facts .0))))
         where
