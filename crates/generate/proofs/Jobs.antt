@@ -6,6 +6,7 @@ use Rattle.checks.specs.Refusals.{refusal}
 use Rattle.outcome.specs.declared.Answer.{Answer}
 use Rattle.outcome.specs.declared.Answer.the-variants.{Refused}
 use Rattle.outcome.specs.Outcome.{Gives, ended, runOf, unlessRefused, outcome}
+use Rattle.outcome.proofs.Outcomes.{gives}
 
 pub gives-unchanged : (j : Job) (b : Lent) (n : ℕ) → n ≡ refusal j b → (n ≡ 0 → ⊥) → Gives (outcome j b) (Refused n) b
 unfolding outcome unlessRefused
@@ -13,7 +14,7 @@ gives-unchanged j b n e z = subst (λ (k : ℕ). Gives (unlessRefused k b (ended
   where
     go : (k : ℕ) → (k ≡ 0 → ⊥) → Gives (unlessRefused k b (ended j b (runOf j b))) (Refused k) b
     go zero w = absurd (w refl)
-    go (suc k) w = record { answers = refl; leaves = refl }
+    go (suc k) w = gives refl refl
 
 pub gives-outcome : (j : Job) (b : Lent) {r : Answer} {left : Lent} → refusal j b ≡ 0 → Gives (ended j b (runOf j b)) r left → Gives (outcome j b) r left
 unfolding outcome unlessRefused

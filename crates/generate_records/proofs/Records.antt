@@ -29,7 +29,7 @@ use Rattle.outcome.specs.declared.Answer.{Answer}
 use Rattle.outcome.specs.declared.Answer.the-variants.{Refused}
 use Rattle.outcome.specs.Outcome.{Gives, outcome}
 use Rattle.outcome.specs.Finished.{Long, Closed}
-use Rattle.outcome.proofs.Outcomes.{gives-refused, gives-done, gives-run}
+use Rattle.outcome.proofs.Outcomes.{gives, gives-refused, gives-done, gives-run}
 use Rattle.generate.proofs.Jobs.{gives-unchanged, gives-outcome}
 use Rattle.generate_records.specs.LentRow.{lentRow}
 
@@ -60,10 +60,7 @@ module _ (g : Grid) (m : Mesh) (limit : ℕ) (field : List Float) (names crossin
     refused-first answer e z =
         let same = s .unchanged z in
         let given = gives-unchanged job lent (begun .refused) first z in
-        record {
-          answers = e ∙ given .answers;
-          leaves = (λ i. lentRow (same .0 i) (same .1 i) crossings rows queue) ∙ given .leaves;
-        }
+        gives (e ∙ given .answers) ((λ i. lentRow (same .0 i) (same .1 i) crossings rows queue) ∙ given .leaves)
 
     module _ (z : begun .refused ≡ 0) where
       none-refused : refusal job lent ≡ 0

@@ -6,11 +6,14 @@ use mathlib.Core.List.{List}
 use lib.ListN.{length, length-map}
 use lib.Ieee.{Float}
 use Rattle.queue.specs.declared.Entry.{Entry}
+use Rattle.queue.specs.Queue.{entries}
+use Rattle.entries.specs.Row.{distances, cells, triangles}
+use Rattle.entries.proofs.Projections.{row-entries}
 use Rattle.checks.specs.Job.{Job, Lent, lentOf}
 use Rattle.checks.specs.Refusals.{refusal, refusalBy, lengthsOf}
 use Rattle.outcome.specs.declared.Answer.{Answer}
 use Rattle.outcome.specs.Outcome.{Outcome, Gives, ended, runOf, unlessRefused, outcome}
-use Rattle.outcome.proofs.Outcomes.{same-ended, same-run}
+use Rattle.outcome.proofs.Outcomes.{same-ended, same-run, one-outcome}
 use Rattle.clearing.proofs.Lengths.{lengths-same}
 use Rattle.generate_records.specs.LentRow.{lentRow}
 
@@ -67,3 +70,21 @@ same-job j field names crossings rows queue ds cs ts d c t answer answer′ left
     let same = same-outcome j b flat (record { field = refl; names = refl; crossings = refl; rows = refl })
     (lengths-same b flat refl refl refl refl (length-map queue (λ (e : Entry). e .distance) ∙ sym d) (length-map queue (λ (e : Entry). e .cell) ∙ sym c) (length-map queue (λ (e : Entry). e .triangle) ∙ sym t)) in
     (p .answers ∙ same .answer ∙ sym (q .answers), joined (p .leaves) (same .left) (q .leaves))
+
+-- ---- "One call has one possible outcome"
+
+-- a row is told by its three projections
+one-row : (p q : List Entry) → distances p ≡ distances q → cells p ≡ cells q → triangles p ≡ triangles q → p ≡ q
+one-row p q d c t = sym (row-entries p) ∙ (λ i. entries (d i) (c i) (t i)) ∙ row-entries q
+
+-- two calls over a row that come to one outcome agree in the answer, in the other buffers and in the row itself
+pub one-outcome-row : {o : Outcome} {answer answer′ : Answer} (field field′ : List Float) (names names′ crossings crossings′ rows rows′ : List ℕ) (queue queue′ : List Entry)
+    → Gives o answer (lentRow field names crossings rows queue) → Gives o answer′ (lentRow field′ names′ crossings′ rows′ queue′)
+    → (answer ≡ answer′) × Alike (lentRow field names crossings rows queue) (lentRow field′ names′ crossings′ rows′ queue′) × (queue ≡ queue′)
+one-outcome-row field field′ names names′ crossings crossings′ rows rows′ queue queue′ p q =
+    let one = one-outcome p q in
+    let e = one .1 in (
+      one .0,
+      alike _ _ e,
+      one-row queue queue′ (ap (λ (l : Lent). l .distances) e) (ap (λ (l : Lent). l .cells) e) (ap (λ (l : Lent). l .triangles) e),
+    )

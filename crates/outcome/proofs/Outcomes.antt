@@ -22,8 +22,12 @@ use Rattle.clearing.specs.Cleared.{cleared}
 use Rattle.clearing.proofs.Lengths.{all-cleared, same-cleared, cleared-long}
 use Rattle.outcome.specs.declared.Answer.{Answer}
 use Rattle.outcome.specs.declared.Answer.the-variants.{Refused, Done}
-use Rattle.outcome.specs.Outcome.{Outcome, Gives, filled, ended, runOf}
+use Rattle.outcome.specs.Outcome.{Outcome, numberOf, popsOf, peakOf, Gives, filled, ended, runOf}
 use Rattle.outcome.specs.Finished.{Closed}
+
+-- equal answers have one number, pops and peak
+pub gives : {o : Outcome} {answer : Answer} {left : Lent} → answer ≡ o .answer → left ≡ o .left → Gives o answer left
+gives e l = record { answers = e; number = ap numberOf e; pops = ap popsOf e; peak = ap peakOf e; leaves = l }
 
 -- ---- what follows the run
 
@@ -40,7 +44,7 @@ module _ (g : Grid) (m : Mesh) (limit : ℕ) (field : List Float) (names crossin
   unfolding ended
   gives-refused z q =
       rw (told-refuses (p .number) (stateOf (orderIn m) field names ds cs ts p) z)
-      (record { answers = closed .refused z .0; leaves = all-cleared field names crossings layers ds cs ts (closed .refused z .1) q })
+      (gives (closed .refused z .0) (all-cleared field names crossings layers ds cs ts (closed .refused z .1) q))
 
   pub gives-done : p .number ≡ 0 → Ran g m field names ds cs ts p
       → Gives (comesTo g m limit field names crossings layers ds cs ts p) r (lentOf field′ names′ crossings′ layers′ ds cs ts)
@@ -50,10 +54,7 @@ module _ (g : Grid) (m : Mesh) (limit : ℕ) (field : List Float) (names crossin
       let q = left-zero ds cs ts h in
       let d = closed .done z in
       rw (told-goes (p .number) (stateOf (orderIn m) field names ds cs ts p) z)
-      (record {
-        answers = d .0;
-        leaves = λ i. lentOf (d .2 .field i) (d .1 i) (d .2 .crossings i) (d .2 .rows i) (q .0 i) (q .1 i) (q .2 i);
-      })
+      (gives (d .0) (λ i. lentOf (d .2 .field i) (d .1 i) (d .2 .crossings i) (d .2 .rows i) (q .0 i) (q .1 i) (q .2 i)))
 
 -- ---- the same of buffers of the same lengths
 

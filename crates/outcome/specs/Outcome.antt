@@ -52,11 +52,6 @@ unlessRefused (suc n) b o = unchanged (suc n) b
 unfoldable pub outcome : Job → Lent → Outcome
 outcome j b = unlessRefused (refusal j b) b (ended j b (runOf j b))
 
--- what a call promises: its answer, and what it leaves in each lent buffer, are those of the outcome
-pub record Gives (o : Outcome) (answer : Answer) (left : Lent) : Type 0 where
-  pub answers : answer ≡ o .answer
-  pub leaves : left ≡ o .left
-
 -- ---- document 01's number and values for each case of the answer
 
 abbrev pub numberOf : Answer → ℕ
@@ -71,3 +66,13 @@ popsOf (Done pops peak) = pops
 abbrev pub peakOf : Answer → ℕ
 peakOf (Refused n) = 0
 peakOf (Done pops peak) = peak
+
+-- ---- what a call promises
+
+-- its answer, by number, pops and peak, and what it leaves in each lent buffer are those of the outcome
+pub record Gives (o : Outcome) (answer : Answer) (left : Lent) : Type 0 where
+  pub answers : answer ≡ o .answer
+  pub number : numberOf answer ≡ numberOf (o .answer)
+  pub pops : popsOf answer ≡ popsOf (o .answer)
+  pub peak : peakOf answer ≡ peakOf (o .answer)
+  pub leaves : left ≡ o .left
