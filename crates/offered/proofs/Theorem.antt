@@ -3,9 +3,7 @@
 use Prim.Native.Nat.{ℕ, zero, suc, _≤_, _<_}
 use native.Mathlib.Omega.{arith}
 use mathlib.Core.Path.{_≡_, refl, sym, _∙_}
-use mathlib.Core.Bool.{Bool, true, false, cond}
 use lib.ListN.{length}
-use borrow.Author.Tests.{ltb-false, not-false}
 use Rattle.lists.specs.Turns.{Turn, goes, refuses}
 use Rattle.point.specs.declared.Axis.{Axis}
 use Rattle.grid.specs.Axes.{countOn}
@@ -15,7 +13,8 @@ use Rattle.run.specs.Run.{State, none}
 use Rattle.outcome.specs.declared.Answer.{Answer}
 use Rattle.outcome.specs.declared.Answer.the-variants.{Refused, Done}
 use Rattle.checks.specs.Job.{Job, Lent}
-use Rattle.checks.specs.Refusals.{wrongGrid, wrongVertices, wrongTriangles, refusal, refusalBy}
+use Rattle.checks.specs.Refusals.{refusal, lengthsOf}
+use Rattle.checks.proofs.Accepted.{accepted}
 use Rattle.outcome.specs.Outcome.{filled, ended, runOf, unlessRefused, outcome}
 use Rattle.offered.specs.Demand3.{Demand3, AfterCall}
 use Rattle.offered.proofs.Cells.{run-means}
@@ -45,23 +44,16 @@ done-ended j b pops peak h = check (refusal j b) refl h
 
 -- ---- what the checks have shown
 
-first-passed : (t : Bool) (n rest : ℕ) → cond t (suc n) rest ≡ 0 → (t ≡ false) × (rest ≡ 0)
-first-passed true n rest e = absurd (omega arith)
-first-passed false n rest e = (refl, e)
-
 pub record Passed (j : Job) : Type 0 where
   pub some : (a : Axis) → 0 < countOn a (j .grid)
   pub few : length (trianglesIn (j .mesh)) ≤ none
 
 checks-passed : (j : Job) (b : Lent) → refusal j b ≡ 0 → Passed j
-unfolding refusalBy
 checks-passed j b h =
-    let one = first-passed (wrongGrid (j .grid)) 0 _ h in
-    let two = first-passed (wrongVertices (j .mesh .vertices)) 1 _ (one .1) in
-    let three = first-passed (wrongTriangles (j .mesh)) 2 _ (two .1) in
+    let fit = accepted (j .grid) (j .mesh) (lengthsOf b) h .fit in
     record {
-      some = λ a. on-axis (bounds-of (j .grid) (not-false _ (one .0))) a .some;
-      few = omega (arith, ltb-false 131072 (length (trianglesIn (j .mesh))) (three .0));
+      some = λ a. on-axis (bounds-of (j .grid) (fit .ready .bounded)) a .some;
+      few = omega (arith, fit .few);
     }
 
 -- ---- the theorem
