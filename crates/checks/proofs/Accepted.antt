@@ -1,14 +1,14 @@
 -- What a job that no number below 6 refuses is known to be. Each test of the list that did not apply is a fact. Assumes nothing.
 use mathlib.Core.Path.{_≡_, refl}
 use mathlib.Core.Bool.{Bool, true, false, not, _||_, true≢false}
-use mathlib.Core.List.{List, [], _∷_}
-use Prim.Native.Nat.{ℕ, _*_, _%_, _≤_, _<_}
+use mathlib.Core.List.{List}
+use Prim.Native.Nat.{ℕ, _*_, _%_, _≤_}
 use native.Mathlib.Omega.{arith}
-use lib.Dec.{ltb, eqb, lit≤}
+use lib.Dec.{ltb, eqb}
 use lib.ListN.{length}
 use lib.Ieee.{Float}
 use borrow.Author.Tests.{ltb-false, eqb-true, not-false}
-use Rattle.float.specs.Arith.{if_then_else_}
+use Rattle.lists.proofs.Checks.{Numbered, none-applies}
 use Rattle.point.specs.declared.Axis.the-variants.{Z}
 use Rattle.grid.specs.declared.Grid.{Grid}
 use Rattle.grid.specs.Axes.{countOn}
@@ -18,7 +18,7 @@ use Rattle.mesh.specs.Mesh.{Mesh, vertexCount, trianglesIn}
 use Rattle.topology.specs.Refusals.{allBelowCount}
 use Rattle.told.specs.Told.{Fit}
 use Rattle.checks.specs.declared.Lengths.{Lengths}
-use Rattle.checks.specs.Refusals.{allCoordinates, wrongGrid, wrongVertices, wrongTriangles, wrongIndices, wrongLengths, Check, checks, firstOf, refusalBy}
+use Rattle.checks.specs.Refusals.{allCoordinates, wrongGrid, wrongVertices, wrongTriangles, wrongIndices, wrongLengths, checks, refusalBy}
 
 neither : (a b : Bool) → (a || b) ≡ false → (a ≡ false) × (b ≡ false)
 neither true b h = absurd (true≢false h)
@@ -71,31 +71,15 @@ pub record Accepted (g : Grid) (m : Mesh) (l : Lengths) : Type 0 where
   pub fit : Fit g m
   pub long : Fits g l
 
--- no check has the number 0; none of them applies
-abbrev Numbered : List Check → Type 0
-Numbered [] = Unit {0}
-Numbered (c ∷ cs) = (0 < c .number) × Numbered cs
-
-abbrev NoneApplies : List Check → Type 0
-NoneApplies [] = Unit {0}
-NoneApplies (c ∷ cs) = (c .applies ≡ false) × NoneApplies cs
-
--- a check that does not apply, and what the later ones come to
-passed : (b : Bool) (n : ℕ) {rest : ℕ} → 0 < n → (if b then n else rest) ≡ 0 → (b ≡ false) × (rest ≡ 0)
-passed true n p h = absurd (omega arith)
-passed false n p h = (refl, h)
-
-none-applies : (cs : List Check) → Numbered cs → firstOf cs ≡ 0 → NoneApplies cs
-none-applies [] n h = tt
-none-applies (c ∷ cs) n h =
-    let p = passed (c .applies) (c .number) (n .0) h in
-    (p .0, none-applies cs (n .1) (p .1))
+-- no check has the number 0
+numbered : (g : Grid) (m : Mesh) (l : Lengths) → Numbered (checks g m l)
+numbered g m l = omega arith
 
 -- each fact is found among the checks, wherever it stands in the list
 pub accepted : (g : Grid) (m : Mesh) (l : Lengths) → refusalBy g m l ≡ 0 → Accepted g m l
 unfolding refusalBy
 accepted g m l h =
-    let p = none-applies (checks g m l) (lit≤ tt, (lit≤ tt, (lit≤ tt, (lit≤ tt, (lit≤ tt, tt))))) h in
+    let p = none-applies (checks g m l) (numbered g m l) h in
     let grid-right : wrongGrid g ≡ false = search p in
     let vertices-right : wrongVertices (m .vertices) ≡ false = search p in
     let triangles-right : wrongTriangles m ≡ false = search p in

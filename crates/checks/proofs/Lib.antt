@@ -1,3 +1,3 @@
 -- Laws that the crates above cite.
 pub mod Accepted
-pub mod Given
+mod Groups

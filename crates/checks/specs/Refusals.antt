@@ -2,12 +2,12 @@
 -- that are checked before the run. Definitions only.
 use Prim.Native.Nat.{ℕ, _*_, _%_}
 use mathlib.Core.Bool.{Bool, not, _||_}
-use mathlib.Core.List.{List, [], _∷_, map}
+use mathlib.Core.List.{List, [], _∷_, _++_}
 use lib.Dec.{ltb, eqb}
 use lib.ListN.{length}
 use lib.Ieee.{Float}
-use Rattle.float.specs.Arith.{if_then_else_}
 use Rattle.lists.specs.Every.{every}
+use Rattle.lists.specs.Checks.{Check, firstOf}
 use Rattle.point.specs.declared.Axis.the-variants.{Z}
 use Rattle.grid.specs.declared.Grid.{Grid}
 use Rattle.grid.specs.Axes.{countOn}
@@ -63,28 +63,25 @@ lengthsOf b =
       triangles = length (b .triangles);
     }
 
--- a number, and whether it applies
-pub record Check : Type 0 where
-  pub applies : Bool
-  pub number : ℕ
+-- the checks of the grid, of the mesh, and of the lent buffers
+abbrev pub gridChecks : Grid → List Check
+gridChecks g = record { applies = wrongGrid g; number = 1 } ∷ []
 
-abbrev pub checks : Grid → Mesh → Lengths → List Check
-checks g m l =
-    record { applies = wrongGrid g; number = 1 } ∷
+abbrev pub meshChecks : Mesh → List Check
+meshChecks m =
     record { applies = wrongVertices (m .vertices); number = 2 } ∷
     record { applies = wrongTriangles m; number = 3 } ∷
     record { applies = wrongIndices m; number = 4 } ∷
-    record { applies = wrongLengths g l; number = 5 } ∷
     []
 
-abbrev pub numbersOf : List Check → List ℕ
-numbersOf cs = map (λ c. c .number) cs
+abbrev pub lengthChecks : Grid → Lengths → List Check
+lengthChecks g l = record { applies = wrongLengths g l; number = 5 } ∷ []
 
--- the first that applies, and 0 where none does
-abbrev pub firstOf : List Check → ℕ
-firstOf [] = 0
-firstOf (c ∷ cs) = if c .applies then c .number else firstOf cs
+-- "checked in this order"
+abbrev pub checks : Grid → Mesh → Lengths → List Check
+checks g m l = gridChecks g ++ meshChecks m ++ lengthChecks g l
 
+-- "the first that applies is given", and 0 where none does
 unfoldable pub refusalBy : Grid → Mesh → Lengths → ℕ
 refusalBy g m l = firstOf (checks g m l)
 

@@ -7,7 +7,8 @@ ghost use lib.ListN.{length};
 ghost use Rattle.grid_axis.specs.AxisBounds.{isCoordinate};
 ghost use Rattle.grid.specs.Bounds.{inBounds};
 ghost use Rattle.mesh.specs.Mesh.{meshOf};
-ghost use Rattle.checks.specs.Refusals.{allCoordinates, wrongVertices, wrongLengths, refusalBy};
+ghost use Rattle.lists.specs.Checks.{firstOf};
+ghost use Rattle.checks.specs.Refusals.{allCoordinates, wrongVertices, wrongLengths, gridChecks, meshChecks, lengthChecks, refusalBy};
 use grid::Grid;
 use topology::Indices;
 use topology::Topology;
@@ -71,21 +72,21 @@ fn wrong_lengths(grid: Grid, l: Lengths) -> bool
         | (l.triangles != kept)
 }
 
-// The first of the numbers 1 to 5 that applies, and 0 where none does.
-pub fn first_refusal(
-    grid: Grid,
-    vertices: &[f32],
-    topology: Topology,
-    given: Indices,
-    indices: &[u32],
-    l: Lengths,
-) -> u32
-    ensures { λ r. ⌜ r ≡ refusalBy grid (meshOf (now (vertices .entry)) topology given (now (indices .entry))) l ⌝ }
+// 1 where the grid is out of bounds, and 0 where it is not.
+fn grid_refusal(grid: Grid) -> u32
+    ensures { λ r. ⌜ r ≡ firstOf (gridChecks grid) ⌝ }
 {
     let bounded = grid.in_bounds();
     if !bounded {
         return 1;
     }
+    0
+}
+
+// The first of 2, 3 and 4 that applies to the mesh, and 0 where none does.
+fn mesh_refusal(vertices: &[f32], topology: Topology, given: Indices, indices: &[u32]) -> u32
+    ensures { λ r. ⌜ r ≡ firstOf (meshChecks (meshOf (now (vertices .entry)) topology given (now (indices .entry)))) ⌝ }
+{
     let wrong = wrong_vertices(vertices);
     if wrong {
         return 2;
@@ -99,9 +100,39 @@ pub fn first_refusal(
     if !known {
         return 4;
     }
-    let other = wrong_lengths(grid, l);
-    if other {
+    0
+}
+
+// 5 where a lent buffer has a wrong length, and 0 where none has.
+fn length_refusal(grid: Grid, l: Lengths) -> u32
+    requires { ⌜ inBounds grid ≡ true ⌝ }
+    ensures { λ r. ⌜ r ≡ firstOf (lengthChecks grid l) ⌝ }
+{
+    let wrong = wrong_lengths(grid, l);
+    if wrong {
         return 5;
     }
     0
+}
+
+// The first of the numbers 1 to 5 that applies, and 0 where none does.
+pub fn first_refusal(
+    grid: Grid,
+    vertices: &[f32],
+    topology: Topology,
+    given: Indices,
+    indices: &[u32],
+    l: Lengths,
+) -> u32
+    ensures { λ r. ⌜ r ≡ refusalBy grid (meshOf (now (vertices .entry)) topology given (now (indices .entry))) l ⌝ }
+{
+    let by_grid = grid_refusal(grid);
+    if by_grid != 0 {
+        return by_grid;
+    }
+    let by_mesh = mesh_refusal(vertices, topology, given, indices);
+    if by_mesh != 0 {
+        return by_mesh;
+    }
+    length_refusal(grid, l)
 }

@@ -31,21 +31,27 @@ T1 = vec four f0 f0
 abbrev T2 : Point
 T2 = vec f0 four f0
 
--- a float by its bit pattern, and a miss by 0, which is no hit's pattern
+-- a float by its bit pattern
 abbrev bits : Float → ℕ
 bits x = toBits binary32 x
 
-abbrev rayBits : RayHit → ℕ
-rayBits Miss = 0
-rayBits (Hit t) = bits t
+-- a ray's answer by two numbers: 1 for a hit and 0 for a miss, and the bit pattern of where it hits
+abbrev isHit : RayHit → ℕ
+isHit Miss = 0
+isHit (Hit t) = 1
+
+abbrev hitBits : RayHit → ℕ
+hitBits Miss = 0
+hitBits (Hit t) = bits t
 
 unfoldable pub geoCases : List Case
 unfolding ofBits toBits neg add sub mul div lt le eq rootOf facetOf closestOn dotsOf nearest squaredOn rayX rayAligned
 geoCases =
     (bits (distance (vec f1 f1 f1) T0 T1 T2) gives 0x3f80_0000)
-    ∷ (rayBits (rayAligned (vec f1 f1 minusOne) T0 T1 T2 Z) gives 0x3f80_0000)
+    ∷ (isHit (rayAligned (vec f1 f1 minusOne) T0 T1 T2 Z) gives 1)
+    ∷ (hitBits (rayAligned (vec f1 f1 minusOne) T0 T1 T2 Z) gives 0x3f80_0000)
     ∷ (bits (weightsX (turned Z (vec f0 f1 minusOne)) (turned Z T0) (turned Z T1) (turned Z T2) .v1) gives 0)
-    ∷ (rayBits (rayAligned (vec f0 f1 minusOne) T0 T1 T2 Z) gives 0)
+    ∷ (isHit (rayAligned (vec f0 f1 minusOne) T0 T1 T2 Z) gives 0)
     ∷ (bits (reachX (turned Z (vec f1 f1 f0)) (turned Z T0) (turned Z T1) (turned Z T2)) gives 0x8000_0000)
-    ∷ (rayBits (rayAligned (vec f1 f1 f0) T0 T1 T2 Z) gives 0)
+    ∷ (isHit (rayAligned (vec f1 f1 f0) T0 T1 T2 Z) gives 0)
     ∷ []

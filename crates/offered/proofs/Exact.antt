@@ -18,9 +18,10 @@ use Rattle.grid.specs.Index.{indexOf, cellAt, total, Inside}
 use Rattle.grid.proofs.Laws.{index-of-cell, index-injective, index-below, cell-within}
 use Rattle.queue.specs.declared.Entry.{Entry}
 use Rattle.run.specs.Run.{Ground, at, State, Box, named, seeding, taken, spreadAround}
+use Rattle.run.specs.Good.{Waits, Good}
 use Rattle.run.specs.Steps.{stepAt, aroundCell}
 use Rattle.run.proofs.Values.{Fair}
-use Rattle.run.proofs.Waiting.{Good, good-taken, Waits}
+use Rattle.run.proofs.Waiting.{good-taken}
 use Rattle.run.proofs.Seeding.{InBox, InBoxOf, seeding-boxed}
 use Rattle.run.proofs.Spreading.{turnOf, first-lead, turn-new}
 use Rattle.run.proofs.Steps.{Moved, around-lands, Close, shifted-close}

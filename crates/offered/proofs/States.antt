@@ -11,9 +11,10 @@ use Rattle.lists.specs.Turns.{goes, turns}
 use Rattle.lists.proofs.Made.{goes-same}
 use Rattle.queue.specs.declared.Entry.{Entry}
 use Rattle.run.specs.Run.{Ground, State, named, seeding, queueCell, queueing, taken, spreadAround, spreading, run}
+use Rattle.run.specs.Good.{Waits, Good}
 use Rattle.run.proofs.Values.{Fair}
 use Rattle.run.proofs.Offers.{Spread, over, pops, spreading-went, Popped, spreading-pops, run-went}
-use Rattle.run.proofs.Waiting.{apart-at, Good, good-taken, WaitsFor, waits-for-on, Waits}
+use Rattle.run.proofs.Waiting.{apart-at, good-taken, WaitsFor, waits-for-on}
 use Rattle.run.proofs.Seeding.{seeding-good, seeding-empty}
 use Rattle.run.proofs.Queueing.{QueuedTo, queued-to, queueing-to}
 use Rattle.run.proofs.Spreading.{Led, Served, first-lead, rest-lead, around-leads, ends}

@@ -19,8 +19,9 @@ use Rattle.grid.specs.declared.Cell.{Cell}
 use Rattle.grid.specs.Index.{indexOf, total, Inside}
 use Rattle.grid.proofs.Laws.{index-below}
 use Rattle.run.specs.Run.{Ground, State, none, held, named, run}
+use Rattle.run.specs.Good.{bits, Holds, isBare, has, Falls}
 use Rattle.run.specs.Steps.{aroundCell}
-use Rattle.run.proofs.Values.{Fair, bits, Holds, isBare, has, Falls, Met, met-on, max-distance, holds-distance, holds-at-most-max, has-below}
+use Rattle.run.proofs.Values.{Fair, Met, met-on, max-distance, holds-distance, holds-at-most-max, has-below}
 use Rattle.run.proofs.Offers.{Ran, run-went}
 use Rattle.run.proofs.Seeding.{InBox, seeding-good, seeding-empty, seeding-meets}
 use Rattle.run.proofs.Queueing.{queueing-to}

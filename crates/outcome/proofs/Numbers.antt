@@ -16,7 +16,7 @@ use Rattle.run.specs.Run.{State}
 use Rattle.run.proofs.Numbers.{run-by}
 use Rattle.checks.specs.Job.{Job, Lent}
 use Rattle.checks.specs.Refusals.{refusal, refusalBy, lengthsOf, checks}
-use Rattle.checks.proofs.Given.{first-is}
+use Rattle.lists.proofs.Checks.{first-is}
 use Rattle.outcome.specs.declared.Answer.the-variants.{Refused}
 use Rattle.outcome.specs.Outcome.{ended, runOf, unlessRefused, outcome, numberOf}
 use Rattle.outcome.specs.Numbers.{checkNumbers, runNumbers, IsDone, Replies, done, beforeTheRun, inTheRun}

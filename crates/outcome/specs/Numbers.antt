@@ -5,7 +5,8 @@ use Prim.Native.Nat.{ℕ}
 use mathlib.Core.Path.{_≡_}
 use mathlib.Core.List.{List, [], _∷_, List·Memᴰ}
 use Rattle.checks.specs.Job.{Job, Lent}
-use Rattle.checks.specs.Refusals.{lengthsOf, checks, numbersOf}
+use Rattle.lists.specs.Checks.{numbersOf}
+use Rattle.checks.specs.Refusals.{lengthsOf, checks}
 use Rattle.clearing.specs.Cleared.{cleared}
 use Rattle.outcome.specs.declared.Answer.{Answer}
 use Rattle.outcome.specs.declared.Answer.the-variants.{Refused, Done}

@@ -14,9 +14,10 @@ use Rattle.lists.proofs.Turns.{turns-keep}
 use Rattle.queue.specs.declared.Entry.{Entry}
 use Rattle.queue.proofs.Meaning.{in-insert, still-in, from-insert}
 use Rattle.run.specs.Run.{Ground, State, held, named, entry, queued, queueCell, queueing}
-use Rattle.run.proofs.Values.{Fair, bits, has-named, has-below}
+use Rattle.run.specs.Good.{bits, Waits, Differ, Good}
+use Rattle.run.proofs.Values.{Fair, has-named, has-below}
 use Rattle.run.proofs.Offers.{Queued, QueuedCell, notBelow, below, queueCell-went}
-use Rattle.run.proofs.Waiting.{Waits, Differ, Good, good-queued, WaitsFor, waits-for-on}
+use Rattle.run.proofs.Waiting.{good-queued, WaitsFor, waits-for-on}
 
 -- from s, where nothing waits, the cells below i have been queued, which gives t
 pub record QueuedTo (g : Ground) (s : State) (i : ℕ) (t : State) : Type 0 where

@@ -10,8 +10,8 @@ use lib.ListN.{getD, set, replicate, getD-replicate}
 use Rattle.lists.specs.Turns.{Turn, goes}
 use Rattle.lists.proofs.Made.{goes-same, Made, turns-lead, turns-made, between-lead, between-made}
 use Rattle.run.specs.Run.{Ground, State, Box, none, bare, named, offer, nothingElse, seedLine, seedPlane, seedTriangle, seeding}
-use Rattle.run.proofs.Values.{Fair, Sound, Falls, Met, met-on, Took, sound-bare, took, passes-met}
-use Rattle.run.proofs.Waiting.{Apart, Good}
+use Rattle.run.specs.Good.{Sound, Falls, Apart, Good}
+use Rattle.run.proofs.Values.{Fair, Met, met-on, Took, sound-bare, took, passes-met}
 use Rattle.run.proofs.Offers.{Offer, passes, takesIt, offer-went}
 
 -- number i is from the first to the last, ends included

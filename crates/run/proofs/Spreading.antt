@@ -10,9 +10,10 @@ use Rattle.lists.specs.Turns.{Turn, goes, turns}
 use Rattle.lists.proofs.Made.{goes-same, turns-lead, turns-rest, turns-made}
 use Rattle.queue.specs.declared.Entry.{Entry}
 use Rattle.run.specs.Run.{Ground, Place, off, at, State, named, taken, spreadTo, spreadAround, spreading}
-use Rattle.run.proofs.Values.{Fair, Falls, Met, met-on}
+use Rattle.run.specs.Good.{Falls, Waits, Good}
+use Rattle.run.proofs.Values.{Fair, Met, met-on}
 use Rattle.run.proofs.Offers.{Spread, over, pops, spreading-went}
-use Rattle.run.proofs.Waiting.{Waits, Good, good-taken, Onward, onward-stays, onward-on, after-offer}
+use Rattle.run.proofs.Waiting.{good-taken, Onward, onward-stays, onward-on, after-offer}
 
 -- the turns of an entry that is taken
 abbrev pub turnOf : Ground → Entry → ℕ → State → Turn State

@@ -8,15 +8,16 @@ use mathlib.Core.Path.{_≡_, refl, sym, ap, _∙_, subst}
 use mathlib.Core.Bool.{true, false, true≢false}
 use mathlib.Core.List.{List}
 use lib.Dec.{lit≤}
-use lib.ListN.{length, getD, set, replicate, length-set, length-replicate, getD-replicate}
+use lib.ListN.{getD, set, replicate, length-set, length-replicate, getD-replicate}
 use lib.Seq.{getD-set-other}
-use lib.Ieee.{Float, nan, isNan, binary32, toBits}
+use lib.Ieee.{Float, nan, isNan}
 use borrow.Author.Tests.{ltb-true, ltb-false, lt-ltb, le-ltb}
 use Rattle.float.specs.Arith.{_≺_, fMax}
 use Rattle.float.specs.Distance.{Distance}
 use Rattle.float.proofs.Order.{bits-distance, bits-lt, distance-lt}
 use Rattle.lists.proofs.Table.{stored-at}
 use Rattle.run.specs.Run.{Ground, at, none}
+use Rattle.run.specs.Good.{bits, Holds, isBare, has, Sound, Falls}
 
 -- what the laws of a run ask of what it is told
 pub record Fair (g : Ground) : Type 0 where
@@ -27,24 +28,6 @@ pub record Fair (g : Ground) : Type 0 where
   -- the steps from a cell, and the cells of a snapped box, are on the grid
   pub steps-on : (c j d : ℕ) → c < g .cells → g .around c j ≡ at d → d < g .cells
   pub boxes-on : (k x y z : ℕ) → k < g .triangles → x ≤ g .box k .high .x → y ≤ g .box k .high .y → z ≤ g .box k .high .z → g .index x y z < g .cells
-
-abbrev pub bits : Float → ℕ
-bits d = toBits binary32 d
-
--- cell c, which holds d and names k, is bare or has triangle k
-pub data Holds (g : Ground) (d : Float) (k c : ℕ) : Type 0 where
-  isBare : d ≡ fMax → k ≡ none → Holds g d k c
-  has : k < g .triangles → d ≡ g .distance k c → isNan d ≡ false → (d ≺ fMax) ≡ true → Holds g d k c
-
--- so it is of every cell
-pub record Sound (g : Ground) (field : List Float) (names : List ℕ) : Type 0 where
-  pub field-long : length field ≡ g .cells
-  pub names-long : length names ≡ g .cells
-  pub each : (c : ℕ) → c < g .cells → Holds g (getD field c nan) (getD names c 0) c
-
--- no cell holds more than before
-abbrev pub Falls : Ground → List Float → List Float → Type 0
-Falls g before after = (c : ℕ) → c < g .cells → bits (getD after c nan) ≤ bits (getD before c nan)
 
 pub falls-on : (g : Ground) (a b c : List Float) → Falls g a b → Falls g b c → Falls g a c
 falls-on g a b c p q i l = omega (arith, p i l, q i l)

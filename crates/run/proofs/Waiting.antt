@@ -10,24 +10,17 @@ use mathlib.Core.Logic.{_⊎_, inl, inr}
 use mathlib.Core.Bool.{Bool, true, false, cond}
 use mathlib.Core.List.{List, [], _∷_, List·Memᴰ, List·Memᴰ·head, List·Memᴰ·tail, List·Memᴰ·not-nil}
 use lib.ListN.{length, getD}
-use lib.Ieee.{Float, nan, isNan}
+use lib.Ieee.{Float, nan}
 use Rattle.lists.specs.Turns.{goes}
 use Rattle.queue.specs.declared.Entry.{Entry}
 use Rattle.queue.specs.InOrder.{insert}
 use Rattle.queue.proofs.Meaning.{length-insert, in-insert, still-in, from-insert}
 use Rattle.run.specs.Run.{Ground, State, named, entry, takes, offer, queued, queue, taken}
-use Rattle.run.proofs.Values.{Fair, bits, Sound, Falls, Met, Nearer, Took, took, passes-met}
+use Rattle.run.specs.Good.{bits, Falls, Waits, Differ, Apart, Good}
+use Rattle.run.proofs.Values.{Fair, Met, Nearer, Took, took, passes-met}
 use Rattle.run.proofs.Offers.{Offer, passes, takesIt, offer-went, Queued, queue-went}
 
 -- ---- the entries that wait
-
--- an entry that waits: of a cell and a triangle of the job, at its distance, and the cell holds no more
-pub record Waits (g : Ground) (field : List Float) (x : Entry) : Type 0 where
-  pub cell-on : x .cell < g .cells
-  pub triangle-is : x .triangle < g .triangles
-  pub number : isNan (g .distance (x .triangle) (x .cell)) ≡ false
-  pub far : x .distance ≡ bits (g .distance (x .triangle) (x .cell))
-  pub above : bits (getD field (x .cell) nan) ≤ x .distance
 
 pub waits-on : (g : Ground) (a b : List Float) (x : Entry) → Falls g a b → Waits g a x → Waits g b x
 waits-on g a b x p w =
@@ -44,15 +37,6 @@ pub member-at : {A : Type 0} (l : List A) (i : ℕ) (d : A) → i < length l →
 member-at [] i d h = absurd (not-suc-le-zero h)
 member-at (x ∷ l) zero d h = List·Memᴰ·head refl
 member-at (x ∷ l) (suc i) d h = List·Memᴰ·tail (member-at l i d (le-of-suc-le-suc h))
-
--- two entries that do not agree in both distance and cell
-abbrev pub Differ : Entry → Entry → Type 0
-Differ x y = x .distance ≡ y .distance → x .cell ≡ y .cell → ⊥
-
--- each differs from all behind it
-abbrev pub Apart : List Entry → Type 0
-Apart [] = Unit {0}
-Apart (x ∷ l) = ((y : Entry) → List·Memᴰ y l → Differ x y) × Apart l
 
 module _ (le : Entry → Entry → Bool) (e : Entry) where
   apart-cond : (b : Bool) (y : Entry) (l : List Entry) → Apart (y ∷ l) → ((z : Entry) → List·Memᴰ z (y ∷ l) → Differ e z) → Apart (insert le e l)
@@ -77,14 +61,7 @@ apart-at (x ∷ r) d zero (suc j) a l m = a .0 (getD r j d) (member-at r j d (le
 apart-at (x ∷ r) d (suc i) zero a l m = absurd (not-suc-le-zero l)
 apart-at (x ∷ r) d (suc i) (suc j) a l m = apart-at r d i j (a .1) (le-of-suc-le-suc l) (le-of-suc-le-suc m)
 
--- ---- what is true of a state from the end of seeding on
-
-pub record Good (g : Ground) (s : State) : Type 0 where
-  pub sound : Sound g (s .field) (s .names)
-  pub waits : (x : Entry) → List·Memᴰ x (s .waiting) → Waits g (s .field) x
-  pub apart : Apart (s .waiting)
-  pub in-peak : length (s .waiting) ≤ s .peak
-  pub in-room : s .peak ≤ g .room
+-- ---- a good state
 
 -- an entry is queued
 pub good-queued : (g : Ground) (e : Entry) (s : State) → Good g s → Waits g (s .field) e → ((z : Entry) → List·Memᴰ z (s .waiting) → Differ e z)
