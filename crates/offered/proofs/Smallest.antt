@@ -25,7 +25,7 @@ use Rattle.run.specs.Run.{Ground, Place, off, at, State, taken, queue, queueCel
 use Rattle.run.specs.Ground.{groundOf}
 use Rattle.run.proofs.Values.{Fair}
 use Rattle.run.proofs.Offers.{Offer, passes, takesIt, offer-went, Queued, queue-went, QueuedCell, notBelow, below, queueCell-went}
-use Rattle.run.proofs.Waiting.{Waits, Good, Apart}
+use Rattle.run.specs.Good.{Waits, Good, Apart}
 use Rattle.run.proofs.Grounds.{fair-ground}
 use Rattle.run.proofs.Seeding.{seeding-empty}
 use Rattle.run.proofs.Spreading.{turnOf}
