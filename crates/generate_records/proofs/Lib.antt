@@ -1,4 +1,3 @@
 pub mod Records
 pub mod Same
-pub mod Calls
-pub mod JobCall
+pub mod ByValue

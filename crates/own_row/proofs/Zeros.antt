@@ -1,11 +1,9 @@
 -- A row that is all zero has three projections that are, and what the job over it gives is what the job over three buffers that are all zero gives.
 -- Assumes nothing.
-use Prim.Native.Nat.{ℕ, _≤_}
-use native.Mathlib.Omega.{arith}
-use mathlib.Core.Path.{_≡_, refl, sym, ap, _∙_, subst}
+use Prim.Native.Nat.{ℕ}
+use mathlib.Core.Path.{_≡_, refl, sym, ap, _∙_}
 use mathlib.Core.List.{List, map}
-use lib.ListN.{length, take, replicate, length-map, length-replicate}
-use lib.Seq.{length-take-le}
+use lib.ListN.{length, replicate, length-map, length-replicate}
 use lib.Ieee.{Float}
 use Rattle.queue.specs.declared.Entry.{Entry}
 use Rattle.checks.specs.Job.{Job, Lent, lentOf}
@@ -15,10 +13,6 @@ use Rattle.generate_records.specs.LentRow.{lentRow}
 use Rattle.generate_records.proofs.Same.{Agree, Alike, same-outcome}
 use Rattle.clearing.proofs.Lengths.{lengths-same}
 use Rattle.own_row.specs.Own.{lentOwn, GivesFour}
-
--- the first room of n
-pub first-long : (n room : ℕ) (x : Entry) → room ≤ n → length (take room (replicate n x)) ≡ room
-first-long n room x h = length-take-le room (replicate n x) (subst (λ (k : ℕ). room ≤ k) (sym (length-replicate n x)) h)
 
 pub gives-four : (j : Job) (field : List Float) (names crossings rows : List ℕ) (queue : List Entry) (room : ℕ) → length queue ≡ room
     → (answer : Answer) (field′ : List Float) (names′ crossings′ rows′ : List ℕ) (queue′ : List Entry)
