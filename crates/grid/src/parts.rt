@@ -5,6 +5,7 @@ use crate::BoundingBox;
 use crate::Cell;
 use crate::Counts;
 use crate::Grid;
+use crate::Snap;
 use crate::SnapResult;
 use point::Axis;
 use point::Point;
@@ -116,7 +117,7 @@ pub fn get_last_cell(grid: Grid) -> Point
 }
 
 // The cell that a point lies in, or the nearest to it where it lies outside.
-pub fn snap_point_to_grid(grid: Grid, point: Point) -> SnapResult
+pub fn snap_point_to_grid(grid: Grid, point: Point) -> Snap
     ensures { λ r. ⌜ r ≡ Place.snap grid point ⌝ }
 {
     let first = grid.first_cell;
@@ -130,9 +131,14 @@ pub fn snap_point_to_grid(grid: Grid, point: Point) -> SnapResult
         z: z.index,
     };
     if x.clamped | y.clamped | z.clamped {
-        SnapResult::Outside(cell)
-    } else {
-        SnapResult::Inside(cell)
+        return Snap {
+            result: SnapResult::Outside,
+            cell: cell,
+        };
+    }
+    Snap {
+        result: SnapResult::Inside,
+        cell: cell,
     }
 }
 
