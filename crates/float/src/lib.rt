@@ -7,7 +7,7 @@ ghost use Prim.Native.Nat.{_^_, _<_};
 ghost use lib.IntN.{pos, negsuc};
 ghost use Rattle.float.specs.Arith.{f0, f1, _≦_, _≺_};
 ghost use Rattle.float.specs.Cell.{floorOf, Snapped};
-ghost use Rattle.float.specs.Steps.{absOf, clampOf, leastOf, greatestOf, finiteAtMost};
+ghost use Rattle.float.specs.Steps.{absOf, signBit, clampOf, leastOf, greatestOf, finiteAtMost};
 
 // f32::abs: the sign bit is cleared, that of -0 too. A NaN stays a NaN.
 pub fn abs(x: f32) -> f32
@@ -17,6 +17,16 @@ pub fn abs(x: f32) -> f32
         return x;
     }
     f32::from_bits(f32::to_bits(x) % 0x8000_0000)
+}
+
+// f32::is_sign_negative, for a number: whether the sign bit is set, that of -0 too. A NaN has none here.
+pub fn sign_bit(x: f32) -> bool
+    ensures { λ r. ⌜ r ≡ signBit x ⌝ }
+{
+    if x != x {
+        return false;
+    }
+    f32::to_bits(x) >= 0x8000_0000
 }
 
 // f32::clamp(lo, hi): a NaN stays.
