@@ -14,6 +14,7 @@ ghost use mathlib.Core.Bool.{true};
 ghost use Prim.Native.Nat.{_^_, _<_};
 ghost use Rattle.grid.specs.Axes as Axes;
 ghost use Rattle.grid.specs.Index.{Inside, indexOf, cellAt, total, isCell, isIndex};
+ghost use Rattle.grid.specs.Layers as Layers;
 ghost use Rattle.grid.specs.Place as Place;
 ghost use Rattle.grid.specs.Bounds.{inBounds};
 
@@ -25,6 +26,13 @@ pub fn count_on(grid: Grid, axis: Axis) -> u32
         Axis::Y => grid.count_y,
         Axis::Z => grid.count_z,
     }
+}
+
+// How many layers there are.
+pub fn layers(grid: Grid) -> u32
+    ensures { λ r. ⌜ r ≡ Layers.layers grid ⌝ }
+{
+    grid.count_z
 }
 
 // How many cells there are.
