@@ -12,6 +12,7 @@ use Rattle.job.specs.declared.Asked.{Asked}
 use Rattle.job.specs.Reading.{Holds}
 use Rattle.writing.specs.Put.{Put}
 use Rattle.writing.proofs.Puts.{said}
+use Rattle.grid.specs.Layers.{layers}
 use Rattle.listing.specs.Listing.{floatsOf, listing, Prints, listing-of, unreadable}
 use Rattle.listing_run.specs.Parts.{listedOf, gridBy, lentBy}
 use Rattle.answering.specs.Answering.{Answered}
@@ -22,13 +23,13 @@ cellsOf n = n .x * n .y * n .z
 module _ {j : TextJob} {a : Asked} {vertices indices : List ℕ} (h : Holds j a vertices indices) where
   -- the listing of the parts is that of the job
   parts-listed : listedOf (jobOf (gridBy (a .count) (a .first) (a .size)) (floatsOf (take (3 * a .vertices) vertices)) (a .topology) (a .given) (take (a .indices) indices) (a .limit))
-      (lentBy (cellsOf (a .count)) (a .count .z) (a .room))
+      (lentBy (cellsOf (a .count)) (layers (gridBy (a .count) (a .first) (a .size))) (a .room))
       ≡ listing j
   unfolding listedOf
   parts-listed =
       λ i.
       listedOf (jobOf (gridBy (h .count-is i) (h .first-is i) (h .size-is i)) (floatsOf (h .vertices-are i)) (h .topology-is i) (h .given-is i) (h .indices-are i) (h .limit-is i))
-      (lentBy (cellsOf (h .count-is i)) (h .count-is i .z) (h .room-is i))
+      (lentBy (cellsOf (h .count-is i)) (layers (gridBy (h .count-is i) (h .first-is i) (h .size-is i))) (h .room-is i))
 
   pub few-cells : Readable j → cellsOf (a .count) ≤ 512
   few-cells r = subst (λ (n : Three). cellsOf n ≤ 512) (sym (h .count-is)) (r .cells-few)
@@ -39,7 +40,7 @@ module _ {j : TextJob} {a : Asked} {vertices indices : List ℕ} (h : Holds j a 
   pub answered : {text old new : List ℕ} {n : ℕ} → Readable j → text ≡ jobText j
       → Put old 0
       (listedOf (jobOf (gridBy (a .count) (a .first) (a .size)) (floatsOf (take (3 * a .vertices) vertices)) (a .topology) (a .given) (take (a .indices) indices) (a .limit))
-      (lentBy (cellsOf (a .count)) (a .count .z) (a .room)))
+      (lentBy (cellsOf (a .count)) (layers (gridBy (a .count) (a .first) (a .size))) (a .room)))
       new
       n
       → Answered text old new n

@@ -99,6 +99,15 @@ pub fn box_answer(a: GridBoxAnswer) -> SdfBoxAnswer
     }
 }
 
+fn inside(result: SnapResult) -> u32
+    ensures { λ r. ⌜ r ≡ C.inside result ⌝ }
+{
+    match result {
+        SnapResult::Inside => 1,
+        SnapResult::Outside => 0,
+    }
+}
+
 pub fn snap_answer(a: SnapAnswer) -> SdfSnapAnswer
     ensures { λ r. ⌜ r ≡ C.snap (Reply.snapped a) ⌝ }
 {
@@ -108,18 +117,14 @@ pub fn snap_answer(a: SnapAnswer) -> SdfSnapAnswer
             inside: 0,
             cell: c_records::no_cell(),
         },
-        SnapAnswer::Snapped(s) => match s {
-            SnapResult::Inside(c) => SdfSnapAnswer {
+        SnapAnswer::Snapped(s) => {
+            let result = s.result;
+            SdfSnapAnswer {
                 number: 0,
-                inside: 1,
-                cell: c_records::cell_out(c),
-            },
-            SnapResult::Outside(c) => SdfSnapAnswer {
-                number: 0,
-                inside: 0,
-                cell: c_records::cell_out(c),
-            },
-        },
+                inside: inside(result),
+                cell: c_records::cell_out(s.cell),
+            }
+        }
     }
 }
 

@@ -19,6 +19,7 @@ use Rattle.grid.specs.declared.Grid.{Grid}
 use Rattle.grid.specs.declared.Cell.{Cell}
 use Rattle.grid.specs.declared.Counts.{Counts}
 use Rattle.grid.specs.declared.BoundingBox.{BoundingBox}
+use Rattle.grid.specs.declared.Snap.{Snap}
 use Rattle.grid.specs.declared.SnapResult.{SnapResult}
 use Rattle.grid.specs.declared.SnapResult.the-variants.{Inside, Outside}
 use Rattle.grid.specs.Reply.{Reply, refused, given}
@@ -116,11 +117,13 @@ unfoldable pub box : Reply BoundingBox → SdfBoxAnswer
 box (refused n) = record { number = n; min = noPoint; max = noPoint }
 box (given b) = record { number = 0; min = pointOut (b .min); max = pointOut (b .max) }
 
--- inside is 1 for Inside and 0 for Outside
-unfoldable pub snap : Reply SnapResult → SdfSnapAnswer
+abbrev pub inside : SnapResult → ℕ
+inside Inside = 1
+inside Outside = 0
+
+unfoldable pub snap : Reply Snap → SdfSnapAnswer
 snap (refused n) = record { number = n; inside = 0; cell = noCell }
-snap (given (Inside c)) = record { number = 0; inside = 1; cell = cellOut c }
-snap (given (Outside c)) = record { number = 0; inside = 0; cell = cellOut c }
+snap (given s) = record { number = 0; inside = inside (s .result); cell = cellOut (s .cell) }
 
 unfoldable pub grid : Reply Grid → SdfGridAnswer
 grid (refused n) = record { number = n; grid = noGrid }

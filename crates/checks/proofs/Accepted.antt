@@ -9,10 +9,9 @@ use lib.ListN.{length}
 use lib.Ieee.{Float}
 use borrow.Author.Tests.{ltb-false, eqb-true, not-false}
 use Rattle.lists.proofs.Checks.{Numbered, none-applies}
-use Rattle.point.specs.declared.Axis.the-variants.{Z}
 use Rattle.grid.specs.declared.Grid.{Grid}
-use Rattle.grid.specs.Axes.{countOn}
 use Rattle.grid.specs.Index.{total}
+use Rattle.grid.specs.Layers.{layers}
 use Rattle.grid.specs.Bounds.{inBounds}
 use Rattle.mesh.specs.Mesh.{Mesh, vertexCount, trianglesIn}
 use Rattle.topology.specs.Refusals.{allBelowCount}
@@ -36,7 +35,7 @@ pub record Fits (g : Grid) (l : Lengths) : Type 0 where
   pub field : l .field ≡ total g
   pub names : l .names ≡ total g
   pub crossings : l .crossings ≡ 3 * total g
-  pub rows : l .rows ≡ countOn Z g
+  pub rows : l .rows ≡ layers g
   pub cells : l .cells ≡ l .distances
   pub triangles : l .triangles ≡ l .distances
 
@@ -48,7 +47,7 @@ fits g l h =
     let f = not (eqb (l .field) (total g)) in
     let n = not (eqb (l .names) (total g)) in
     let k = not (eqb (l .crossings) (3 * total g)) in
-    let r = not (eqb (l .rows) (countOn Z g)) in
+    let r = not (eqb (l .rows) (layers g)) in
     let c = not (eqb (l .cells) (l .distances)) in
     let t = not (eqb (l .triangles) (l .distances)) in
     let to-c = neither (f || n || k || r || c) t h in
@@ -60,7 +59,7 @@ fits g l h =
       field = same (l .field) (total g) (to-f .0);
       names = same (l .names) (total g) (to-f .1);
       crossings = same (l .crossings) (3 * total g) (to-n .1);
-      rows = same (l .rows) (countOn Z g) (to-k .1);
+      rows = same (l .rows) (layers g) (to-k .1);
       cells = same (l .cells) (l .distances) (to-r .1);
       triangles = same (l .triangles) (l .distances) (to-c .1);
     }

@@ -8,10 +8,9 @@ use lib.ListN.{length}
 use lib.Ieee.{Float}
 use Rattle.lists.specs.Every.{every}
 use Rattle.lists.specs.Checks.{Check, firstOf}
-use Rattle.point.specs.declared.Axis.the-variants.{Z}
 use Rattle.grid.specs.declared.Grid.{Grid}
-use Rattle.grid.specs.Axes.{countOn}
 use Rattle.grid.specs.Index.{total}
+use Rattle.grid.specs.Layers.{layers}
 use Rattle.grid_axis.specs.AxisBounds.{isCoordinate}
 use Rattle.grid.specs.Bounds.{inBounds}
 use Rattle.topology.specs.Refusals.{tooManyTriangles, allBelowCount}
@@ -46,7 +45,7 @@ wrongLengths g l =
     not (eqb (l .field) (total g))
     || not (eqb (l .names) (total g))
     || not (eqb (l .crossings) (3 * total g))
-    || not (eqb (l .rows) (countOn Z g))
+    || not (eqb (l .rows) (layers g))
     || not (eqb (l .cells) (l .distances))
     || not (eqb (l .triangles) (l .distances))
 

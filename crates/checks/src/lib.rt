@@ -62,12 +62,12 @@ fn wrong_lengths(grid: Grid, l: Lengths) -> bool
     ensures { λ r. ⌜ r ≡ wrongLengths grid l ⌝ }
 {
     let n = grid::parts::get_total_cell_count(grid) as usize;
-    let z = grid.count_z as usize;
+    let layers = grid::parts::layers(grid) as usize;
     let kept = l.distances;
     (l.field != n)
         | (l.names != n)
         | (l.crossings != 3 * n)
-        | (l.rows != z)
+        | (l.rows != layers)
         | (l.cells != kept)
         | (l.triangles != kept)
 }

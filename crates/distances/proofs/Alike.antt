@@ -16,12 +16,13 @@ use Rattle.float.specs.Arith.{_⊖_, _≦_}
 use Rattle.float.specs.Distance.{Distance}
 use Rattle.float.proofs.Units.{unitsAt, units-grow, value, infinity}
 use Rattle.float.proofs.Order.{bits-eq, bits-back, bits-distance}
-use Rattle.distances.specs.Compare.{magnitude, margin, apart, alike}
+use Rattle.float.specs.Steps.{absOf}
+use Rattle.distances.specs.Compare.{margin, apart, alike}
 use Rattle.distances.proofs.Difference.{apart-sym, difference, round-less}
 
 -- the rounded difference of the magnitudes with the patterns i and j, its sign dropped, and whether it is at most 1e-6
 abbrev differenceAt : ℕ → ℕ → Float
-differenceAt i j = magnitude (ofBits binary32 i ⊖ ofBits binary32 j)
+differenceAt i j = absOf (ofBits binary32 i ⊖ ofBits binary32 j)
 
 abbrev pub within : ℕ → ℕ → Bool
 within i j = differenceAt i j ≦ margin
@@ -43,14 +44,14 @@ units-mono i j h = go (eq-or-lt-of-le h)
 
 -- ---- infinity
 
-number-infinity : (x : Float) (a c : ℕ) → HasValue x false a c → (magnitude (x ⊖ inf false) ≡ inf false) × (magnitude (inf false ⊖ x) ≡ inf false)
-unfolding sub
+number-infinity : (x : Float) (a c : ℕ) → HasValue x false a c → (absOf (x ⊖ inf false) ≡ inf false) × (absOf (inf false ⊖ x) ≡ inf false)
+unfolding sub absOf
 number-infinity nan a c p = absurd p
 number-infinity (inf s) a c p = absurd p
 number-infinity (fin s m e) a c p = (refl, refl)
 
-infinities : magnitude (inf false ⊖ inf false) ≡ nan
-unfolding sub
+infinities : absOf (inf false ⊖ inf false) ≡ nan
+unfolding sub absOf
 infinities = refl
 
 infinity-apart : (inf false ≦ margin) ≡ false
@@ -65,14 +66,14 @@ nan-apart = refl
 beside-infinity : (i : ℕ) → i ≤ 0x7f80_0000 → (within i 0x7f80_0000 ≡ false) × (within 0x7f80_0000 i ≡ false)
 beside-infinity i h = go (eq-or-lt-of-le h)
   where
-    at : (x y : Float) → magnitude (x ⊖ inf false) ≡ y → (y ≦ margin) ≡ false → (magnitude (x ⊖ ofBits binary32 0x7f80_0000) ≦ margin) ≡ false
-    at x y e f = ap (λ (v : Float). magnitude (x ⊖ v) ≦ margin) infinity ∙ ap (λ (v : Float). v ≦ margin) e ∙ f
+    at : (x y : Float) → absOf (x ⊖ inf false) ≡ y → (y ≦ margin) ≡ false → (absOf (x ⊖ ofBits binary32 0x7f80_0000) ≦ margin) ≡ false
+    at x y e f = ap (λ (v : Float). absOf (x ⊖ v) ≦ margin) infinity ∙ ap (λ (v : Float). v ≦ margin) e ∙ f
 
-    from : (x y : Float) → magnitude (inf false ⊖ x) ≡ y → (y ≦ margin) ≡ false → (magnitude (ofBits binary32 0x7f80_0000 ⊖ x) ≦ margin) ≡ false
-    from x y e f = ap (λ (v : Float). magnitude (v ⊖ x) ≦ margin) infinity ∙ ap (λ (v : Float). v ≦ margin) e ∙ f
+    from : (x y : Float) → absOf (inf false ⊖ x) ≡ y → (y ≦ margin) ≡ false → (absOf (ofBits binary32 0x7f80_0000 ⊖ x) ≦ margin) ≡ false
+    from x y e f = ap (λ (v : Float). absOf (v ⊖ x) ≦ margin) infinity ∙ ap (λ (v : Float). v ≦ margin) e ∙ f
 
     own : within 0x7f80_0000 0x7f80_0000 ≡ false
-    own = at (ofBits binary32 0x7f80_0000) nan (ap (λ (v : Float). magnitude (v ⊖ inf false)) infinity ∙ infinities) nan-apart
+    own = at (ofBits binary32 0x7f80_0000) nan (ap (λ (v : Float). absOf (v ⊖ inf false)) infinity ∙ infinities) nan-apart
 
     go : (i ≡ 0x7f80_0000) ⊎ (i < 0x7f80_0000) → (within i 0x7f80_0000 ≡ false) × (within 0x7f80_0000 i ≡ false)
     go (inl e) = (ap (λ (k : ℕ). within k 0x7f80_0000) e ∙ own, ap (λ (k : ℕ). within 0x7f80_0000 k) e ∙ own)

@@ -5,6 +5,7 @@ use mathlib.Core.List.{[], _∷_}
 use Prim.Native.Nat.{ℕ}
 use lib.Ieee.{binary32, eq, le, lt, sub, ofBits, toBits, round}
 use Rattle.float.specs.Case.{allHold}
+use Rattle.float.specs.Steps.{absOf}
 use Rattle.distances.specs.declared.Order.{Order}
 use Rattle.distances.specs.declared.Order.the-variants.{Less, Greater}
 use Rattle.distances.specs.Compare.{margin, alike, order}
@@ -29,5 +30,5 @@ pub edges :
     at 0x0000_0000 0x8000_0000 ∷ at 0x3586_37bd 0x8000_0000 ∷ at 0x3586_37be 0x8000_0000 ∷ at 0x4b00_0002 0xcb00_0000 ∷ at 0x4b00_0003 0xcb00_0000
     ∷ at 0x7f80_0000 0xff7f_ffff ∷ at 0x7f80_0000 0xff80_0000 ∷ []
     ≡ Less ∷ Less ∷ Greater ∷ Less ∷ Greater ∷ Less ∷ Less ∷ []
-unfolding order alike eq le lt sub ofBits toBits
+unfolding order alike absOf eq le lt sub ofBits toBits
 edges = refl

@@ -18,25 +18,26 @@ use Rattle.float.specs.Arith.{_⊖_, _≦_}
 use Rattle.float.specs.Distance.{Distance, unsigned}
 use Rattle.float.proofs.Order.{unsigned-distance, distance-le}
 use Rattle.float.proofs.NoSign.{round-unsigned}
-use Rattle.distances.specs.Compare.{magnitude, apart}
+use Rattle.float.specs.Steps.{absOf}
+use Rattle.distances.specs.Compare.{apart}
 
 -- ---- a rounded fraction has the sign that it is given
 
-odd-magnitude : (d : ℕ) (s : Bool) (q k l : ℕ) → magnitude (odd d s q k l) ≡ odd d false q k l
-unfolding odd
+odd-magnitude : (d : ℕ) (s : Bool) (q k l : ℕ) → absOf (odd d s q k l) ≡ odd d false q k l
+unfolding odd absOf
 odd-magnitude d s zero k l = refl
 odd-magnitude d s (suc q) k l = refl
 
-units-magnitude : (s : Bool) (q k : ℕ) → magnitude (units binary32 s q k) ≡ units binary32 false q k
-unfolding units
+units-magnitude : (s : Bool) (q k : ℕ) → absOf (units binary32 s q k) ≡ units binary32 false q k
+unfolding units absOf
 units-magnitude s q k = go (ltb (q * 2 ^ k) (2 ^ (149 + 128)))
   where
-    go : (b : Bool) → magnitude (cond b (odd 25 s q k 149) (inf s)) ≡ cond b (odd 25 false q k 149) (inf false)
+    go : (b : Bool) → absOf (cond b (odd 25 s q k 149) (inf s)) ≡ cond b (odd 25 false q k 149) (inf false)
     go true = odd-magnitude 25 s q k 149
     go false = refl
 
-pub round-magnitude : (s : Bool) (a c : ℕ) → magnitude (round binary32 s a c) ≡ round binary32 false a c
-round-magnitude s a c = ap magnitude (round-is binary32 s a c) ∙ units-magnitude s _ _ ∙ sym (round-is binary32 false a c)
+pub round-magnitude : (s : Bool) (a c : ℕ) → absOf (round binary32 s a c) ≡ round binary32 false a c
+round-magnitude s a c = ap absOf (round-is binary32 s a c) ∙ units-magnitude s _ _ ∙ sym (round-is binary32 false a c)
 
 pub round-distance : (a c : ℕ) → Distance (round binary32 false a c)
 round-distance a c = unsigned-distance (round binary32 false a c) (round-fits binary32 false a c) (round-unsigned a c)
@@ -55,11 +56,11 @@ apart-mul a b k = add-mul (a - b) (b - a) k ∙ ap₂ _+_ (sub-mul a b) (sub-mul
 -- ---- the difference of two magnitudes over one denominator
 
 -- the sign of a sum of opposite signs is that of the larger, and goes
-sum-magnitude : (a b c : ℕ) → magnitude (sum binary32 false a true b c) ≡ round binary32 false (apart a b) c
+sum-magnitude : (a b c : ℕ) → absOf (sum binary32 false a true b c) ≡ round binary32 false (apart a b) c
 unfolding sum
 sum-magnitude a b c = go (decLt a b)
   where
-    go : Dec (a < b) → magnitude (cond (ltb a b) (round binary32 true (b - a) c) (round binary32 false (a - b) c)) ≡ round binary32 false (apart a b) c
+    go : Dec (a < b) → absOf (cond (ltb a b) (round binary32 true (b - a) c) (round binary32 false (a - b) c)) ≡ round binary32 false (apart a b) c
     go (yes h) = rw (lt-ltb a b h) (round-magnitude true (b - a) c ∙ ap (λ (n : ℕ). round binary32 false n c) (omega arith))
     go (no h) = rw (le-ltb a b (omega arith)) (round-magnitude false (a - b) c ∙ ap (λ (n : ℕ). round binary32 false n c) (omega arith))
 
@@ -71,7 +72,7 @@ opened m e n d = refl
 scaled : (x de dd a c : ℕ) → x * c ≡ a * de → x * dd * c ≡ a * (de * dd)
 scaled x de dd a c p = mul-right-comm x dd c ∙ ap (λ (z : ℕ). z * dd) p ∙ mul-assoc a de dd
 
-pub difference : (x y : Float) (a b c : ℕ) → 0 < c → HasValue x false a c → HasValue y false b c → magnitude (x ⊖ y) ≡ round binary32 false (apart a b) c
+pub difference : (x y : Float) (a b c : ℕ) → 0 < c → HasValue x false a c → HasValue y false b c → absOf (x ⊖ y) ≡ round binary32 false (apart a b) c
 difference nan y a b c C p q = absurd p
 difference (inf s) y a b c C p q = absurd p
 difference (fin true m e) y a b c C p q = absurd (true≢false (p .0))
@@ -79,7 +80,7 @@ difference (fin false m e) nan a b c C p q = absurd q
 difference (fin false m e) (inf t) a b c C p q = absurd q
 difference (fin false m e) (fin true n d) a b c C p q = absurd (true≢false (q .0))
 difference (fin false m e) (fin false n d) a b c C p q =
-    ap magnitude (opened m e n d)
+    ap absOf (opened m e n d)
     ∙ sum-magnitude (m * up e * down d) (n * up d * down e) (down e * down d)
     ∙ round-same binary32 false (apart (m * up e * down d) (n * up d * down e)) (down e * down d) (apart a b) c (mul-pos (down-pos e) (down-pos d)) C
     (apart-mul (m * up e * down d) (n * up d * down e) c

@@ -19,7 +19,7 @@ use Rattle.float.specs.Distance.{Distance, unsigned}
 use Rattle.float.proofs.Units.{unitsAt, units-grow, value, infinity}
 use Rattle.float.proofs.Order.{bits-lt, distance-lt, distance-le, unsigned-distance}
 use Rattle.distances.specs.Compare.{margin, alike, beyond}
-use Rattle.distances.proofs.Values.{own-magnitude, distance-sign}
+use Rattle.float.proofs.Magnitude.{own-magnitude, distance-sign}
 use Rattle.float.proofs.NoSign.{round-unsigned}
 use Rattle.distances.proofs.Difference.{opened}
 use Rattle.distances.proofs.Alike.{margin-distance, alike-sym, alike-inner, alike-near, alike-far}

@@ -19,10 +19,11 @@ use Rattle.distances.specs.declared.Order.{Order}
 use Rattle.distances.specs.declared.Order.the-variants.{Less, Equal, Greater}
 use Rattle.distances.specs.declared.Comparison.{Comparison}
 use Rattle.distances.specs.declared.Comparison.the-variants.{Is, NotANumber}
-use Rattle.distances.specs.Compare.{signBit, order, ofNumbers}
+use Rattle.float.specs.Steps.{signBit}
+use Rattle.distances.specs.Compare.{order, ofNumbers}
 use Rattle.distances.specs.Asked.{Answered}
 use Rattle.distances.specs.Total.{Value, notGreater, opposite}
-use Rattle.distances.proofs.Values.{distance-sign}
+use Rattle.float.proofs.Magnitude.{distance-sign}
 use Rattle.distances.proofs.Farther.{beyondAt}
 use Rattle.distances.proofs.Signs.{no-sign, pattern, order-same, order-positive, order-negative}
 use Rattle.distances.proofs.Total.{total-order}

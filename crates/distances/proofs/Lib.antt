@@ -1,5 +1,4 @@
 -- Laws that the crate's proofs, and those of the crates above it, cite.
-pub mod Values
 pub mod Difference
 pub mod Alike
 pub mod Farther

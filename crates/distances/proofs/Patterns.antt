@@ -10,9 +10,10 @@ use lib.Ieee.{binary32, toBits}
 use borrow.Author.Tests.{lt-ltb, le-ltb}
 use Rattle.float.specs.Arith.{if_then_else_}
 use Rattle.distances.specs.declared.Order.the-variants.{Less, Equal, Greater}
-use Rattle.distances.specs.Compare.{signBit, order, ofNumbers}
+use Rattle.float.specs.Steps.{signBit}
+use Rattle.distances.specs.Compare.{order, ofNumbers}
 use Rattle.distances.specs.Total.{Value}
-use Rattle.distances.proofs.Values.{bits-split}
+use Rattle.float.proofs.Magnitude.{bits-split}
 use Rattle.distances.proofs.Farther.{beyondAt}
 use Rattle.distances.proofs.Signs.{pattern, pattern-small, order-same, order-positive, order-negative}
 

@@ -13,9 +13,10 @@ use Rattle.float.specs.Arith.{_≺_, if_then_else_}
 use Rattle.float.specs.Distance.{Distance}
 use Rattle.float.proofs.Order.{distance-lt}
 use Rattle.distances.specs.declared.Order.the-variants.{Less, Equal, Greater}
-use Rattle.distances.specs.Compare.{signBit, magnitude, alike, byMagnitude, order, beyond, ofNumbers}
+use Rattle.float.specs.Steps.{signBit, absOf}
+use Rattle.distances.specs.Compare.{alike, byMagnitude, order, beyond, ofNumbers}
 use Rattle.distances.specs.Total.{Value}
-use Rattle.distances.proofs.Values.{magnitude-distance, own-magnitude}
+use Rattle.float.proofs.Magnitude.{abs-distance, own-magnitude}
 use Rattle.distances.proofs.Alike.{alike-sym, alike-near}
 use Rattle.distances.proofs.Farther.{beyondAt}
 
@@ -25,11 +26,11 @@ pub same-sign : (a b : Float) → signBit a ≡ signBit b → order a b ≡ byMa
 unfolding order
 same-sign a b e = go (signBit a) (signBit b) e
   where
-    go : (s t : Bool) → s ≡ t → cond (alike (magnitude a) (magnitude b) && unlike s t) (cond s Greater Less) (byMagnitude a b) ≡ byMagnitude a b
-    go true true e = ap (λ (k : Bool). cond k Greater (byMagnitude a b)) (and-false (alike (magnitude a) (magnitude b)))
+    go : (s t : Bool) → s ≡ t → cond (alike (absOf a) (absOf b) && unlike s t) (cond s Greater Less) (byMagnitude a b) ≡ byMagnitude a b
+    go true true e = ap (λ (k : Bool). cond k Greater (byMagnitude a b)) (and-false (alike (absOf a) (absOf b)))
     go true false e = absurd (true≢false e)
     go false true e = absurd (true≢false (sym e))
-    go false false e = ap (λ (k : Bool). cond k Less (byMagnitude a b)) (and-false (alike (magnitude a) (magnitude b)))
+    go false false e = ap (λ (k : Bool). cond k Less (byMagnitude a b)) (and-false (alike (absOf a) (absOf b)))
 
 -- "with neither sign bit set, only the magnitude decides", and the magnitude is the value
 pub no-sign : (a b : Float) → signBit a ≡ false → signBit b ≡ false → order a b ≡ (if a ≺ b then Less else if b ≺ a then Greater else Equal)
@@ -39,13 +40,13 @@ no-sign a b p q =
 -- ---- two values that are no NaN, by the patterns of their magnitudes
 
 abbrev size : Value → Float
-size x = magnitude (x .float)
+size x = absOf (x .float)
 
 abbrev pub pattern : Value → ℕ
 pattern x = toBits binary32 (size x)
 
 at : (x : Value) → Distance (size x)
-at x = magnitude-distance (x .float) (x .held) (x .number)
+at x = abs-distance (x .float) (x .held) (x .number)
 
 pub pattern-small : (x : Value) → pattern x ≤ 0x7f80_0000
 pattern-small x = at x .small

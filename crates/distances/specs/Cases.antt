@@ -4,6 +4,7 @@ use Prim.Native.Nat.{ℕ}
 use lib.Ieee.{Float, binary32, eq, le, lt, sub, ofBits, toBits}
 use Rattle.float.specs.Arith.{f1}
 use Rattle.float.specs.Case.{Case, _gives_}
+use Rattle.float.specs.Steps.{absOf}
 use Rattle.distances.specs.Compare.{alike, order}
 use Rattle.distances.specs.declared.Order.{Order}
 use Rattle.distances.specs.declared.Order.the-variants.{Less, Equal, Greater}
@@ -19,5 +20,5 @@ orderNumber Equal = 1
 orderNumber Greater = 2
 
 unfoldable pub compareCases : List Case
-unfolding order alike eq le lt sub ofBits toBits
+unfolding order alike absOf eq le lt sub ofBits toBits
 compareCases = (orderNumber (order f1 minusOne) gives 0) ∷ (orderNumber (order minusOne f1) gives 2) ∷ []

@@ -1,24 +1,13 @@
 -- "Magnitudes are alike if equal, or if their rounded difference is at most 1e-6, or if their bit patterns differ by at most 2. Alike with
 -- opposite sign bits: the positive one is smaller. In all other cases the magnitudes decide." (document 01). Definitions only.
 use Prim.Native.Nat.{ℕ, _+_, _-_}
-use mathlib.Core.Bool.{Bool, false, not, _&&_, _||_}
+use mathlib.Core.Bool.{Bool, not, _&&_, _||_}
 use lib.Dec.{leb, ltb}
-use lib.Ieee.{Float, nan, inf, fin, binary32, ofBits, toBits, unlike}
+use lib.Ieee.{Float, binary32, ofBits, toBits, unlike}
 use Rattle.float.specs.Arith.{_⊖_, _≺_, _≦_, _≐_, if_then_else_}
+use Rattle.float.specs.Steps.{absOf, signBit}
 use Rattle.distances.specs.declared.Order.{Order}
 use Rattle.distances.specs.declared.Order.the-variants.{Less, Equal, Greater}
-
--- the sign bit: set below zero, for -0 and for -infinity. There is one NaN here, without a sign
-abbrev pub signBit : Float → Bool
-signBit nan = false
-signBit (inf s) = s
-signBit (fin s m e) = s
-
--- the absolute value
-abbrev pub magnitude : Float → Float
-magnitude nan = nan
-magnitude (inf s) = inf false
-magnitude (fin s m e) = fin false m e
 
 -- 1e-6, as the nearest binary32
 abbrev pub margin : Float
@@ -30,13 +19,13 @@ apart m n = m - n + (n - m)
 
 -- two magnitudes: equal, or their rounded difference at most 1e-6, or their bit patterns at most 2 apart
 unfoldable pub alike : Float → Float → Bool
-alike x y = (x ≐ y) || (magnitude (x ⊖ y) ≦ margin) || leb (apart (toBits binary32 x) (toBits binary32 y)) 2
+alike x y = (x ≐ y) || (absOf (x ⊖ y) ≦ margin) || leb (apart (toBits binary32 x) (toBits binary32 y)) 2
 
 -- "the magnitudes decide"
 abbrev pub byMagnitude : Float → Float → Order
 byMagnitude a b =
-    if magnitude a ≺ magnitude b then Less
-    else if magnitude b ≺ magnitude a then Greater
+    if absOf a ≺ absOf b then Less
+    else if absOf b ≺ absOf a then Greater
     else Equal
 
 -- "the positive one is smaller", of two with opposite sign bits
@@ -46,7 +35,7 @@ positiveFirst a = if signBit a then Greater else Less
 -- a compared with b
 unfoldable pub order : Float → Float → Order
 order a b =
-    if alike (magnitude a) (magnitude b) && unlike (signBit a) (signBit b) then positiveFirst a
+    if alike (absOf a) (absOf b) && unlike (signBit a) (signBit b) then positiveFirst a
     else byMagnitude a b
 
 -- ---- the parts of the code

@@ -1,19 +1,18 @@
--- The magnitude of a value by its bit pattern: clearing the sign bit clears the sign. The pattern of a signed value is that of the value without its
--- sign, plus 2 ^ 31. Assumes nothing.
-use mathlib.Core.Path.{_≡_, refl, sym, ap, _∙_, subst}
-use mathlib.Core.Logic.{_⊎_, inl, inr, ⊎-elim}
-use mathlib.Core.Bool.{Bool, true, false, not, Bool·beq, _&&_, _||_, true≢false}
+-- A value taken apart: its pattern is its sign bit and, below it, the pattern of its magnitude, which is a distance unless the value is the NaN. So
+-- clearing the sign bit clears the sign, and sign bit and magnitude's pattern together are the value. Assumes nothing.
+use mathlib.Core.Path.{_≡_, refl, sym, ap, ap₂, _∙_, subst}
+use mathlib.Core.Bool.{Bool, true, false, not, Bool·beq, cond, _&&_, _||_, true≢false}
 use Prim.Native.Nat.{ℕ, zero, suc, _+_, _*_, _%_, _≤_}
 use native.Mathlib.Omega.{arith}
 use lib.IntN.{ℤ, pos}
-use lib.Dec.{T, eqb}
+use lib.Dec.{T, leb, eqb}
 use lib.Ieee.{Float, nan, inf, fin, binary32, up, down, fits, isNan, ne, le, ofBits, toBits}
-use borrow.Author.Tests.{eq-eqb}
+use borrow.Author.Tests.{eq-eqb, le-leb, lt-leb}
 use Rattle.float.specs.Arith.{_≦_, fMax}
 use Rattle.float.specs.Distance.{Distance, unsigned}
-use Rattle.float.specs.Steps.{absOf, finiteAtMost}
+use Rattle.float.specs.Steps.{absOf, signBit, finiteAtMost}
 use Rattle.float.proofs.Bools.{and-first}
-use Rattle.float.proofs.Order.{unsigned-distance, distance-unsigned}
+use Rattle.float.proofs.Order.{unsigned-distance, distance-unsigned, same-bits}
 
 -- ---- the test `x != x`
 
@@ -54,38 +53,58 @@ abs-fits (fin s (suc m) e) f = f
 pub abs-distance : (x : Float) → T (fits binary32 x) → T (not (isNan x)) → Distance (absOf x)
 abs-distance x f n = unsigned-distance (absOf x) (abs-fits x f) (abs-unsigned x n)
 
-signed-bits : (x : Float) → T (not (isNan x)) → (toBits binary32 x ≡ toBits binary32 (absOf x)) ⊎ (toBits binary32 x ≡ 0x8000_0000 + toBits binary32 (absOf x))
-unfolding absOf toBits isNan
-signed-bits nan n = absurd n
-signed-bits (inf true) n = inr refl
-signed-bits (inf false) n = inl refl
-signed-bits (fin true m e) n = inr (omega arith)
-signed-bits (fin false m e) n = inl refl
+-- ---- a pattern is a sign bit and a magnitude
 
-pub abs-bits : (x : Float) → T (fits binary32 x) → T (not (isNan x)) → toBits binary32 x % 0x8000_0000 ≡ toBits binary32 (absOf x)
-abs-bits x f n = ⊎-elim (λ e. plain (toBits binary32 x) (toBits binary32 (absOf x)) e small) (λ e. signed (toBits binary32 x) (toBits binary32 (absOf x)) e small) (signed-bits x n)
+pub bits-split : (x : Float) → toBits binary32 x ≡ cond (signBit x) 0x8000_0000 0 + toBits binary32 (absOf x)
+unfolding absOf toBits
+bits-split nan = refl
+bits-split (inf s) = refl
+bits-split (fin s m e) = split (cond s 0x8000_0000 0) _ _
   where
-    small : toBits binary32 (absOf x) ≤ 0x7f80_0000
-    small = abs-distance x f n .small
+    split : (a b c : ℕ) → a + b + c ≡ a + (0 + b + c)
+    split a b c = omega arith
 
-    plain : (b a : ℕ) → b ≡ a → a ≤ 0x7f80_0000 → b % 0x8000_0000 ≡ a
-    plain b a e h = omega arith
+-- below 2 ^ 31 the magnitude, from there on the sign
+module _ (x : Float) (f : T (fits binary32 x)) (n : T (not (isNan x))) where
+  pub abs-bits : toBits binary32 x % 0x8000_0000 ≡ toBits binary32 (absOf x)
+  abs-bits = rw bits-split (rest (signBit x) (toBits binary32 (absOf x)) (abs-distance x f n .small))
+    where
+      rest : (s : Bool) (a : ℕ) → a ≤ 0x7f80_0000 → (cond s 0x8000_0000 0 + a) % 0x8000_0000 ≡ a
+      rest true a h = omega arith
+      rest false a h = omega arith
 
-    signed : (b a : ℕ) → b ≡ 0x8000_0000 + a → a ≤ 0x7f80_0000 → b % 0x8000_0000 ≡ a
-    signed b a e h = omega arith
+  pub sign-bits : leb 0x8000_0000 (toBits binary32 x) ≡ signBit x
+  sign-bits = rw bits-split (top (signBit x) (toBits binary32 (absOf x)) (abs-distance x f n .small))
+    where
+      top : (s : Bool) (a : ℕ) → a ≤ 0x7f80_0000 → leb 0x8000_0000 (cond s 0x8000_0000 0 + a) ≡ s
+      top true a h = le-leb 0x8000_0000 (0x8000_0000 + a) (omega arith)
+      top false a h = lt-leb 0x8000_0000 (0 + a) (omega arith)
 
--- ---- what is its own magnitude
+pub same-value : (x y : Float) → T (fits binary32 x) → T (fits binary32 y) → signBit x ≡ signBit y → toBits binary32 (absOf x) ≡ toBits binary32 (absOf y) → x ≡ y
+same-value x y p q s b = same-bits x y p q (bits-split x ∙ ap₂ (λ (t : Bool) (n : ℕ). cond t 0x8000_0000 0 + n) s b ∙ sym (bits-split y))
 
-plus-itself : (x : Float) → T (unsigned x) → absOf x ≡ x
+-- ---- what is its own magnitude: what has no sign bit, and so a distance
+
+pub own-magnitude : (x : Float) → signBit x ≡ false → absOf x ≡ x
 unfolding absOf
-plus-itself nan u = refl
-plus-itself (inf true) u = absurd u
-plus-itself (inf false) u = refl
-plus-itself (fin true m e) u = absurd u
-plus-itself (fin false m e) u = refl
+own-magnitude nan h = refl
+own-magnitude (inf true) h = absurd (true≢false h)
+own-magnitude (inf false) h = refl
+own-magnitude (fin true m e) h = absurd (true≢false h)
+own-magnitude (fin false m e) h = refl
+
+pub distance-sign : (x : Float) → Distance x → signBit x ≡ false
+distance-sign x d = none x (distance-unsigned x d)
+  where
+    none : (v : Float) → T (unsigned v) → signBit v ≡ false
+    none nan u = absurd u
+    none (inf true) u = absurd u
+    none (inf false) u = refl
+    none (fin true m e) u = absurd u
+    none (fin false m e) u = refl
 
 pub abs-itself : (x : Float) → Distance x → absOf x ≡ x
-abs-itself x d = plus-itself x (distance-unsigned x d)
+abs-itself x d = own-magnitude x (distance-sign x d)
 
 -- ---- finite and at most a bound
 

@@ -6,3 +6,4 @@ pub mod Root
 pub mod RootOf
 pub mod Case
 pub mod RootCases
+pub mod FloorCases

@@ -10,6 +10,12 @@ absOf nan = nan
 absOf (inf s) = inf false
 absOf (fin s m e) = fin false m e
 
+-- the sign bit: set below zero, for -0 and for -infinity. There is one NaN here, without a sign
+abbrev pub signBit : Float → Bool
+signBit nan = false
+signBit (inf s) = s
+signBit (fin s m e) = s
+
 -- f32::clamp(lo, hi): a NaN stays, and so does what compares as equal to a bound, such as -0 at a bound of +0
 abbrev pub clampOf : Float → Float → Float → Float
 clampOf lo hi x = if x ≺ lo then lo else if hi ≺ x then hi else x

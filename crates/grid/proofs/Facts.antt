@@ -1,8 +1,8 @@
 -- What the tests of a grid and of a cell say of their numbers. Assumes nothing.
-use mathlib.Core.Path.{_≡_, refl, sym, _∙_}
+use mathlib.Core.Path.{_≡_, refl, sym, ap, _∙_}
 use mathlib.Core.Bool.{Bool, true, false, not, _&&_, true≢false}
-use Prim.Native.Nat.{ℕ, _+_, _*_, _^_, _≤_, _<_}
-use native.Mathlib.Nat.{mul-le-mul, le-mul-of-pos-right, lt-of-le-of-lt, lt-of-lt-of-le}
+use Prim.Native.Nat.{ℕ, _+_, _*_, _/_, _%_, _^_, _≤_, _<_}
+use native.Mathlib.Nat.{div-one, mod-eq-of-lt, mul-le-mul, le-mul-of-pos-right, lt-of-le-of-lt, lt-of-lt-of-le}
 use native.Mathlib.Omega.{arith}
 use lib.Dec.{leb, ltb, lit<}
 use lib.Ieee.{Float}
@@ -12,10 +12,10 @@ use Rattle.point.specs.declared.Axis.the-variants.{X, Y, Z}
 use Rattle.grid.specs.declared.Grid.{Grid}
 use Rattle.grid.specs.declared.Cell.{Cell}
 use Rattle.grid.specs.Axes.{countOn, firstOn, sizeOn, cellOn, onEvery}
-use Rattle.grid.specs.Index.{Inside, index, total, isCell}
+use Rattle.grid.specs.Index.{Inside, index, coordinates, cellAt, strideOn, total, isCell}
 use Rattle.grid_axis.specs.AxisBounds.{isCount, isCoordinate, isSize, axisInBounds}
 use Rattle.grid.specs.Bounds.{isAxis, isTotal, inBounds}
-use Rattle.grid.proofs.Laws.{index-below}
+use Rattle.grid.proofs.Laws.{index-below, cell-within}
 
 both : (a b : Bool) → (a && b) ≡ true → (a ≡ true) × (b ≡ true)
 both true b h = (refl, h)
@@ -87,6 +87,13 @@ inside-of g c h = record { x-below = below X; y-below = below Y; z-below = below
 
 pub inside-test : (g : Grid) (c : Cell) → Inside g c → isCell g c ≡ true
 inside-test g c w = rw (lt-ltb (c .x) (countOn X g) (w .x-below), lt-ltb (c .y) (countOn Y g) (w .y-below), lt-ltb (c .z) (countOn Z g) (w .z-below))
+
+-- ---- the number of a cell along an axis, off its index
+pub number-on : (g : Grid) (a : Axis) {i : ℕ} → i < total g → cellOn a (cellAt g i) ≡ i / strideOn g a % countOn a g
+unfolding coordinates
+number-on g X h = sym (mod-eq-of-lt (cell-within h .x-below))
+number-on g Y h = refl
+number-on g Z {i} h = ap (λ (n : ℕ). n % countOn Z g) (sym (div-one i))
 
 -- ---- what is formed on the way stays below 2^32
 -- the counts' products

@@ -15,7 +15,7 @@ use Rattle.grid.specs.declared.Grid.{Grid}
 use Rattle.grid.specs.declared.SnapResult.the-variants.{Inside as In, Outside as Out}
 use Rattle.grid.specs.Axes.{countOn, cellOn, onSome}
 use Rattle.grid.specs.Index.{Inside}
-use Rattle.grid.specs.Place.{floorOn, snapCell, clamped, snap, cellIn}
+use Rattle.grid.specs.Place.{floorOn, snapCell, clamped, snap}
 use Rattle.grid.specs.Bounds.{inBounds}
 use Rattle.grid.proofs.Facts.{bounds-of, on-axis}
 
@@ -27,14 +27,9 @@ snap-within g p h = record { x-below = below X; y-below = below Y; z-below = bel
     below : (a : Axis) → cellOf (countOn a g) (floorOn a g p) < countOn a g
     below a = cell-lt (countOn a g) (floorOn a g p) (on-axis (bounds-of g h) a .some)
 
--- whichever way a snap went, it names the same cell
-pub snap-cell : (g : Grid) (p : Point) → cellIn (snap g p) ≡ snapCell g p
+pub snap-cell : (g : Grid) (p : Point) → snap g p .cell ≡ snapCell g p
 unfolding snap
-snap-cell g p = go (clamped g p)
-  where
-    go : (b : Bool) → cellIn (cond b (Out (snapCell g p)) (In (snapCell g p))) ≡ snapCell g p
-    go true = refl
-    go false = refl
+snap-cell g p = refl
 
 -- ---- clamped or not
 neither : (a b : Bool) → (a || b) ≡ false → (a ≡ false) × (b ≡ false)
@@ -58,11 +53,11 @@ none t h Y = neither (t X) (t Y) (neither (t X || t Y) (t Z) h .0) .1
 none t h Z = neither (t X || t Y) (t Z) h .1
 
 -- Inside, then on each axis the cell is the floor itself
-pub inside-kept : (g : Grid) (p : Point) → snap g p ≡ In (snapCell g p) → (a : Axis) → pos (cellOn a (snapCell g p)) ≡ floorOn a g p
+pub inside-kept : (g : Grid) (p : Point) → snap g p .result ≡ In → (a : Axis) → pos (cellOn a (snapCell g p)) ≡ floorOn a g p
 unfolding snap clamped snapCell
 inside-kept g p h a = on a (kept (countOn a g) (floorOn a g p) (none (λ a. outside (countOn a g) (floorOn a g p)) (unclamped (clamped g p) h) a))
   where
-    unclamped : (b : Bool) → cond b (Out (snapCell g p)) (In (snapCell g p)) ≡ In (snapCell g p) → b ≡ false
+    unclamped : (b : Bool) → cond b Out In ≡ In → b ≡ false
     unclamped true h = let z : _≡_ {A = ℕ} 0 1 = cc in absurd (omega arith)
     unclamped false h = refl
 
@@ -72,7 +67,7 @@ inside-kept g p h a = on a (kept (countOn a g) (floorOn a g p) (none (λ a. outs
     on Z e = e
 
 -- and the other way
-pub kept-inside : (g : Grid) (p : Point) → inBounds g ≡ true → ((a : Axis) → pos (cellOn a (snapCell g p)) ≡ floorOn a g p) → snap g p ≡ In (snapCell g p)
+pub kept-inside : (g : Grid) (p : Point) → inBounds g ≡ true → ((a : Axis) → pos (cellOn a (snapCell g p)) ≡ floorOn a g p) → snap g p .result ≡ In
 unfolding snap clamped snapCell
 kept-inside g p h k = rw (out X (k X), out Y (k Y), out Z (k Z))
   where

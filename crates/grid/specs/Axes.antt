@@ -44,6 +44,18 @@ put X k c = cell k (c .y) (c .z)
 put Y k c = cell (c .x) k (c .z)
 put Z k c = cell (c .x) (c .y) k
 
+-- the axis after this one, round and round
+abbrev pub next : Axis → Axis
+next X = Y
+next Y = Z
+next Z = X
+
+-- cell number n of the line along an axis whose cells have u on the next axis and v on the one after that
+abbrev pub cellFrom : Axis → ℕ → ℕ → ℕ → Cell
+cellFrom X n u v = cell n u v
+cellFrom Y n u v = cell v n u
+cellFrom Z n u v = cell u v n
+
 -- the one of three numbers that belongs to an axis
 abbrev pub pick : Axis → ℕ → ℕ → ℕ → ℕ
 pick X x y z = x

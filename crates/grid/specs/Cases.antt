@@ -16,7 +16,7 @@ use Rattle.grid.specs.declared.SnapResult.{SnapResult}
 use Rattle.grid.specs.declared.SnapResult.the-variants.{Inside, Outside}
 use Rattle.grid.specs.Axes.{pointBy}
 use Rattle.grid.specs.Index.{index, indexOf}
-use Rattle.grid.specs.Place.{snapCell, clamped, snap, cellIn}
+use Rattle.grid.specs.Place.{snapCell, clamped, snap}
 
 -- so many cells along each axis, first 0.5, size 1
 abbrev cells : ℕ → ℕ → ℕ → Grid
@@ -41,14 +41,14 @@ at Z p = vec f½ f½ p
 
 -- 0 for Inside, 1 for Outside; and the cell
 abbrev side : SnapResult → ℕ
-side (Inside c) = 0
-side (Outside c) = 1
+side Inside = 0
+side Outside = 1
 
 abbrev sideOf : Axis → Float → ℕ
-sideOf a p = side (snap (four a) (at a p))
+sideOf a p = side (snap (four a) (at a p) .result)
 
 abbrev numberOf : Axis → Float → ℕ
-numberOf a p = indexOf (four a) (cellIn (snap (four a) (at a p)))
+numberOf a p = indexOf (four a) (snap (four a) (at a p) .cell)
 
 -- 4.0 and -0.25
 abbrev f4 : Float

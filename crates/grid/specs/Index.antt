@@ -37,6 +37,9 @@ cellAt g i = coordinates (countOn Y g) (countOn Z g) i
 abbrev pub total : Grid → ℕ
 total g = countOn X g * countOn Y g * countOn Z g
 
+abbrev pub strideOn : Grid → Axis → ℕ
+strideOn g a = stride a (countOn Y g) (countOn Z g)
+
 abbrev pub Inside : Grid → Cell → Type 0
 Inside g c = Within (countOn X g) (countOn Y g) (countOn Z g) c
 

@@ -12,7 +12,7 @@ use Rattle.grid.specs.declared.Grid.{Grid}
 use Rattle.grid.specs.declared.Cell.{Cell}
 use Rattle.grid.specs.declared.Counts.{Counts}
 use Rattle.grid.specs.declared.BoundingBox.{BoundingBox}
-use Rattle.grid.specs.declared.SnapResult.{SnapResult}
+use Rattle.grid.specs.declared.Snap.{Snap}
 use Rattle.grid.specs.declared.SnapResult.the-variants.{Inside, Outside}
 use Rattle.grid.specs.Axes.{countOn, along, firstOn, sizeOn, cellOn, pointBy, cellBy, onSome}
 
@@ -41,13 +41,8 @@ snapCell g p = cellBy (λ a. cellOf (countOn a g) (floorOn a g p))
 unfoldable pub clamped : Grid → Point → Bool
 clamped g p = onSome (λ a. outside (countOn a g) (floorOn a g p))
 
-unfoldable pub snap : Grid → Point → SnapResult
-snap g p = if clamped g p then Outside (snapCell g p) else Inside (snapCell g p)
-
--- the cell that a snap names, inside or outside
-abbrev pub cellIn : SnapResult → Cell
-cellIn (Inside c) = c
-cellIn (Outside c) = c
+unfoldable pub snap : Grid → Point → Snap
+snap g p = record { result = if clamped g p then Outside else Inside; cell = snapCell g p }
 
 -- "`get_last_cell` gives first + count·size, one cell further than its comment says."
 unfoldable pub lastCell : Grid → Point

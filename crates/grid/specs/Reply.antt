@@ -9,7 +9,7 @@ use Rattle.grid.specs.declared.Grid.{Grid}
 use Rattle.grid.specs.declared.Cell.{Cell}
 use Rattle.grid.specs.declared.Counts.{Counts}
 use Rattle.grid.specs.declared.BoundingBox.{BoundingBox}
-use Rattle.grid.specs.declared.SnapResult.{SnapResult}
+use Rattle.grid.specs.declared.Snap.{Snap}
 use Rattle.grid.specs.declared.NumberAnswer.{NumberAnswer}
 use Rattle.grid.specs.declared.NumberAnswer.the-variants as Number
 use Rattle.grid.specs.declared.CellAnswer.{CellAnswer}
@@ -71,7 +71,7 @@ abbrev pub box : BoxAnswer → Reply BoundingBox
 box (BoxOf.Refused n) = refused n
 box (BoxOf.Is b) = given b
 
-abbrev pub snapped : SnapAnswer → Reply SnapResult
+abbrev pub snapped : SnapAnswer → Reply Snap
 snapped (SnapOf.Refused n) = refused n
 snapped (SnapOf.Snapped s) = given s
 

@@ -37,10 +37,16 @@ pub struct Grid {
     pub count_z: u32,
 }
 
-// The cell that a point is in, or, of a point outside the grid, the cell nearest to it.
+// Whether a point lies in the grid: Outside if it had to be brought to the nearest cell.
 pub enum SnapResult {
-    Inside(Cell),
-    Outside(Cell),
+    Inside,
+    Outside,
+}
+
+// The cell that a point is in, or, of a point outside the grid, the cell nearest to it; and which of the two.
+pub struct Snap {
+    pub result: SnapResult,
+    pub cell: Cell,
 }
 
 // The two corners of a box.
@@ -78,7 +84,7 @@ pub enum BoxAnswer {
 
 pub enum SnapAnswer {
     Refused(u32),
-    Snapped(SnapResult),
+    Snapped(Snap),
 }
 
 pub enum GridAnswer {
@@ -96,18 +102,6 @@ impl Cell {
             Axis::X => self.x,
             Axis::Y => self.y,
             Axis::Z => self.z,
-        }
-    }
-}
-
-impl SnapResult {
-    // The cell that it names, inside or outside.
-    pub fn cell(self) -> Cell
-        ensures { λ r. ⌜ r ≡ Place.cellIn self ⌝ }
-    {
-        match self {
-            SnapResult::Inside(c) => c,
-            SnapResult::Outside(c) => c,
         }
     }
 }

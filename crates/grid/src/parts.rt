@@ -5,6 +5,7 @@ use crate::BoundingBox;
 use crate::Cell;
 use crate::Counts;
 use crate::Grid;
+use crate::Snap;
 use crate::SnapResult;
 use point::Axis;
 use point::Point;
@@ -13,6 +14,7 @@ ghost use mathlib.Core.Bool.{true};
 ghost use Prim.Native.Nat.{_^_, _<_};
 ghost use Rattle.grid.specs.Axes as Axes;
 ghost use Rattle.grid.specs.Index.{Inside, indexOf, cellAt, total, isCell, isIndex};
+ghost use Rattle.grid.specs.Layers as Layers;
 ghost use Rattle.grid.specs.Place as Place;
 ghost use Rattle.grid.specs.Bounds.{inBounds};
 
@@ -24,6 +26,13 @@ pub fn count_on(grid: Grid, axis: Axis) -> u32
         Axis::Y => grid.count_y,
         Axis::Z => grid.count_z,
     }
+}
+
+// How many layers there are.
+pub fn layers(grid: Grid) -> u32
+    ensures { λ r. ⌜ r ≡ Layers.layers grid ⌝ }
+{
+    grid.count_z
 }
 
 // How many cells there are.
@@ -116,7 +125,7 @@ pub fn get_last_cell(grid: Grid) -> Point
 }
 
 // The cell that a point lies in, or the nearest to it where it lies outside.
-pub fn snap_point_to_grid(grid: Grid, point: Point) -> SnapResult
+pub fn snap_point_to_grid(grid: Grid, point: Point) -> Snap
     ensures { λ r. ⌜ r ≡ Place.snap grid point ⌝ }
 {
     let first = grid.first_cell;
@@ -130,9 +139,14 @@ pub fn snap_point_to_grid(grid: Grid, point: Point) -> SnapResult
         z: z.index,
     };
     if x.clamped | y.clamped | z.clamped {
-        SnapResult::Outside(cell)
-    } else {
-        SnapResult::Inside(cell)
+        return Snap {
+            result: SnapResult::Outside,
+            cell: cell,
+        };
+    }
+    Snap {
+        result: SnapResult::Inside,
+        cell: cell,
     }
 }
 

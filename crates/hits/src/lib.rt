@@ -8,17 +8,16 @@ ghost use mathlib.Core.Path.{_≡_};
 ghost use mathlib.Core.Bool.{true};
 ghost use Prim.Native.Nat.{_*_, _<_, _≤_};
 ghost use lib.ListN.{length};
-ghost use Rattle.grid.specs.Axes.{countOn};
+ghost use Rattle.grid.specs.Axes.{countOn, next};
 ghost use Rattle.grid.specs.Index.{total};
 ghost use Rattle.grid.specs.Bounds.{inBounds};
 ghost use Rattle.counts.specs.Counts.{Room};
-ghost use Rattle.lines.specs.Lines as Lines;
 ghost use Rattle.lines.specs.Pass.{Grown, onLine, lineCrossed, rowCrossed, ahead, Marked, rowHit};
 
 // Adds one on line (u, v) to the cells up to number `last`.
 fn add_line(grid: Grid, axis: Axis, u: u32, v: u32, last: u32, crossings: &mut [u32])
     requires { ⌜ inBounds grid ≡ true ⌝ }
-    requires { ⌜ (u < countOn (Lines.next axis) grid) × (v < countOn (Lines.next (Lines.next axis)) grid) × (last < countOn axis grid) ⌝ }
+    requires { ⌜ (u < countOn (next axis) grid) × (v < countOn (next (next axis)) grid) × (last < countOn axis grid) ⌝ }
     requires { ⌜ length (now crossings) ≡ 3 * total grid ⌝ }
     requires { ⌜ Room 1 (now crossings) ⌝ }
     ensures { λ _. ⌜ Grown grid (onLine axis u v last) (now (crossings .entry)) (now (crossings .exit)) ⌝ }
@@ -32,7 +31,7 @@ fn add_line(grid: Grid, axis: Axis, u: u32, v: u32, last: u32, crossings: &mut [
 // floor(t / size)"; a miss adds nothing.
 fn cross_line(grid: Grid, axis: Axis, u: u32, v: u32, hit: RayHit, crossings: &mut [u32])
     requires { ⌜ inBounds grid ≡ true ⌝ }
-    requires { ⌜ (u < countOn (Lines.next axis) grid) × (v < countOn (Lines.next (Lines.next axis)) grid) ⌝ }
+    requires { ⌜ (u < countOn (next axis) grid) × (v < countOn (next (next axis)) grid) ⌝ }
     requires { ⌜ ahead hit ≡ true ⌝ }
     requires { ⌜ length (now crossings) ≡ 3 * total grid ⌝ }
     requires { ⌜ Room 1 (now crossings) ⌝ }
@@ -62,8 +61,8 @@ fn cross_marked(
     crossings: &mut [u32],
 )
     requires { ⌜ inBounds grid ≡ true ⌝ }
-    requires { ⌜ (u < countOn (Lines.next axis) grid) × (1024 ≤ length (now z0)) × (1024 ≤ length (now z1)) × (1024 ≤ length (now z2)) × (1024 ≤ length (now flags)) ⌝ }
-    requires { ⌜ Marked (now z0) (now z1) (now z2) ys (countOn (Lines.next (Lines.next axis)) grid) (now flags) ⌝ }
+    requires { ⌜ (u < countOn (next axis) grid) × (1024 ≤ length (now z0)) × (1024 ≤ length (now z1)) × (1024 ≤ length (now z2)) × (1024 ≤ length (now flags)) ⌝ }
+    requires { ⌜ Marked (now z0) (now z1) (now z2) ys (countOn (next (next axis)) grid) (now flags) ⌝ }
     requires { ⌜ length (now crossings) ≡ 3 * total grid ⌝ }
     requires { ⌜ Room 2 (now crossings) ⌝ }
     ensures { λ _. ⌜ Grown grid (rowCrossed grid axis u (rowHit (now (z0 .entry)) (now (z1 .entry)) (now (z2 .entry)) ys xs)) (now (crossings .entry)) (now (crossings .exit)) ⌝ }
@@ -94,7 +93,7 @@ pub fn cross_row(
     crossings: &mut [u32],
 )
     requires { ⌜ inBounds grid ≡ true ⌝ }
-    requires { ⌜ (u < countOn (Lines.next axis) grid) × (1024 ≤ length (now z0)) × (1024 ≤ length (now z1)) × (1024 ≤ length (now z2)) × (1024 ≤ length (now flags)) ⌝ }
+    requires { ⌜ (u < countOn (next axis) grid) × (1024 ≤ length (now z0)) × (1024 ≤ length (now z1)) × (1024 ≤ length (now z2)) × (1024 ≤ length (now flags)) ⌝ }
     requires { ⌜ length (now crossings) ≡ 3 * total grid ⌝ }
     requires { ⌜ Room 2 (now crossings) ⌝ }
     ensures { λ _. ⌜ Grown grid (rowCrossed grid axis u (rowHit (now (z0 .entry)) (now (z1 .entry)) (now (z2 .entry)) ys xs)) (now (crossings .entry)) (now (crossings .exit)) ⌝ }

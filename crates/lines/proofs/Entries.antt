@@ -10,14 +10,14 @@ use Rattle.point.specs.declared.Axis.{Axis}
 use Rattle.point.specs.declared.Axis.the-variants.{X, Y, Z}
 use Rattle.grid.specs.declared.Grid.{Grid}
 use Rattle.grid.specs.declared.Cell.{Cell}
-use Rattle.grid.specs.Axes.{countOn, cellOn, cell}
-use Rattle.grid.specs.Index.{Inside, indexOf, cellAt, total}
+use Rattle.grid.specs.Axes.{countOn, cellOn, cell, next, cellFrom}
+use Rattle.grid.specs.Index.{Inside, indexOf, cellAt, total, strideOn}
 use Rattle.grid.specs.Bounds.{inBounds}
 use Rattle.grid.proofs.Facts.{bounds-of}
 use Rattle.grid.proofs.Laws.{index-below, index-of-cell, index-injective, index-along, cell-within}
 use Rattle.float.specs.Arith.{if_then_else_}
 use Rattle.run.specs.Signs.{axisAt}
-use Rattle.lines.specs.Lines.{next, uOf, vOf, cellFrom, placeOf, entryOf, strideOn}
+use Rattle.lines.specs.Lines.{uOf, vOf, placeOf, entryOf}
 
 -- ---- a cell and its line
 

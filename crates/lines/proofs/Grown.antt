@@ -13,14 +13,14 @@ use Rattle.point.specs.declared.Axis.{Axis}
 use Rattle.point.specs.declared.Axis.the-variants.{X, Y, Z}
 use Rattle.grid.specs.declared.Grid.{Grid}
 use Rattle.grid.specs.declared.Cell.{Cell}
-use Rattle.grid.specs.Axes.{countOn, sizeOn, cellOn}
-use Rattle.grid.specs.Index.{Inside, cellAt, total}
+use Rattle.grid.specs.Axes.{countOn, sizeOn, cellOn, next, cellFrom}
+use Rattle.grid.specs.Index.{Inside, cellAt, total, strideOn}
 use Rattle.ray.specs.declared.RayHit.{RayHit}
 use Rattle.ray.specs.declared.RayHit.the-variants.{Miss}
 use Rattle.mesh.specs.declared.Corners.{Corners}
 use Rattle.run.specs.Signs.{axisAt, reaches}
 use Rattle.counts.specs.Counts.{Room, Within, Stepped}
-use Rattle.lines.specs.Lines.{next, uOf, vOf, cellFrom, placeOf, entryOf, strideOn}
+use Rattle.lines.specs.Lines.{uOf, vOf, placeOf, entryOf}
 use Rattle.lines.specs.Pass.{Grown, same, onLine, lineCrossed, rowCrossed, axisCrossed, hitOn, crossedBy}
 use Rattle.lines.proofs.Entries.{on-its-line, line-number, line-u, line-v, inside-line, inside-on, same-place, entry-below, one-axis, one-cell, entry-along, inside-at, entry-at}
 

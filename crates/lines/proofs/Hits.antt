@@ -14,7 +14,7 @@ use Rattle.point.specs.declared.Axis.{Axis}
 use Rattle.point.specs.declared.Axis.the-variants.{X, Y, Z}
 use Rattle.grid.specs.declared.Grid.{Grid}
 use Rattle.grid.specs.declared.Cell.{Cell}
-use Rattle.grid.specs.Axes.{countOn, sizeOn, cellOn}
+use Rattle.grid.specs.Axes.{countOn, sizeOn, cellOn, next, cellFrom}
 use Rattle.grid.specs.Index.{Inside, cellAt, total}
 use Rattle.grid.specs.Bounds.{inBounds}
 use Rattle.grid.specs.Place.{centreOf}
@@ -30,7 +30,7 @@ use Rattle.mesh.specs.declared.Corners.{Corners}
 use Rattle.mesh.specs.Mesh.{Mesh, trianglesIn, cornersAt}
 use Rattle.run.specs.Signs.{axisAt, rayFrom, crosses, crossings, crossingsAt, allCrossings}
 use Rattle.counts.specs.Counts.{Room}
-use Rattle.lines.specs.Lines.{next, uOf, vOf, centreAlong, cellFrom, entryOf}
+use Rattle.lines.specs.Lines.{uOf, vOf, centreAlong, entryOf}
 use Rattle.lines.specs.Pass.{Grown, same, onLine, lineCrossed, hitOn, crossedBy, mayHit, ahead, Across, castHit}
 use Rattle.lines.proofs.Entries.{inside-on, entry-below, inside-at, entry-at}
 use Rattle.lines.proofs.Grown.{grown-as}

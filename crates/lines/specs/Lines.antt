@@ -7,16 +7,11 @@ use Rattle.point.specs.declared.Axis.{Axis}
 use Rattle.point.specs.declared.Axis.the-variants.{X, Y, Z}
 use Rattle.grid.specs.declared.Grid.{Grid}
 use Rattle.grid.specs.declared.Cell.{Cell}
-use Rattle.grid.specs.Axes.{countOn, firstOn, sizeOn, cellOn, cell}
+use Rattle.grid.specs.Axes.{firstOn, sizeOn, cellOn, next}
 use Rattle.grid.specs.Index.{indexOf}
 use Rattle.grid_axis.specs.OnAxis.{centreOn}
 
--- the axis after this one; u counts along the next, v along the one after that
-abbrev pub next : Axis → Axis
-next X = Y
-next Y = Z
-next Z = X
-
+-- u counts along the next axis, v along the one after that
 abbrev pub uOf : Axis → Cell → ℕ
 uOf axis c = cellOn (next axis) c
 
@@ -27,12 +22,6 @@ vOf axis c = cellOn (next (next axis)) c
 abbrev pub centreAlong : Grid → Axis → ℕ → Float
 centreAlong g axis i = centreOn (firstOn axis g) (sizeOn axis g) i
 
--- cell number n of line (u, v)
-abbrev pub cellFrom : Axis → ℕ → ℕ → ℕ → Cell
-cellFrom X n u v = cell n u v
-cellFrom Y n u v = cell v n u
-cellFrom Z n u v = cell u v n
-
 -- "x, y, z of each cell in turn"
 abbrev pub placeOf : Axis → ℕ
 placeOf X = 0
@@ -41,9 +30,3 @@ placeOf Z = 2
 
 unfoldable pub entryOf : Grid → Axis → Cell → ℕ
 entryOf g axis c = 3 * indexOf g c + placeOf axis
-
--- by how much the index grows from a cell to the next along the axis
-abbrev pub strideOn : Grid → Axis → ℕ
-strideOn g X = countOn Y g * countOn Z g
-strideOn g Y = countOn Z g
-strideOn g Z = 1

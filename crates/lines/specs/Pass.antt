@@ -10,7 +10,7 @@ use Rattle.float.specs.Arith.{_⊖_, _≺_, f0}
 use Rattle.point.specs.declared.Axis.{Axis}
 use Rattle.grid.specs.declared.Grid.{Grid}
 use Rattle.grid.specs.declared.Cell.{Cell}
-use Rattle.grid.specs.Axes.{sizeOn, cellOn}
+use Rattle.grid.specs.Axes.{sizeOn, cellOn, next, cellFrom}
 use Rattle.grid.specs.Index.{Inside}
 use Rattle.grid.specs.Place.{centreOf}
 use Rattle.ray.specs.declared.Three.{Three}
@@ -20,7 +20,7 @@ use Rattle.ray.specs.declared.RayHit.the-variants.{Miss, Hit}
 use Rattle.ray.specs.Ray.{allBelow, allAbove, acrossZ, acrossY, alongX, rayOf, rayAligned}
 use Rattle.mesh.specs.declared.Corners.{Corners}
 use Rattle.run.specs.Signs.{reaches}
-use Rattle.lines.specs.Lines.{next, uOf, vOf, centreAlong, cellFrom, placeOf, entryOf}
+use Rattle.lines.specs.Lines.{uOf, vOf, centreAlong, placeOf, entryOf}
 
 -- ---- entries that grow by one
 

@@ -7,13 +7,14 @@ use point::Axis;
 ghost use mathlib.Core.Path.{_≡_};
 ghost use mathlib.Core.Bool.{true};
 ghost use Prim.Native.Nat.{_*_, _^_, _<_};
-ghost use Rattle.grid.specs.Index.{Inside};
+ghost use Rattle.grid.specs.Axes as Axes;
+ghost use Rattle.grid.specs.Index.{Inside, strideOn};
 ghost use Rattle.grid.specs.Bounds.{inBounds};
 ghost use Rattle.lines.specs.Lines as Lines;
 
 // The axis that comes after this one, round and round. Along it u counts.
 pub fn next(axis: Axis) -> Axis
-    ensures { λ r. ⌜ r ≡ Lines.next axis ⌝ }
+    ensures { λ r. ⌜ r ≡ Axes.next axis ⌝ }
 {
     match axis {
         Axis::X => Axis::Y,
@@ -24,7 +25,7 @@ pub fn next(axis: Axis) -> Axis
 
 // The axis after the next, along which v counts.
 pub fn second(axis: Axis) -> Axis
-    ensures { λ r. ⌜ r ≡ Lines.next (Lines.next axis) ⌝ }
+    ensures { λ r. ⌜ r ≡ Axes.next (Axes.next axis) ⌝ }
 {
     match axis {
         Axis::X => Axis::Z,
@@ -45,7 +46,7 @@ pub fn centre(grid: Grid, axis: Axis, i: u32) -> f32
 
 // Cell number n of line (u, v).
 pub fn cell_on(axis: Axis, n: u32, u: u32, v: u32) -> Cell
-    ensures { λ r. ⌜ r ≡ Lines.cellFrom axis n u v ⌝ }
+    ensures { λ r. ⌜ r ≡ Axes.cellFrom axis n u v ⌝ }
 {
     match axis {
         Axis::X => Cell { x: n, y: u, z: v },
@@ -77,7 +78,7 @@ pub fn entry(grid: Grid, axis: Axis, cell: Cell) -> usize
 // By how much the index grows from a cell to the next along the axis.
 fn stride(grid: Grid, axis: Axis) -> u32
     requires { ⌜ inBounds grid ≡ true ⌝ }
-    ensures { λ r. ⌜ r ≡ Lines.strideOn grid axis ⌝ }
+    ensures { λ r. ⌜ r ≡ strideOn grid axis ⌝ }
 {
     match axis {
         Axis::X => grid.count_y * grid.count_z,
@@ -89,7 +90,7 @@ fn stride(grid: Grid, axis: Axis) -> u32
 // The same of the entry.
 pub fn step(grid: Grid, axis: Axis) -> usize
     requires { ⌜ inBounds grid ≡ true ⌝ }
-    ensures { λ r. ⌜ r ≡ 3 * Lines.strideOn grid axis ⌝ }
+    ensures { λ r. ⌜ r ≡ 3 * strideOn grid axis ⌝ }
 {
     3 * (stride(grid, axis) as usize)
 }

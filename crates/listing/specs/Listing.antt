@@ -10,6 +10,7 @@ use Rattle.point.specs.Point.{vec}
 use Rattle.point.specs.declared.Point.{Point}
 use Rattle.grid.specs.declared.Grid.{Grid}
 use Rattle.grid.specs.Index.{total}
+use Rattle.grid.specs.Layers.{layers}
 use Rattle.outcome.specs.declared.Answer.{Answer}
 use Rattle.outcome.specs.declared.Answer.the-variants.{Refused, Done}
 use Rattle.checks.specs.Job.{Job, Lent, jobOf}
@@ -49,7 +50,7 @@ lentFor j =
       field = replicate cells f0;
       names = replicate cells 0;
       crossings = replicate (3 * cells) 0;
-      rows = replicate (j .count .z) 0;
+      rows = replicate (layers (gridOf j)) 0;
       distances = replicate (j .room) 0;
       cells = replicate (j .room) 0;
       triangles = replicate (j .room) 0;

@@ -14,6 +14,7 @@ use topology::Topology;
 ghost use Prim.Native.Nat.{_*_, _≤_};
 ghost use lib.ListN.{length};
 ghost use mathlib.Core.Path.{_≡_};
+ghost use Rattle.grid.specs.Layers.{layers};
 ghost use Rattle.checks.specs.Job.{jobOf, lentOf};
 ghost use Rattle.writing.specs.Put.{Put};
 ghost use Rattle.listing.specs.Listing.{pointOf, floatsOf, listed};
@@ -229,10 +230,10 @@ fn grid_of(count: Three, first: Three, size: Three) -> Grid
 
 // The length of the buffer for the rows. More than 512 layers are those of a grid with no cells, which is
 // refused before the buffer is asked for.
-fn layers_of(z: u32) -> usize
-    ensures { λ r. ⌜ (r ≤ 512) × (z ≤ 512 → r ≡ z) ⌝ }
+fn layers_of(n: u32) -> usize
+    ensures { λ r. ⌜ (r ≤ 512) × (n ≤ 512 → r ≡ n) ⌝ }
 {
-    if 512 < z { 0 } else { z as usize }
+    if 512 < n { 0 } else { n as usize }
 }
 
 // Answers the job of these parts, which is within the program's limits, over a row of records or over three
@@ -251,14 +252,14 @@ pub fn answer_job(
     out: &mut [u8],
 ) -> usize
     requires { ⌜ (count .x * count .y * count .z ≤ 512) × (length (now bits) ≤ 768) × (room ≤ 2048) × (32768 ≤ length (now out)) ⌝ }
-    ensures { λ r. ⌜ Put (now (out .entry)) 0 (listedOf (jobOf (gridBy count first size) (floatsOf (now (bits .entry))) topology given (now (indices .entry)) limit) (lentBy (count .x * count .y * count .z) (count .z) room)) (now (out .exit)) r ⌝ }
+    ensures { λ r. ⌜ Put (now (out .entry)) 0 (listedOf (jobOf (gridBy count first size) (floatsOf (now (bits .entry))) topology given (now (indices .entry)) limit) (lentBy (count .x * count .y * count .z) (layers (gridBy count first size)) room)) (now (out .exit)) r ⌝ }
 {
     let grid = grid_of(count, first, size);
     let mut floats = floats_768();
     let n = bits.len();
     fill(bits, &mut floats[..n]);
     let total = (count.x as usize) * (count.y as usize) * (count.z as usize);
-    let layers = layers_of(count.z);
+    let layers = layers_of(grid::parts::layers(grid));
     let entries = room as usize;
     list_run(
         grid,

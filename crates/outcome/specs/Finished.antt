@@ -4,10 +4,9 @@ use mathlib.Core.Path.{_≡_}
 use mathlib.Core.List.{List}
 use lib.ListN.{length}
 use lib.Ieee.{Float}
-use Rattle.point.specs.declared.Axis.the-variants.{Z}
 use Rattle.grid.specs.declared.Grid.{Grid}
-use Rattle.grid.specs.Axes.{countOn}
 use Rattle.grid.specs.Index.{total}
+use Rattle.grid.specs.Layers.{layers}
 use Rattle.mesh.specs.Mesh.{Mesh}
 use Rattle.run.specs.Signs.{signedField, allCrossings, rows}
 use Rattle.told.specs.declared.Progress.{Progress}
@@ -18,7 +17,7 @@ use Rattle.outcome.specs.declared.Answer.the-variants.{Refused, Done}
 -- the lent crossings and rows are of the right lengths
 pub record Long (g : Grid) (crossings rows : List ℕ) : Type 0 where
   pub crossings-long : length crossings ≡ 3 * total g
-  pub rows-long : length rows ≡ countOn Z g
+  pub rows-long : length rows ≡ layers g
 
 -- the counts, the signs and the rows of a field
 pub record Finished (g : Grid) (m : Mesh) (old new : List Float) (counts layers : List ℕ) : Type 0 where

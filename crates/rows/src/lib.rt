@@ -1,14 +1,12 @@
 // "Row z: how many cells of layer z have a distance less than zero" (document 01). A part of the port: users call
 // `sdf`.
 use grid::Grid;
-use point::Axis;
 ghost use mathlib.Core.Path.{_≡_};
 ghost use mathlib.Core.Bool.{true};
 ghost use Prim.Native.Nat.{_+_, _≤_};
 ghost use lib.ListN.{length};
-ghost use Rattle.point.specs.declared.Axis.the-variants.{Z};
-ghost use Rattle.grid.specs.Axes.{countOn};
 ghost use Rattle.grid.specs.Index.{total};
+ghost use Rattle.grid.specs.Layers.{layers};
 ghost use Rattle.grid.specs.Bounds.{inBounds};
 ghost use Rattle.run.specs.Signs as Signs;
 ghost use Rattle.counts.specs.Counts.{Room};
@@ -39,11 +37,11 @@ fn add_column(field: &[f32], base: usize, rows: &mut [u32])
 pub fn count_rows(grid: Grid, field: &[f32], rows: &mut [u32])
     requires { ⌜ inBounds grid ≡ true ⌝ }
     requires { ⌜ length (now field) ≡ total grid ⌝ }
-    requires { ⌜ length (now rows) ≡ countOn Z grid ⌝ }
+    requires { ⌜ length (now rows) ≡ layers grid ⌝ }
     ensures { λ _. ⌜ now (rows .exit) ≡ Signs.rows grid (now (field .entry)) ⌝ }
 {
     counts::clear(rows);
-    let height = grid.count_z as usize;
+    let height = grid::parts::layers(grid) as usize;
     let columns = (grid.count_x * grid.count_y) as usize;
     let mut k = 0;
     while k < columns {

@@ -11,14 +11,15 @@ use lib.ListN.{length, getD}
 use lib.Ieee.{Float, nan, neg}
 use Rattle.float.specs.Arith.{_⊘_, _≺_, f0, if_then_else_}
 use Rattle.float.specs.Cell.{floorOf}
-use Rattle.lists.specs.Range.{countBelow}
+use Rattle.lists.specs.Range.{countBelow, sumBelow}
 use Rattle.lists.specs.Table.{table}
 use Rattle.point.specs.declared.Axis.{Axis}
 use Rattle.point.specs.declared.Axis.the-variants.{X, Y, Z}
 use Rattle.grid.specs.declared.Grid.{Grid}
 use Rattle.grid.specs.declared.Cell.{Cell}
-use Rattle.grid.specs.Axes.{countOn, sizeOn, cellOn, cell}
+use Rattle.grid.specs.Axes.{sizeOn, cellOn, cell}
 use Rattle.grid.specs.Index.{cellAt, total}
+use Rattle.grid.specs.Layers.{layers, layerOf}
 use Rattle.grid.specs.Place.{centreOf}
 use Rattle.ray.specs.declared.RayHit.{RayHit}
 use Rattle.ray.specs.declared.RayHit.the-variants.{Miss, Hit}
@@ -91,9 +92,16 @@ signedField g m field = table (signed g m field) (total g)
 abbrev pub counted : Float → Bool
 counted d = d ≺ f0
 
--- of the cells below c, in the order of their index
-unfoldable pub rowBelow : Grid → List Float → ℕ → ℕ → ℕ
-rowBelow g field z c = countBelow (λ i. eqb (cellAt g i .z) z && counted (getD field i nan)) c
+-- with what weight a cell's distance is added to its row
+abbrev pub weight : Float → ℕ
+weight d = if counted d then 1 else 0
 
-unfoldable pub rows : Grid → List Float → List ℕ
-rows g field = table (λ z. rowBelow g field z (total g)) (countOn Z g)
+-- the weights of the cells of layer n, of those below c in the order of their index
+unfoldable pub rowBelow : (Float → ℕ) → Grid → List Float → ℕ → ℕ → ℕ
+rowBelow w g field n c = sumBelow (λ i. if eqb (layerOf g i) n then w (getD field i nan) else 0) c
+
+unfoldable pub rowsBy : (Float → ℕ) → Grid → List Float → List ℕ
+rowsBy w g field = table (λ n. rowBelow w g field n (total g)) (layers g)
+
+abbrev pub rows : Grid → List Float → List ℕ
+rows g field = rowsBy weight g field

@@ -29,6 +29,7 @@ pub use grid::Grid;
 pub use grid::GridAnswer;
 pub use grid::NumberAnswer;
 pub use grid::PointAnswer as GridPointAnswer;
+pub use grid::Snap;
 pub use grid::SnapAnswer;
 pub use grid::SnapResult;
 pub use point::Axis;

@@ -2,7 +2,6 @@
 // `sdf`.
 use grid::Cell;
 use grid::Grid;
-use grid::SnapResult;
 use point::Point;
 ghost use mathlib.Core.Path.{_≡_};
 ghost use mathlib.Core.Bool.{true, _&&_};
@@ -38,10 +37,8 @@ fn raised(i: u32, count: u32, centre: f32, high: f32) -> u32
 fn snapped(grid: Grid, p: Point) -> Cell
     ensures { λ r. ⌜ r ≡ snapCell grid p ⌝ }
 {
-    match grid::parts::snap_point_to_grid(grid, p) {
-        SnapResult::Inside(c) => c,
-        SnapResult::Outside(c) => c,
-    }
+    let snap = grid::parts::snap_point_to_grid(grid, p);
+    snap.cell
 }
 
 // The first cell of a snapped box, from the box's low corner.

@@ -9,6 +9,7 @@ wrong-lengths-spec =
     (tie.spec
     (λ c κs. search needs)
     (λ c. search needs)
+    (λ c κs. tt)
     (λ c. search needs)
     (λ c. search needs)
-    (λ c. rw (c .before .before .before .before .before .before .before .get-total-cell-count .ensures)))
+    (λ c. let s = c .before .before .before .before .before .before in rw (s .before .before .get-total-cell-count .ensures, s .layers .ensures)))

@@ -6,12 +6,12 @@ use mathlib.Core.Path.{_≡_, refl, ap, ap₂, _∙_}
 use mathlib.Core.Bool.{_&&_}
 use lib.Dec.{ltb}
 use lib.ListN.{length}
-use Rattle.grid.specs.Axes.{countOn}
+use Rattle.grid.specs.Axes.{countOn, next}
 use Rattle.grid.proofs.Facts.{bounds-of, on-axis}
 use Rattle.ray.specs.declared.RayHit.{RayHit}
 use Rattle.ray.specs.declared.Three.{Three}
 use Rattle.ray.specs.Ray.{acrossY, alongX}
-use Rattle.lines.specs.Lines.{next, uOf, centreAlong}
+use Rattle.lines.specs.Lines.{uOf, centreAlong}
 use Rattle.lines.specs.Pass.{Grown, rowCrossed, axisCrossed, rowHit, castHit}
 use Rattle.lines.proofs.Grown.{room-after, axis-none, axis-more, axis-all, row-as}
 use Rattle.crossing.proofs.cross_rows.Statement.{statement}

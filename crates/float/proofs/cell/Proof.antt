@@ -5,13 +5,14 @@ use mathlib.Core.Bool.{Bool, true, false}
 use Prim.Native.Nat.{ℕ, _-_}
 use native.Mathlib.Omega.{arith}
 use lib.IntN.{pos}
+use lib.Dec.{lit≤}
 use Rattle.float.specs.Cell.{cellOf, outside, Snapped}
-use Rattle.float.proofs.Floors.{Truncates, truncates, inside, after, no-row, past-every-row, before-every-row}
+use Rattle.float.proofs.Floors.{Truncates, most-is, truncates, inside, after, no-row, past-every-row, before-every-row}
 use Rattle.float.proofs.cell.Statement.{statement}
 use Rattle.float.proofs.cell.Tie as tie
 
 range : (c : tie.Then3) → Truncates (c .before .before .before .args .q)
-range c = truncates (c .before .before .before .args .q) (c .before .if2 .taken) (c .if3 .taken)
+range c = truncates most-is (lit≤ tt) (c .before .before .before .args .q) (c .before .if2 .taken) (c .if3 .taken)
 
 -- the truncated value is the floor
 floor-at : (c : tie.After-truncating-f32-to-u64) (i : ℕ) (b : Bool)

@@ -4,7 +4,8 @@ use native.Mathlib.Nat.{mul-pos}
 use native.Mathlib.Omega.{arith}
 use mathlib.Core.Path.{_≡_, ap, _∙_}
 use lib.Dec.{lit<}
-use Rattle.lines.specs.Lines.{cellFrom, entryOf}
+use Rattle.grid.specs.Axes.{cellFrom}
+use Rattle.lines.specs.Lines.{entryOf}
 use Rattle.lines.proofs.Entries.{inside-line, stride-pos}
 use Rattle.lines.proofs.Grown.{line-within, line-grown}
 use Rattle.hits.proofs.add_line.Statement.{statement}

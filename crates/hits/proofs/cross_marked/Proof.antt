@@ -8,12 +8,12 @@ use mathlib.Core.Bool.{_&&_}
 use mathlib.Core.Logic.{⊎-elim}
 use lib.Dec.{ltb}
 use lib.ListN.{length}
-use Rattle.grid.specs.Axes.{countOn}
+use Rattle.grid.specs.Axes.{countOn, next}
 use Rattle.grid.proofs.Facts.{bounds-of, on-axis}
 use Rattle.ray.specs.declared.Three.{Three}
 use Rattle.ray.specs.declared.RayHit.{RayHit}
 use Rattle.ray.specs.Ray.{rayOf}
-use Rattle.lines.specs.Lines.{next, vOf}
+use Rattle.lines.specs.Lines.{vOf}
 use Rattle.lines.specs.Pass.{Grown, lineCrossed, rowCrossed, threeAt, ahead, rowHit}
 use Rattle.lines.proofs.Grown.{room-after, row-none, row-more, row-all, line-missed}
 use Rattle.lines.proofs.Hits.{must-miss, hit-ahead}

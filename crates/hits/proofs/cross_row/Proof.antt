@@ -3,9 +3,8 @@ use borrow.Author.Needs.{needs}
 use Prim.Native.Nat.{_≤_}
 use native.Mathlib.Omega.{arith}
 use mathlib.Core.Path.{_≡_, ap, _∙_}
-use Rattle.grid.specs.Axes.{countOn}
+use Rattle.grid.specs.Axes.{countOn, next}
 use Rattle.grid.proofs.Facts.{bounds-of, on-axis}
-use Rattle.lines.specs.Lines.{next}
 use Rattle.lines.specs.Pass.{threeAt, rowHit}
 use Rattle.lines.proofs.Grown.{row-missed}
 use Rattle.lines.proofs.Hits.{must-miss}

@@ -6,6 +6,7 @@ use native.Mathlib.Omega.{arith}
 use mathlib.Core.Path.{_≡_, sym, ap, _∙_}
 use lib.ListN.{replicate}
 use Rattle.grid.specs.Index.{total}
+use Rattle.grid.specs.Layers.{layers}
 use Rattle.grid.proofs.Facts.{bounds-of, counts-fit}
 use Rattle.rows.proofs.Columns.{Rowed, rowed-none, rowed-more, rowed-room, rowed-all}
 use Rattle.rows.proofs.count_rows.Statement.{statement}
@@ -27,11 +28,11 @@ small c =
 -- column k lies within the field
 within : (c : tie.In-loop Inv-loop μ-loop) →
     let s = c .before .before .before .before .before .before .before .before .before .before in
-    (c .before .loop .k + 1) * s .args .grid .«count_z» ≤ total (s .args .grid)
+    (c .before .loop .k + 1) * c .before .before .before .layers .result ≤ total (s .args .grid)
 within c =
     let s = c .before .before .before .before .before .before .before .before .before .before in
     let h : c .before .loop .k + 1 ≤ s .args .grid .«count_x» * s .args .grid .«count_y» = omega arith in
-    mul-le-mul-right (s .args .grid .«count_z») h
+    rw (c .before .before .before .layers .ensures) (mul-le-mul-right (layers (s .args .grid)) h)
 
 -- the same with the column before it apart
 column : (k n : ℕ) → (k + 1) * n ≡ k * n + n
@@ -39,6 +40,9 @@ column k n = omega arith
 
 clear-requires : tie.Need-clear-requires Inv-loop μ-loop
 clear-requires c κs = search needs
+
+layers-requires : tie.Need-layers-requires Inv-loop μ-loop
+layers-requires c κs = tt
 
 cast-height : tie.Need-cast-height Inv-loop μ-loop
 cast-height c = search needs
@@ -53,18 +57,19 @@ loop-holds : tie.Need-loop-holds Inv-loop μ-loop
 loop-holds c =
     let s = c .before .before .before .before .before .before .before .before in
     let l = c .before .before .before .before .clear in
-    (omega arith, rowed-none (s .args .grid .«count_z») (s .args .field .now) (l .last .0) (l .ensures ∙ ap (λ (n : ℕ). replicate n 0) (s .pre .1 .1)))
+    let t = c .before .layers in
+    (omega arith, rowed-none (t .result) (s .args .field .now) (l .last .0) (l .ensures ∙ ap (λ (n : ℕ). replicate n 0) (s .pre .1 .1 ∙ sym (t .ensures))))
 
 mul-add-column : tie.Need-mul-add-column Inv-loop μ-loop
 mul-add-column c =
     let s = c .before .before .before .before .before .before .before .before .before .before in
-    omega (arith, within c, column (c .before .loop .k) (s .args .grid .«count_z»), small s .1)
+    omega (arith, within c, column (c .before .loop .k) (c .before .before .before .layers .result), small s .1)
 
 add-column-requires : tie.Need-add-column-requires Inv-loop μ-loop
 add-column-requires c κs =
     let s = c .before .before .before .before .before .before .before .before .before .before .before in
     let l = c .before .before .loop in
-    let n = s .args .grid .«count_z» in
+    let n = c .before .before .before .before .layers .result in
     let e = column (l .k) n in (
       omega (arith, within (c .before), e, l .inv .1 .long, s .pre .1 .0),
       rowed-room n (s .args .field .now) (l .k) (l .rows) (omega (arith, within (c .before), e, small s .1)) (l .inv .1),
@@ -84,18 +89,18 @@ loop-again c =
     let s = c .before .before .before .before .before .before .before .before .before .before .before .before .before .before in
     let l = c .before .before .before .before .before .loop in
     let h = c .before .before .before .before .loop-test .taken in
-    (omega arith, rowed-more (s .args .grid .«count_z») (s .args .field .now) (l .k) (l .inv .1) (c .before .before .add-column .ensures))
+    (omega arith, rowed-more (c .before .before .before .before .before .before .before .layers .result) (s .args .field .now) (l .k) (l .inv .1) (c .before .before .add-column .ensures))
 
 same-length : tie.Need-same-length Inv-loop μ-loop
 same-length c =
     let s = c .before .before .before .before .before .before .before .before .before .before in
-    c .before .loop .inv .1 .long ∙ sym (s .pre .1 .1)
+    c .before .loop .inv .1 .long ∙ c .before .before .before .layers .ensures ∙ sym (s .pre .1 .1)
 
 returns : tie.Need-returns Inv-loop μ-loop
 returns c =
     let s = c .before .before .before .before .before .before .before .before .before .before in
     let l = c .before .loop in
-    rowed-all (s .args .grid) (s .args .field .now) (l .k) (l .rows) (omega arith) (l .inv .1)
+    rowed-all (s .args .grid) (s .args .field .now) (l .k) (l .rows) (omega arith) (rw (c .before .before .before .layers .ensures) at (l .inv .1))
 
 pub count-rows-spec : {M : Type 1} → statement M
 count-rows-spec =
@@ -104,6 +109,7 @@ count-rows-spec =
     Inv-loop
     μ-loop
     clear-requires
+    layers-requires
     cast-height
     mul-columns
     cast-columns

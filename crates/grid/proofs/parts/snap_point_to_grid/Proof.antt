@@ -1,11 +1,17 @@
 -- `parts::snap_point_to_grid`: the cell and the test that the three calls give are those of the definition. Assumes nothing.
 use mathlib.Core.Path.{_≡_, sym, ap, _∙_}
 use mathlib.Core.Bool.{_||_}
+use Rattle.grid.specs.declared.Cell.{Cell}
+use Rattle.grid.specs.declared.Snap.{Snap}
+use Rattle.grid.specs.declared.SnapResult.{SnapResult}
 use Rattle.grid.specs.declared.SnapResult.the-variants.{Inside, Outside}
 use Rattle.grid.specs.Axes.{cell}
 use Rattle.grid.specs.Place.{snap, snapCell, clamped}
 use Rattle.grid.proofs.parts.snap_point_to_grid.Statement.{statement}
 use Rattle.grid.proofs.parts.snap_point_to_grid.Tie as tie
+
+abbrev found : SnapResult → Cell → Snap
+found r k = record { result = r; cell = k }
 
 snapped : (c : tie.After-snap-on3) →
     let s = c .before .before .before .before .before .args in
@@ -27,5 +33,5 @@ snap-point-to-grid-spec =
     (λ c κs. tt)
     (λ c κs. tt)
     (λ c κs. tt)
-    (λ c. let b = c .before .before .before .before in ap Outside (snapped b) ∙ sym (rw (past b ∙ c .if1 .taken)))
-    (λ c. let b = c .before .before .before .before in ap Inside (snapped b) ∙ sym (rw (past b ∙ c .if1 .left))))
+    (λ c. let b = c .before .before .before .before in ap (found Outside) (snapped b) ∙ sym (rw (past b ∙ c .if1 .taken)))
+    (λ c. let b = c .before .before .before .before in ap (found Inside) (snapped b) ∙ sym (rw (past b ∙ c .if1 .left))))

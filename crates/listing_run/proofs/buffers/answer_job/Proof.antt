@@ -51,20 +51,23 @@ cast-total-3 c = search needs
 mul-total-2 : tie.Need-mul-total-2
 mul-total-2 c = search needs
 
+layers-requires : tie.Need-layers-requires
+layers-requires c κs = tt
+
 layers-of-requires : tie.Need-layers-of-requires
 layers-of-requires c κs = search needs
 
 array-share-prefix-floats : tie.Need-array-share-prefix-floats
 array-share-prefix-floats c =
-    let s = c .before .before .before .before .before .before .before .before .before .before .before .before in
-    let f = c .before .before .before .before .before .fill in
-    omega (arith, length-append (f .last .1 .0) (drop (length (s .args .bits .now)) (c .before .before .before .before .before .before .before .floats-768 .result)), long-as (s .args .bits .now) (f .ensures))
+    let s = c .before .before .before .before .before .before .before .before .before .before .before .before .before in
+    let f = c .before .before .before .before .before .before .fill in
+    omega (arith, length-append (f .last .1 .0) (drop (length (s .args .bits .now)) (c .before .before .before .before .before .before .before .before .floats-768 .result)), long-as (s .args .bits .now) (f .ensures))
 
 slice-aggregate-list-run : tie.Need-slice-aggregate-list-run
 slice-aggregate-list-run c =
-    let s = c .before .before .before .before .before .before .before .before .before .before .before .before .before in
-    let f = c .before .before .before .before .before .before .fill in
-    sym (ap length (front-of (s .args .bits .now) (drop (length (s .args .bits .now)) (c .before .before .before .before .before .before .before .before .floats-768 .result)) (f .ensures)) ∙ length-map (s .args .bits .now) (ofBits binary32))
+    let s = c .before .before .before .before .before .before .before .before .before .before .before .before .before .before in
+    let f = c .before .before .before .before .before .before .before .fill in
+    sym (ap length (front-of (s .args .bits .now) (drop (length (s .args .bits .now)) (c .before .before .before .before .before .before .before .before .before .floats-768 .result)) (f .ensures)) ∙ length-map (s .args .bits .now) (ofBits binary32))
 
 list-run-requires : tie.Need-list-run-requires
 list-run-requires c κs = search needs
@@ -74,16 +77,17 @@ same-length c = search needs
 
 returns : tie.Need-returns
 returns c =
-    let s = c .before .before .before .before .before .before .before .before .before .before .before .before .before .before .before .before .before in
+    let s = c .before .before .before .before .before .before .before .before .before .before .before .before .before .before .before .before .before .before in
     let a = s .args in
     let n = a .count in
-    let f = c .before .before .before .before .before .before .before .before .before .before .fill in
+    let f = c .before .before .before .before .before .before .before .before .before .before .before .fill in
     let l = c .before .before .before .before .before .layers-of in
+    let t = c .before .before .before .before .before .before .layers in
     let job : Grid → List Float → Job = λ g v. jobOf g v (a .topology) (a .given) (a .indices .now) (a .limit) in
     said
-    (ap₂ (λ (g : Grid) (v : List Float). listedOf (job g v) (lentBy (n .x * n .y * n .z) (l .result) (a .room))) (c .before .before .before .before .before .before .before .before .before .before .before .before .before .grid-of .ensures)
-    (front-of (a .bits .now) (drop (length (a .bits .now)) (c .before .before .before .before .before .before .before .before .before .before .before .before .floats-768 .result)) (f .ensures))
-    ∙ same-layers (job (gridBy n (a .first) (a .size)) (floatsOf (a .bits .now))) (n .x * n .y) (n .z) (l .result) (a .room) refl (s .pre .0) (l .ensures .1))
+    (ap₂ (λ (g : Grid) (v : List Float). listedOf (job g v) (lentBy (n .x * n .y * n .z) (l .result) (a .room))) (c .before .before .before .before .before .before .before .before .before .before .before .before .before .before .grid-of .ensures)
+    (front-of (a .bits .now) (drop (length (a .bits .now)) (c .before .before .before .before .before .before .before .before .before .before .before .before .before .floats-768 .result)) (f .ensures))
+    ∙ same-layers (job (gridBy n (a .first) (a .size)) (floatsOf (a .bits .now))) (n .x * n .y) (n .z) (l .result) (a .room) refl (s .pre .0) (rw (t .ensures, c .before .before .before .before .before .before .before .before .before .before .before .before .before .before .grid-of .ensures) at (l .ensures .1)))
     refl
     (c .before .before .list-run .ensures)
 
@@ -101,6 +105,7 @@ answer-job-spec =
     mul-total
     cast-total-3
     mul-total-2
+    layers-requires
     layers-of-requires
     array-share-prefix-floats
     slice-aggregate-list-run
