@@ -14,9 +14,8 @@ use Rattle.queue.specs.Queue.{blank}
 use Rattle.checks.specs.Job.{Job, jobOf}
 use Rattle.outcome.specs.Outcome.{Gives, outcome}
 use Rattle.entries.proofs.ByValue.{a-topology, a-given, an-entry}
-use Rattle.records.proofs.ByValue.{a-grid}
 use Rattle.generate_records.specs.LentRow.{lentRow}
-use Rattle.generate_records.proofs.ByValue.{an-answer}
+use Rattle.generate_records.proofs.ByValue.{a-grid, an-answer}
 use Rattle.own_row.specs.Own.{lentOwn, GivesFour}
 use Rattle.own_row.proofs.Own.{first-long, row-typed, own-slice, lends-own, comes-own}
 use Rattle.own_row.proofs.Zeros.{gives-four}
