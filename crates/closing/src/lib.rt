@@ -1,6 +1,7 @@
 // What follows the run (document 01, "The run", 4), but for the queue. A part of the port: users call `sdf`.
 use grid::Grid;
 use outcome::Answer;
+use outcome::Tally;
 use told::Progress;
 use topology::Indices;
 use topology::Topology;
@@ -63,8 +64,8 @@ pub fn close(
         crossings,
         rows,
     );
-    Answer::Done {
+    Answer::Done(Tally {
         pops: ran.pops,
         peak: ran.peak,
-    }
+    })
 }

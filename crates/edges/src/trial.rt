@@ -35,7 +35,7 @@ fn number_of(answer: Answer) -> u32
 {
     match answer {
         Answer::Refused(n) => n,
-        Answer::Done { pops, peak } => 0,
+        Answer::Done(t) => 0,
     }
 }
 

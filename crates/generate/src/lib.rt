@@ -8,6 +8,7 @@ use topology::Topology;
 ghost use Rattle.checks.specs.Job.{jobOf, lentOf};
 ghost use Rattle.outcome.specs.Outcome.{Gives, outcome};
 pub use outcome::Answer;
+pub use outcome::Tally;
 
 // Any job at all, over any lent buffers.
 pub fn generate_grid_sdf(

@@ -75,10 +75,10 @@ rowLine b z = line "row=" (decimal z ++ space ∷ decimal (getD (b .rows) z 0))
 -- a job that is done: a line for each cell and for each layer; a refusal: "Other refusals print one line too."
 unfoldable pub listed : Answer → Lent → List ℕ
 listed (Refused n) b = answerLine n
-listed (Done pops peak) b =
+listed (Done t) b =
     answerLine 0
-    ++ line "pops=" (decimal pops)
-    ++ line "peak=" (decimal peak)
+    ++ line "pops=" (decimal (t .pops))
+    ++ line "peak=" (decimal (t .peak))
     ++ linesBelow (cellLine b) (length (b .field))
     ++ linesBelow (rowLine b) (length (b .rows))
 

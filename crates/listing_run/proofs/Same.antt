@@ -40,7 +40,7 @@ use Rattle.listing_run.specs.Parts.{listedOf, lentBy}
 pub as-shown : (a : Answer) (b : Lent) → listed a (shown (b .field) (b .names) (b .rows)) ≡ listed a b
 unfolding listed
 as-shown (Refused n) b = refl
-as-shown (Done pops peak) b = refl
+as-shown (Done t) b = refl
 
 -- ---- buffers of the same lengths
 

@@ -6,6 +6,7 @@ use mathlib.Core.List.{List, [], _∷_, _++_}
 use lib.Ieee.{Float}
 use Rattle.outcome.specs.declared.Answer.{Answer}
 use Rattle.outcome.specs.declared.Answer.the-variants.{Refused, Done}
+use Rattle.outcome.specs.declared.Tally.{Tally}
 use Rattle.outcome.specs.Outcome.{peakOf}
 use Rattle.text.specs.Words.{bytes, decimal, lf, line}
 use Rattle.writing.specs.Put.{Put}
@@ -18,11 +19,11 @@ module _ {a : Answer} {field : List Float} {names rows old new : List ℕ} {k : 
   unfolding listed line
   refused-written n e f p = rw e (record { few = f; peak-fits = omega arith }, p)
 
-  pub done-written : (pops peak : ℕ) → a ≡ Done pops peak → Few field names rows old → peak ≤ 4294967295
-      → Put old 0 (listed (Done pops peak) (shown field names rows)) new k
+  pub done-written : (t : Tally) → a ≡ Done t → Few field names rows old → t .peak ≤ 4294967295
+      → Put old 0 (listed (Done t) (shown field names rows)) new k
       → Listable a field names rows old × Put old 0 (listed a (shown field names rows)) new k
-  done-written pops peak e f h p = rw e (record { few = f; peak-fits = h }, p)
+  done-written t e f h p = rw e (record { few = f; peak-fits = h }, p)
 
-pub too-high : {a : Answer} {field : List Float} {names rows old : List ℕ} (pops peak : ℕ) → a ≡ Done pops peak → 4294967295 < peak
+pub too-high : {a : Answer} {field : List Float} {names rows old : List ℕ} (t : Tally) → a ≡ Done t → 4294967295 < t .peak
     → Listable a field names rows old → ⊥
-too-high pops peak e h l = omega (arith, l .peak-fits, ap peakOf e)
+too-high t e h l = omega (arith, l .peak-fits, ap peakOf e)

@@ -22,7 +22,7 @@ fn put_done(
     rows: &[u32],
 ) -> usize
     requires { ⌜ Few (now field) (now names) (now rows) (now out) ⌝ }
-    ensures { λ r. ⌜ Put (now (out .entry)) 0 (listed (Done pops peak) (shown (now (field .entry)) (now (names .entry)) (now (rows .entry)))) (now (out .exit)) r ⌝ }
+    ensures { λ r. ⌜ Put (now (out .entry)) 0 (listed (Done (record { pops = pops; peak = peak })) (shown (now (field .entry)) (now (names .entry)) (now (rows .entry)))) (now (out .exit)) r ⌝ }
 {
     let a = put_number(out, 0, b"answer=", 0);
     let b = put_number(out, a, b"pops=", pops);
@@ -59,11 +59,12 @@ pub fn write_listing(
             let n = put_number(out, 0, b"answer=", number);
             Written::Bytes(n)
         }
-        Answer::Done { pops, peak } => {
+        Answer::Done(t) => {
+            let peak = t.peak;
             if 4294967295 < peak {
                 return Written::Nothing;
             }
-            let n = put_done(out, pops, peak as u32, field, names, rows);
+            let n = put_done(out, t.pops, peak as u32, field, names, rows);
             Written::Bytes(n)
         }
     }

@@ -12,6 +12,7 @@ use Rattle.mesh.specs.Mesh.{trianglesIn}
 use Rattle.run.specs.Run.{State, none}
 use Rattle.outcome.specs.declared.Answer.{Answer}
 use Rattle.outcome.specs.declared.Answer.the-variants.{Refused, Done}
+use Rattle.outcome.specs.declared.Tally.{Tally}
 use Rattle.checks.specs.Job.{Job, Lent}
 use Rattle.checks.specs.Refusals.{refusal, lengthsOf}
 use Rattle.checks.proofs.Accepted.{accepted}
@@ -27,20 +28,20 @@ pub record Ended (j : Job) (b : Lent) : Type 0 where
   pub ran : runOf j b ≡ goes last
   pub fills : outcome j b .left ≡ filled j last b
 
-refused-done : (n pops peak : ℕ) → Refused n ≡ Done pops peak → ⊥
-refused-done n pops peak e = let z : _≡_ {A = ℕ} 0 1 = cc in omega arith
+refused-done : (n : ℕ) (t : Tally) → Refused n ≡ Done t → ⊥
+refused-done n t e = let z : _≡_ {A = ℕ} 0 1 = cc in omega arith
 
-done-ended : (j : Job) (b : Lent) (pops peak : ℕ) → outcome j b .answer ≡ Done pops peak → Ended j b
+done-ended : (j : Job) (b : Lent) (t : Tally) → outcome j b .answer ≡ Done t → Ended j b
 unfolding outcome unlessRefused ended
-done-ended j b pops peak h = check (refusal j b) refl h
+done-ended j b t h = check (refusal j b) refl h
   where
-    turn : (o : Turn State) → refusal j b ≡ 0 → runOf j b ≡ o → ended j b o .answer ≡ Done pops peak → Ended j b
+    turn : (o : Turn State) → refusal j b ≡ 0 → runOf j b ≡ o → ended j b o .answer ≡ Done t → Ended j b
     turn (goes s) r e w = record { last = s; passed = r; ran = e; fills = rw (r, e) }
-    turn (refuses n) r e w = absurd (refused-done n pops peak w)
+    turn (refuses n) r e w = absurd (refused-done n t w)
 
-    check : (n : ℕ) → refusal j b ≡ n → unlessRefused n b (ended j b (runOf j b)) .answer ≡ Done pops peak → Ended j b
+    check : (n : ℕ) → refusal j b ≡ n → unlessRefused n b (ended j b (runOf j b)) .answer ≡ Done t → Ended j b
     check zero e w = turn (runOf j b) e refl w
-    check (suc n) e w = absurd (refused-done (suc n) pops peak w)
+    check (suc n) e w = absurd (refused-done (suc n) t w)
 
 -- ---- what the checks have shown
 
@@ -59,12 +60,12 @@ checks-passed j b h =
 -- ---- the theorem
 
 pub demand-3 : (j : Job) (b : Lent) → Demand3 j b
-demand-3 j b pops peak h c v =
-    let E = done-ended j b pops peak h in
+demand-3 j b t h c v =
+    let E = done-ended j b t h in
     let p = checks-passed j b (E .passed) in
     rw (E .fills) (run-means (j .grid) (j .mesh) (length (b .distances)) (j .limit) (p .some) (p .few) (E .last) (E .ran) c v)
 
 -- ---- the corollary, of the lent buffers after a call
 
 pub after-a-call : (j : Job) (b : Lent) (answer : Answer) (left : Lent) → AfterCall j b answer left
-after-a-call j b answer left gives pops peak done c v = rw (gives .leaves) (demand-3 j b pops peak (sym (gives .answers) ∙ done) c v)
+after-a-call j b answer left gives t done c v = rw (gives .leaves) (demand-3 j b t (sym (gives .answers) ∙ done) c v)

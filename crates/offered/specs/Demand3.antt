@@ -1,7 +1,6 @@
 -- Demand 3, of the outcome that the public job's contract names: for every job answered Done, with no other condition, and for each
 -- cell of its grid; and the same of the lent buffers after a call. Definitions only; proofs/Theorem.antt shows that both hold
 -- (`demand-3`, `after-a-call`).
-use Prim.Native.Nat.{ℕ}
 use mathlib.Core.Path.{_≡_}
 use lib.ListN.{length}
 use Rattle.grid.specs.declared.Cell.{Cell}
@@ -10,6 +9,7 @@ use Rattle.run.specs.Run.{Ground}
 use Rattle.run.specs.Ground.{groundOf}
 use Rattle.outcome.specs.declared.Answer.{Answer}
 use Rattle.outcome.specs.declared.Answer.the-variants.{Done}
+use Rattle.outcome.specs.declared.Tally.{Tally}
 use Rattle.checks.specs.Job.{Job, Lent}
 use Rattle.outcome.specs.Outcome.{Gives, outcome}
 use Rattle.offered.specs.Meaning.{CellMeans}
@@ -20,12 +20,12 @@ groundFor j b = groundOf (j .grid) (j .mesh) (length (b .distances)) (j .limit)
 
 abbrev pub Demand3 : Job → Lent → Type 0
 Demand3 j b =
-    (pops peak : ℕ) → outcome j b .answer ≡ Done pops peak → (c : Cell) → Inside (j .grid) c
+    (t : Tally) → outcome j b .answer ≡ Done t → (c : Cell) → Inside (j .grid) c
     → CellMeans (j .grid) (j .mesh) (groundFor j b) (outcome j b .left .field) (outcome j b .left .names) (outcome j b .left .crossings) c
 
 -- Of a call of the public function, by its contract: it was given the job j and lent the buffers b, and it answered and left what the
 -- contract says. If it answered Done, then what it left means this.
 abbrev pub AfterCall : Job → Lent → Answer → Lent → Type 0
 AfterCall j b answer left =
-    Gives (outcome j b) answer left → (pops peak : ℕ) → answer ≡ Done pops peak → (c : Cell) → Inside (j .grid) c
+    Gives (outcome j b) answer left → (t : Tally) → answer ≡ Done t → (c : Cell) → Inside (j .grid) c
     → CellMeans (j .grid) (j .mesh) (groundFor j b) (left .field) (left .names) (left .crossings) c

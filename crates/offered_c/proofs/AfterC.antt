@@ -10,4 +10,4 @@ use Rattle.offered_c.specs.AfterC.{AfterCallFromC}
 pub after-a-call-from-c : (j : Job) (b : Lent) (answer : SdfJobAnswer) (left : Lent) → AfterCallFromC j b answer left
 after-a-call-from-c j b answer left gives zero c v =
     let d = number-0 j b (sym (ap (λ (a : SdfJobAnswer). a .number) (gives .answers)) ∙ zero) in
-    rw (gives .leaves) (demand-3 j b (d .pops) (d .peak) (d .is) c v)
+    rw (gives .leaves) (demand-3 j b (d .tally) (d .is) c v)

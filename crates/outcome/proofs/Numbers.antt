@@ -18,7 +18,7 @@ use Rattle.checks.specs.Job.{Job, Lent}
 use Rattle.checks.specs.Refusals.{refusal, refusalBy, lengthsOf, checks}
 use Rattle.lists.proofs.Checks.{first-is}
 use Rattle.outcome.specs.declared.Answer.the-variants.{Refused}
-use Rattle.outcome.specs.Outcome.{ended, runOf, unlessRefused, outcome, numberOf}
+use Rattle.outcome.specs.Outcome.{tallyOf, ended, runOf, unlessRefused, outcome, numberOf}
 use Rattle.outcome.specs.Numbers.{checkNumbers, runNumbers, IsDone, Replies, done, beforeTheRun, inTheRun}
 
 -- "the checks by 1 to 5": what the checks come to is 0 or one of their numbers
@@ -39,7 +39,7 @@ unfolding outcome unlessRefused ended
 replies j b = check (refusal j b) (check-given j b)
   where
     turn : (o : Turn State) → OnlyBy (λ n. List·Memᴰ n runNumbers) o → Replies j b (ended j b o)
-    turn (goes s) h = done (record { pops = s .pops; peak = s .peak; is = refl })
+    turn (goes s) h = done (record { tally = tallyOf s; is = refl })
     turn (refuses n) h = inTheRun n h refl refl
 
     check : (n : ℕ) → (n ≡ 0) ⊎ List·Memᴰ n (checkNumbers j b) → Replies j b (unlessRefused n b (ended j b (runOf j b)))

@@ -22,7 +22,7 @@ use Rattle.clearing.specs.Cleared.{cleared}
 use Rattle.clearing.proofs.Lengths.{all-cleared, same-cleared, cleared-long}
 use Rattle.outcome.specs.declared.Answer.{Answer}
 use Rattle.outcome.specs.declared.Answer.the-variants.{Refused, Done}
-use Rattle.outcome.specs.Outcome.{Outcome, numberOf, popsOf, peakOf, Gives, filled, ended, runOf}
+use Rattle.outcome.specs.Outcome.{Outcome, numberOf, popsOf, peakOf, Gives, filled, tallyOf, ended, runOf}
 use Rattle.outcome.specs.Finished.{Closed}
 
 -- equal answers have one number, pops and peak
@@ -63,7 +63,7 @@ unfolding ended
 same-ended j b c (goes s) e =
     let f = filled j s b in
     λ i. record {
-      answer = Done (s .pops) (s .peak);
+      answer = Done (tallyOf s);
       left =
           lentOf (f .field) (f .names) (f .crossings) (f .rows) (replicate (e i .distances) 0) (replicate (e i .cells) 0) (replicate (e i .triangles) 0);
     }

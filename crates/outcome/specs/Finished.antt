@@ -29,4 +29,4 @@ pub record Finished (g : Grid) (m : Mesh) (old new : List Float) (counts layers 
 -- them; else the answer is what was taken and waited, and the names stay.
 pub record Closed (g : Grid) (m : Mesh) (ran : Progress) (field : List Float) (names crossings layers : List ℕ) (field′ : List Float) (names′ crossings′ layers′ : List ℕ) (answer : Answer) : Type 0 where
   pub refused : (ran .number ≡ 0 → ⊥) → (answer ≡ Refused (ran .number)) × ClearedFields field field′ names crossings layers names′ crossings′ layers′
-  pub done : ran .number ≡ 0 → (answer ≡ Done (ran .pops) (ran .peak)) × (names′ ≡ names) × Finished g m field field′ crossings′ layers′
+  pub done : ran .number ≡ 0 → (answer ≡ Done (record { pops = ran .pops; peak = ran .peak })) × (names′ ≡ names) × Finished g m field field′ crossings′ layers′

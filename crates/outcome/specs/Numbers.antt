@@ -10,6 +10,7 @@ use Rattle.checks.specs.Refusals.{lengthsOf, checks}
 use Rattle.clearing.specs.Cleared.{cleared}
 use Rattle.outcome.specs.declared.Answer.{Answer}
 use Rattle.outcome.specs.declared.Answer.the-variants.{Refused, Done}
+use Rattle.outcome.specs.declared.Tally.{Tally}
 use Rattle.outcome.specs.Outcome.{Outcome}
 
 -- the numbers of the checks before the run, as their list has them: 1 to 5
@@ -21,9 +22,8 @@ abbrev pub runNumbers : List ℕ
 runNumbers = 6 ∷ 7 ∷ 8 ∷ []
 
 pub record IsDone (a : Answer) : Type 0 where
-  pub pops : ℕ
-  pub peak : ℕ
-  pub is : a ≡ Done pops peak
+  pub tally : Tally
+  pub is : a ≡ Done tally
 
 -- The three ways of a job: it is done; it is refused by a number of the checks, and no lent buffer is changed; or it is refused by a
 -- number of the run, and all are cleared.

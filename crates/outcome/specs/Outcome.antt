@@ -12,6 +12,7 @@ use Rattle.checks.specs.Refusals.{refusal}
 use Rattle.clearing.specs.Cleared.{zeros, cleared}
 use Rattle.outcome.specs.declared.Answer.{Answer}
 use Rattle.outcome.specs.declared.Answer.the-variants.{Refused, Done}
+use Rattle.outcome.specs.declared.Tally.{Tally}
 
 pub record Outcome : Type 0 where
   pub answer : Answer
@@ -36,9 +37,13 @@ filled j s b =
       triangles = zeros (b .triangles);
     }
 
+-- what is counted of a run: the entries taken, and the most that waited at once
+abbrev pub tallyOf : State → Tally
+tallyOf s = record { pops = s .pops; peak = s .peak }
+
 -- what a run that has ended gives
 unfoldable pub ended : Job → Lent → Turn State → Outcome
-ended j b (goes s) = record { answer = Done (s .pops) (s .peak); left = filled j s b }
+ended j b (goes s) = record { answer = Done (tallyOf s); left = filled j s b }
 ended j b (refuses n) = record { answer = Refused n; left = cleared b }
 
 -- the run of a job over the lent queue, whose room is its length
@@ -56,16 +61,16 @@ outcome j b = unlessRefused (refusal j b) b (ended j b (runOf j b))
 
 abbrev pub numberOf : Answer → ℕ
 numberOf (Refused n) = n
-numberOf (Done pops peak) = 0
+numberOf (Done t) = 0
 
 -- "Refusals return pops and peak as 0."
 abbrev pub popsOf : Answer → ℕ
 popsOf (Refused n) = 0
-popsOf (Done pops peak) = pops
+popsOf (Done t) = t .pops
 
 abbrev pub peakOf : Answer → ℕ
 peakOf (Refused n) = 0
-peakOf (Done pops peak) = peak
+peakOf (Done t) = t .peak
 
 -- ---- what a call promises
 

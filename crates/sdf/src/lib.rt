@@ -38,6 +38,7 @@ pub use point::Point;
 // ---- the whole job
 
 pub use generate::Answer;
+pub use generate::Tally;
 pub use generate::generate_grid_sdf;
 pub use generate_records::generate_grid_sdf_records;
 pub use queue::Entry;

@@ -48,10 +48,10 @@ pub(crate) fn answer_out(a: Answer) -> SdfJobAnswer
             pops: 0,
             peak: 0,
         },
-        Answer::Done { pops, peak } => SdfJobAnswer {
+        Answer::Done(t) => SdfJobAnswer {
             number: 0,
-            pops: pops,
-            peak: peak,
+            pops: t.pops,
+            peak: t.peak,
         },
     }
 }

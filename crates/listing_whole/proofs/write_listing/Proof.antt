@@ -30,7 +30,7 @@ enum-known-answer-2 : tie.Need-enum-known-answer-2
 enum-known-answer-2 c = search needs
 
 returns-5 : tie.Need-returns-5
-returns-5 c = (too-high _ _ (c .before .before .answer2 .given .1) (c .if5 .taken), refl)
+returns-5 c = (too-high _ (c .before .before .answer2 .given .1) (c .if5 .taken), refl)
 
 cast-put-done : tie.Need-cast-put-done
 cast-put-done c = search needs
@@ -48,7 +48,7 @@ same-length-2 : tie.Need-same-length-2
 same-length-2 c = search needs
 
 returns-7 : tie.Need-returns-7
-returns-7 c = done-written _ _ (c .before .before .before .before .before .before .answer2 .given .1) (search needs) (search needs) (c .before .before .put-done .ensures)
+returns-7 c = done-written _ (c .before .before .before .before .before .before .answer2 .given .1) (search needs) (search needs) (c .before .before .put-done .ensures)
 
 pub write-listing-spec : {M : Type 1} → statement M
 write-listing-spec =
