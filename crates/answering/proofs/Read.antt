@@ -9,7 +9,7 @@ use Rattle.text.specs.declared.Three.{Three}
 use Rattle.text.specs.TextJob.{TextJob, Readable, jobText}
 use Rattle.text.proofs.Job.{one-job}
 use Rattle.job.specs.declared.Asked.{Asked}
-use Rattle.job.specs.Reading.{Holds}
+use Rattle.job.specs.Reading.{HoldsJob}
 use Rattle.writing.specs.Put.{Put}
 use Rattle.writing.proofs.Puts.{said}
 use Rattle.grid.specs.Layers.{layers}
@@ -20,7 +20,7 @@ use Rattle.answering.specs.Answering.{Answered}
 abbrev cellsOf : Three → ℕ
 cellsOf n = n .x * n .y * n .z
 
-module _ {j : TextJob} {a : Asked} {vertices indices : List ℕ} (h : Holds j a vertices indices) where
+module _ {j : TextJob} {a : Asked} {vertices indices : List ℕ} (h : HoldsJob j a vertices indices) where
   -- the listing of the parts is that of the job
   parts-listed : listedOf (jobOf (gridBy (a .count) (a .first) (a .size)) (floatsOf (take (3 * a .vertices) vertices)) (a .topology) (a .given) (take (a .indices) indices) (a .limit))
       (lentBy (cellsOf (a .count)) (layers (gridBy (a .count) (a .first) (a .size))) (a .room))

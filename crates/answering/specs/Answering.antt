@@ -13,5 +13,5 @@ pub record Answered (input old new : List ℕ) (n : ℕ) : Type 0 where
   pub put : Put old 0 output new n
 
 -- n counts bytes at the front of xs. The second part follows from the first; a caller that cuts xs there asks for both.
-abbrev pub Within : ℕ → List ℕ → Type 0
-Within n xs = (n ≤ length xs) × (n ≡ length (take n xs))
+abbrev pub Front : ℕ → List ℕ → Type 0
+Front n xs = (n ≤ length xs) × (n ≡ length (take n xs))

@@ -7,7 +7,7 @@ use writing::put_number;
 ghost use mathlib.Core.Path.{_≡_};
 ghost use Prim.Native.Nat.{_<_, _≤_};
 ghost use lib.ListN.{length};
-ghost use Rattle.answering.specs.Answering.{Answered, Within};
+ghost use Rattle.answering.specs.Answering.{Answered, Front};
 
 fn words_768() -> [u32; 768]
     ensures { λ r. ⌜ 768 ≡ length r ⌝ }
@@ -20,7 +20,7 @@ fn words_768() -> [u32; 768]
 // listing, 32,768 bytes: else nothing is put. The job's queue is a row of records, or three buffers: the listing
 // is the same.
 pub fn run_text_by(text: &[u8], out: &mut [u8], records: bool) -> usize
-    ensures { λ r. ⌜ Within r (now (out .exit)) ⌝ }
+    ensures { λ r. ⌜ Front r (now (out .exit)) ⌝ }
     ensures { λ r. ⌜ (32768 ≤ length (now (out .entry)) → Answered (now (text .entry)) (now (out .entry)) (now (out .exit)) r) ⌝ }
     ensures { λ r. ⌜ (length (now (out .entry)) < 32768 → (r ≡ 0) × (now (out .exit) ≡ now (out .entry))) ⌝ }
 {
@@ -59,7 +59,7 @@ pub fn run_text_by(text: &[u8], out: &mut [u8], records: bool) -> usize
 
 // The same over three buffers.
 pub fn run_text(text: &[u8], out: &mut [u8]) -> usize
-    ensures { λ r. ⌜ Within r (now (out .exit)) ⌝ }
+    ensures { λ r. ⌜ Front r (now (out .exit)) ⌝ }
     ensures { λ r. ⌜ (32768 ≤ length (now (out .entry)) → Answered (now (text .entry)) (now (out .entry)) (now (out .exit)) r) ⌝ }
     ensures { λ r. ⌜ (length (now (out .entry)) < 32768 → (r ≡ 0) × (now (out .exit) ≡ now (out .entry))) ⌝ }
 {

@@ -17,7 +17,7 @@ use Rattle.lists.specs.Table.{table}
 use Rattle.lists.proofs.Table.{length-table, table-at}
 use Rattle.grid.specs.declared.Grid.{Grid}
 use Rattle.grid.specs.declared.Cell.{Cell}
-use Rattle.grid.specs.Axes.{countOn, cellOn, cell, cellBy, onEvery}
+use Rattle.grid.specs.Axes.{countOn, cellOn, cellNumbered, cellBy, onEvery}
 use Rattle.grid.specs.Index.{Inside, indexOf, cellAt, total}
 use Rattle.grid.specs.Bounds.{inBounds}
 use Rattle.grid.specs.Place.{centreOf}
@@ -34,17 +34,17 @@ use Rattle.run.specs.Ground.{distanceFrom}
 use Rattle.run.specs.Steps.{Shift, back, stay, ahead, Step, shiftOn, steps, stepAt, shifted, staysOn, stepFrom, aroundCell}
 use Rattle.around.specs.declared.Spot.{Spot}
 use Rattle.told.specs.Told.{Known}
-use Rattle.around.specs.Around.{digitOf, codeOf, shiftOf, stepOf, codes, placeOf, spotOf, Gathered, Around}
+use Rattle.around.specs.Around.{shiftDigit, codeOf, shiftOf, stepOf, codes, placeOf, spotOf, Gathered, Around}
 
 -- ---- the table's rule
 
 -- three digits, each of which can be read
-digit-small : (s : Shift) → digitOf s ≤ 2
+digit-small : (s : Shift) → shiftDigit s ≤ 2
 digit-small back = omega arith
 digit-small stay = omega arith
 digit-small ahead = omega arith
 
-shift-digit : (s : Shift) → shiftOf (digitOf s) ≡ s
+shift-digit : (s : Shift) → shiftOf (shiftDigit s) ≡ s
 shift-digit back = refl
 shift-digit stay = refl
 shift-digit ahead = refl
@@ -61,9 +61,9 @@ z-digit x y z c = omega arith
 -- a step in numbers, and back
 step-code : (s : Step) → stepOf (codeOf s) ≡ s
 step-code s =
-    let a = digitOf (s .x) in
-    let b = digitOf (s .y) in
-    let c = digitOf (s .z) in
+    let a = shiftDigit (s .x) in
+    let b = shiftDigit (s .y) in
+    let c = shiftDigit (s .z) in
     λ i. record {
       x = (ap shiftOf (x-digit a b c (digit-small (s .y)) (digit-small (s .z))) ∙ shift-digit (s .x)) i;
       y = (ap shiftOf (y-digit a b c (digit-small (s .y)) (digit-small (s .z))) ∙ shift-digit (s .y)) i;

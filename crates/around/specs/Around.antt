@@ -23,13 +23,13 @@ use Rattle.around.specs.declared.Spot.{Spot}
 
 -- ---- the table in numbers: a hexadecimal digit for each of x, y and z, with 0, 1 and 2 for −1, 0 and 1
 
-abbrev pub digitOf : Shift → ℕ
-digitOf back = 0
-digitOf stay = 1
-digitOf ahead = 2
+abbrev pub shiftDigit : Shift → ℕ
+shiftDigit back = 0
+shiftDigit stay = 1
+shiftDigit ahead = 2
 
 abbrev pub codeOf : Step → ℕ
-codeOf s = digitOf (s .x) * 256 + digitOf (s .y) * 16 + digitOf (s .z)
+codeOf s = shiftDigit (s .x) * 256 + shiftDigit (s .y) * 16 + shiftDigit (s .z)
 
 -- the steps in numbers
 abbrev pub codes : List Step → List ℕ
@@ -67,7 +67,7 @@ pub record Gathered (g : Grid) (c : Cell) (to : List ℕ) (xs ys zs : List Float
 -- ---- the squared distances there
 
 -- a step leads nowhere, or to a cell from which triangle k is as far as the root of q
-pub record Near (g : Grid) (m : Mesh) (k to : ℕ) (q : Float) : Type 0 where
+pub record StepNear (g : Grid) (m : Mesh) (k to : ℕ) (q : Float) : Type 0 where
   pub below : (c : ℕ) → placeOf to ≡ at c → c < total g
   pub root : (c : ℕ) → placeOf to ≡ at c → rootOf q ≡ distanceFrom g (cornersAt m k) (cellAt g c)
   pub alike : isNan (rootOf q) ≡ isNan q
@@ -77,4 +77,4 @@ pub record Around (g : Grid) (m : Mesh) (e : Entry) (to : List ℕ) (squares : L
   pub to-long : length to ≡ 27
   pub squares-long : length squares ≡ 27
   pub leads : (j : ℕ) → j < 27 → placeOf (getD to j 0) ≡ aroundCell g (e .cell) j
-  pub near : (j : ℕ) → j < 27 → Near g m (e .triangle) (getD to j 0) (getD squares j nan)
+  pub near : (j : ℕ) → j < 27 → StepNear g m (e .triangle) (getD to j 0) (getD squares j nan)

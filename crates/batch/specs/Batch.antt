@@ -10,7 +10,7 @@ use lib.Ieee.{Float, nan}
 use Rattle.float.specs.Arith.{_≺_, fMax, if_then_else_}
 use Rattle.lists.specs.Turns.{Turn, goes, refuses, andThen, turns}
 use Rattle.queue.specs.declared.Entry.{Entry}
-use Rattle.run.specs.Run.{Ground, State, queue, queueCell}
+use Rattle.run.specs.Run.{RunInput, State, queue, queueCell}
 use Rattle.told.specs.declared.Progress.{Progress}
 use Rattle.batch.specs.declared.Batch.{Batch}
 
@@ -26,7 +26,7 @@ stopAt zero s = goes s
 stopAt (suc n) s = refuses (suc n)
 
 -- its entries are queued one after another, and then the run stops where the batch says so
-abbrev pub queueAll : Ground → Batch → State → Turn State
+abbrev pub queueAll : RunInput → Batch → State → Turn State
 queueAll g b s = andThen (turns (λ j. queue g (entryIn b j)) (b .count) s) (stopAt (b .number))
 
 -- a state with another field and other names
@@ -37,7 +37,7 @@ over field names s = record { field = field; names = names; waiting = s .waiting
 pub record Cell (field : List Float) (names : List ℕ) (c : ℕ) (b : Batch) : Type 0 where
   pub few : b .count < 28
   pub inside : (j : ℕ) → j < b .count → (entryIn b j .cell ≡ c) × (entryIn b j .triangle ≡ getD names c 0) × ((getD field c nan ≺ fMax) ≡ true)
-  pub is : (g : Ground) (s : State) → queueCell g c (over field names s) ≡ queueAll g b (over field names s)
+  pub is : (g : RunInput) (s : State) → queueCell g c (over field names s) ≡ queueAll g b (over field names s)
 
 -- ---- the counts
 

@@ -6,8 +6,8 @@ use Rattle.point.specs.declared.Point.{Point}
 use Rattle.bounding.specs.declared.TriangleBox.{TriangleBox}
 
 -- 0.0001, rounded to binary32
-abbrev pub margin : Float
-margin = ofBits binary32 0x38d1_b717
+abbrev pub boxMargin : Float
+boxMargin = ofBits binary32 0x38d1_b717
 
 -- f32::min(a, f32::min(b, c)), and so for max
 unfoldable pub leastOf3 : Float → Float → Float → Float
@@ -16,9 +16,9 @@ leastOf3 a b c = leastOf a (leastOf b c)
 unfoldable pub greatestOf3 : Float → Float → Float → Float
 greatestOf3 a b c = greatestOf a (greatestOf b c)
 
-unfoldable pub boxOf : Point → Point → Point → TriangleBox
-boxOf a b c =
+unfoldable pub paddedBox : Point → Point → Point → TriangleBox
+paddedBox a b c =
     record {
-      low = vec (leastOf3 (a .x) (b .x) (c .x)) (leastOf3 (a .y) (b .y) (c .y)) (leastOf3 (a .z) (b .z) (c .z)) -ᵥ vec margin margin margin;
-      high = vec (greatestOf3 (a .x) (b .x) (c .x)) (greatestOf3 (a .y) (b .y) (c .y)) (greatestOf3 (a .z) (b .z) (c .z)) +ᵥ vec margin margin margin;
+      low = vec (leastOf3 (a .x) (b .x) (c .x)) (leastOf3 (a .y) (b .y) (c .y)) (leastOf3 (a .z) (b .z) (c .z)) -ᵥ vec boxMargin boxMargin boxMargin;
+      high = vec (greatestOf3 (a .x) (b .x) (c .x)) (greatestOf3 (a .y) (b .y) (c .y)) (greatestOf3 (a .z) (b .z) (c .z)) +ᵥ vec boxMargin boxMargin boxMargin;
     }

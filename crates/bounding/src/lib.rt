@@ -21,7 +21,7 @@ fn greatest3(a: f32, b: f32, c: f32) -> f32
 }
 
 pub fn triangle_bounding_box(a: Point, b: Point, c: Point) -> TriangleBox
-    ensures { λ r. ⌜ r ≡ Box.boxOf a b c ⌝ }
+    ensures { λ r. ⌜ r ≡ Box.paddedBox a b c ⌝ }
 {
     let low = Point {
         x: least3(a.x, b.x, c.x) - 0.0001,

@@ -16,7 +16,7 @@ ghost use Rattle.geo.specs.Asked as Asked;
 ghost use Rattle.c_records.specs.C as C;
 
 pub fn triangle_box_answer(a: TriangleBoxAnswer) -> SdfBoxAnswer
-    ensures { λ r. ⌜ r ≡ C.triangleBox (Asked.boxAnswer a) ⌝ }
+    ensures { λ r. ⌜ r ≡ C.triangleBoxForC (Asked.boxAnswer a) ⌝ }
 {
     match a {
         TriangleBoxAnswer::OutOfBounds => SdfBoxAnswer {
@@ -33,7 +33,7 @@ pub fn triangle_box_answer(a: TriangleBoxAnswer) -> SdfBoxAnswer
 }
 
 pub fn closest_answer(a: ClosestPointAnswer) -> SdfPointAnswer
-    ensures { λ r. ⌜ r ≡ C.closest (Asked.pointAnswer a) ⌝ }
+    ensures { λ r. ⌜ r ≡ C.closestForC (Asked.pointAnswer a) ⌝ }
 {
     match a {
         ClosestPointAnswer::OutOfBounds => SdfPointAnswer {
@@ -52,7 +52,7 @@ pub fn closest_answer(a: ClosestPointAnswer) -> SdfPointAnswer
 }
 
 pub fn distance_answer(a: DistanceAnswer) -> SdfDistanceAnswer
-    ensures { λ r. ⌜ r ≡ C.distance (Asked.distanceAnswer a) ⌝ }
+    ensures { λ r. ⌜ r ≡ C.distanceForC (Asked.distanceAnswer a) ⌝ }
 {
     match a {
         DistanceAnswer::OutOfBounds => SdfDistanceAnswer {
@@ -71,7 +71,7 @@ pub fn distance_answer(a: DistanceAnswer) -> SdfDistanceAnswer
 }
 
 pub fn ray_answer(a: RayAnswer) -> SdfRayAnswer
-    ensures { λ r. ⌜ r ≡ C.ray (Asked.rayAnswer a) ⌝ }
+    ensures { λ r. ⌜ r ≡ C.rayForC (Asked.rayAnswer a) ⌝ }
 {
     match a {
         RayAnswer::OutOfBounds => SdfRayAnswer {

@@ -19,7 +19,7 @@ ghost use Rattle.grid.specs.Reply as Reply;
 ghost use Rattle.c_records.specs.C as C;
 
 pub fn number_answer(a: NumberAnswer) -> SdfNumberAnswer
-    ensures { λ r. ⌜ r ≡ C.number (Reply.number a) ⌝ }
+    ensures { λ r. ⌜ r ≡ C.numberForC (Reply.numberReply a) ⌝ }
 {
     match a {
         NumberAnswer::Refused(n) => SdfNumberAnswer {
@@ -34,7 +34,7 @@ pub fn number_answer(a: NumberAnswer) -> SdfNumberAnswer
 }
 
 pub fn cell_answer(a: CellAnswer) -> SdfCellAnswer
-    ensures { λ r. ⌜ r ≡ C.cell (Reply.cell a) ⌝ }
+    ensures { λ r. ⌜ r ≡ C.cellForC (Reply.cellReply a) ⌝ }
 {
     match a {
         CellAnswer::Refused(n) => SdfCellAnswer {
@@ -49,7 +49,7 @@ pub fn cell_answer(a: CellAnswer) -> SdfCellAnswer
 }
 
 pub fn counts_answer(a: CountsAnswer) -> SdfCellAnswer
-    ensures { λ r. ⌜ r ≡ C.counts (Reply.counts a) ⌝ }
+    ensures { λ r. ⌜ r ≡ C.countsForC (Reply.countsReply a) ⌝ }
 {
     match a {
         CountsAnswer::Refused(n) => SdfCellAnswer {
@@ -68,7 +68,7 @@ pub fn counts_answer(a: CountsAnswer) -> SdfCellAnswer
 }
 
 pub fn point_answer(a: GridPointAnswer) -> SdfPointAnswer
-    ensures { λ r. ⌜ r ≡ C.point (Reply.point a) ⌝ }
+    ensures { λ r. ⌜ r ≡ C.pointForC (Reply.pointReply a) ⌝ }
 {
     match a {
         GridPointAnswer::Refused(n) => SdfPointAnswer {
@@ -83,7 +83,7 @@ pub fn point_answer(a: GridPointAnswer) -> SdfPointAnswer
 }
 
 pub fn box_answer(a: GridBoxAnswer) -> SdfBoxAnswer
-    ensures { λ r. ⌜ r ≡ C.box (Reply.box a) ⌝ }
+    ensures { λ r. ⌜ r ≡ C.boxForC (Reply.boxReply a) ⌝ }
 {
     match a {
         GridBoxAnswer::Refused(n) => SdfBoxAnswer {
@@ -100,7 +100,7 @@ pub fn box_answer(a: GridBoxAnswer) -> SdfBoxAnswer
 }
 
 fn inside(result: SnapResult) -> u32
-    ensures { λ r. ⌜ r ≡ C.inside result ⌝ }
+    ensures { λ r. ⌜ r ≡ C.insideForC result ⌝ }
 {
     match result {
         SnapResult::Inside => 1,
@@ -109,7 +109,7 @@ fn inside(result: SnapResult) -> u32
 }
 
 pub fn snap_answer(a: SnapAnswer) -> SdfSnapAnswer
-    ensures { λ r. ⌜ r ≡ C.snap (Reply.snapped a) ⌝ }
+    ensures { λ r. ⌜ r ≡ C.snapForC (Reply.snapReply a) ⌝ }
 {
     match a {
         SnapAnswer::Refused(n) => SdfSnapAnswer {
@@ -129,7 +129,7 @@ pub fn snap_answer(a: SnapAnswer) -> SdfSnapAnswer
 }
 
 pub fn grid_answer(a: GridAnswer) -> SdfGridAnswer
-    ensures { λ r. ⌜ r ≡ C.grid (Reply.grid a) ⌝ }
+    ensures { λ r. ⌜ r ≡ C.gridForC (Reply.gridReply a) ⌝ }
 {
     match a {
         GridAnswer::Refused(n) => SdfGridAnswer {

@@ -97,57 +97,57 @@ noGrid = record { first = noPoint; size = noPoint; count = noCell }
 
 -- ---- the answers of the grid's questions
 
-unfoldable pub number : Reply ℕ → SdfNumberAnswer
-number (refused n) = record { number = n; value = 0 }
-number (given i) = record { number = 0; value = i }
+unfoldable pub numberForC : Reply ℕ → SdfNumberAnswer
+numberForC (refused n) = record { number = n; value = 0 }
+numberForC (given i) = record { number = 0; value = i }
 
-unfoldable pub cell : Reply Cell → SdfCellAnswer
-cell (refused n) = record { number = n; cell = noCell }
-cell (given c) = record { number = 0; cell = cellOut c }
+unfoldable pub cellForC : Reply Cell → SdfCellAnswer
+cellForC (refused n) = record { number = n; cell = noCell }
+cellForC (given c) = record { number = 0; cell = cellOut c }
 
-unfoldable pub counts : Reply Counts → SdfCellAnswer
-counts (refused n) = record { number = n; cell = noCell }
-counts (given c) = record { number = 0; cell = countsOut c }
+unfoldable pub countsForC : Reply Counts → SdfCellAnswer
+countsForC (refused n) = record { number = n; cell = noCell }
+countsForC (given c) = record { number = 0; cell = countsOut c }
 
-unfoldable pub point : Reply Point → SdfPointAnswer
-point (refused n) = record { number = n; point = noPoint }
-point (given p) = record { number = 0; point = pointOut p }
+unfoldable pub pointForC : Reply Point → SdfPointAnswer
+pointForC (refused n) = record { number = n; point = noPoint }
+pointForC (given p) = record { number = 0; point = pointOut p }
 
-unfoldable pub box : Reply BoundingBox → SdfBoxAnswer
-box (refused n) = record { number = n; min = noPoint; max = noPoint }
-box (given b) = record { number = 0; min = pointOut (b .min); max = pointOut (b .max) }
+unfoldable pub boxForC : Reply BoundingBox → SdfBoxAnswer
+boxForC (refused n) = record { number = n; min = noPoint; max = noPoint }
+boxForC (given b) = record { number = 0; min = pointOut (b .min); max = pointOut (b .max) }
 
-abbrev pub inside : SnapResult → ℕ
-inside Inside = 1
-inside Outside = 0
+abbrev pub insideForC : SnapResult → ℕ
+insideForC Inside = 1
+insideForC Outside = 0
 
-unfoldable pub snap : Reply Snap → SdfSnapAnswer
-snap (refused n) = record { number = n; inside = 0; cell = noCell }
-snap (given s) = record { number = 0; inside = inside (s .result); cell = cellOut (s .cell) }
+unfoldable pub snapForC : Reply Snap → SdfSnapAnswer
+snapForC (refused n) = record { number = n; inside = 0; cell = noCell }
+snapForC (given s) = record { number = 0; inside = insideForC (s .result); cell = cellOut (s .cell) }
 
-unfoldable pub grid : Reply Grid → SdfGridAnswer
-grid (refused n) = record { number = n; grid = noGrid }
-grid (given g) = record { number = 0; grid = gridOut g }
+unfoldable pub gridForC : Reply Grid → SdfGridAnswer
+gridForC (refused n) = record { number = n; grid = noGrid }
+gridForC (given g) = record { number = 0; grid = gridOut g }
 
 -- ---- the answers of the geometry
 
-unfoldable pub triangleBox : Answer TriangleBox → SdfBoxAnswer
-triangleBox (Asked.refused n) = record { number = n; min = noPoint; max = noPoint }
-triangleBox (value b) = record { number = 0; min = pointOut (b .low); max = pointOut (b .high) }
+unfoldable pub triangleBoxForC : Answer TriangleBox → SdfBoxAnswer
+triangleBoxForC (Asked.refused n) = record { number = n; min = noPoint; max = noPoint }
+triangleBoxForC (value b) = record { number = 0; min = pointOut (b .low); max = pointOut (b .high) }
 
-unfoldable pub closest : Answer Point → SdfPointAnswer
-closest (Asked.refused n) = record { number = n; point = noPoint }
-closest (value p) = record { number = 0; point = pointOut p }
+unfoldable pub closestForC : Answer Point → SdfPointAnswer
+closestForC (Asked.refused n) = record { number = n; point = noPoint }
+closestForC (value p) = record { number = 0; point = pointOut p }
 
-unfoldable pub distance : Answer Float → SdfDistanceAnswer
-distance (Asked.refused n) = record { number = n; distance = f0 }
-distance (value d) = record { number = 0; distance = d }
+unfoldable pub distanceForC : Answer Float → SdfDistanceAnswer
+distanceForC (Asked.refused n) = record { number = n; distance = f0 }
+distanceForC (value d) = record { number = 0; distance = d }
 
 -- hit is 1 with its t, and 0 for a miss
-unfoldable pub ray : Answer RayHit → SdfRayAnswer
-ray (Asked.refused n) = record { number = n; hit = 0; t = f0 }
-ray (value Miss) = record { number = 0; hit = 0; t = f0 }
-ray (value (Hit t)) = record { number = 0; hit = 1; t = t }
+unfoldable pub rayForC : Answer RayHit → SdfRayAnswer
+rayForC (Asked.refused n) = record { number = n; hit = 0; t = f0 }
+rayForC (value Miss) = record { number = 0; hit = 0; t = f0 }
+rayForC (value (Hit t)) = record { number = 0; hit = 1; t = t }
 
 -- ---- the answer of the comparison
 
@@ -162,5 +162,5 @@ comparison NotANumber = record { number = 6; order = pos 0 }
 comparison (Is o) = record { number = 0; order = sign o }
 
 -- to a question of a and b
-abbrev pub compared : Float → Float → SdfOrderAnswer
-compared a b = comparison (if isNan a || isNan b then NotANumber else Is (order a b))
+abbrev pub comparedForC : Float → Float → SdfOrderAnswer
+comparedForC a b = comparison (if isNan a || isNan b then NotANumber else Is (order a b))

@@ -7,7 +7,7 @@ use lib.Dec.{ltb, eqb}
 use lib.ListN.{length}
 use lib.Ieee.{Float}
 use Rattle.lists.specs.Every.{every}
-use Rattle.lists.specs.Checks.{Check, firstOf}
+use Rattle.lists.specs.Checks.{Check, firstThatApplies}
 use Rattle.grid.specs.declared.Grid.{Grid}
 use Rattle.grid.specs.Index.{total}
 use Rattle.grid.specs.Layers.{layers}
@@ -82,7 +82,7 @@ checks g m l = gridChecks g ++ meshChecks m ++ lengthChecks g l
 
 -- "the first that applies is given", and 0 where none does
 unfoldable pub refusalBy : Grid → Mesh → Lengths → ℕ
-refusalBy g m l = firstOf (checks g m l)
+refusalBy g m l = firstThatApplies (checks g m l)
 
 abbrev pub refusal : Job → Lent → ℕ
 refusal j b = refusalBy (j .grid) (j .mesh) (lengthsOf b)

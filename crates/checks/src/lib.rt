@@ -7,7 +7,7 @@ ghost use lib.ListN.{length};
 ghost use Rattle.grid_axis.specs.AxisBounds.{isCoordinate};
 ghost use Rattle.grid.specs.Bounds.{inBounds};
 ghost use Rattle.mesh.specs.Mesh.{meshOf};
-ghost use Rattle.lists.specs.Checks.{firstOf};
+ghost use Rattle.lists.specs.Checks.{firstThatApplies};
 ghost use Rattle.checks.specs.Refusals.{allCoordinates, wrongVertices, wrongLengths, gridChecks, meshChecks, lengthChecks, refusalBy};
 use grid::Grid;
 use topology::Indices;
@@ -74,7 +74,7 @@ fn wrong_lengths(grid: Grid, l: Lengths) -> bool
 
 // 1 where the grid is out of bounds, and 0 where it is not.
 fn grid_refusal(grid: Grid) -> u32
-    ensures { λ r. ⌜ r ≡ firstOf (gridChecks grid) ⌝ }
+    ensures { λ r. ⌜ r ≡ firstThatApplies (gridChecks grid) ⌝ }
 {
     let bounded = grid.in_bounds();
     if !bounded {
@@ -85,7 +85,7 @@ fn grid_refusal(grid: Grid) -> u32
 
 // The first of 2, 3 and 4 that applies to the mesh, and 0 where none does.
 fn mesh_refusal(vertices: &[f32], topology: Topology, given: Indices, indices: &[u32]) -> u32
-    ensures { λ r. ⌜ r ≡ firstOf (meshChecks (meshOf (now (vertices .entry)) topology given (now (indices .entry)))) ⌝ }
+    ensures { λ r. ⌜ r ≡ firstThatApplies (meshChecks (meshOf (now (vertices .entry)) topology given (now (indices .entry)))) ⌝ }
 {
     let wrong = wrong_vertices(vertices);
     if wrong {
@@ -106,7 +106,7 @@ fn mesh_refusal(vertices: &[f32], topology: Topology, given: Indices, indices: &
 // 5 where a lent buffer has a wrong length, and 0 where none has.
 fn length_refusal(grid: Grid, l: Lengths) -> u32
     requires { ⌜ inBounds grid ≡ true ⌝ }
-    ensures { λ r. ⌜ r ≡ firstOf (lengthChecks grid l) ⌝ }
+    ensures { λ r. ⌜ r ≡ firstThatApplies (lengthChecks grid l) ⌝ }
 {
     let wrong = wrong_lengths(grid, l);
     if wrong {

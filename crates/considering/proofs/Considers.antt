@@ -15,7 +15,7 @@ use Rattle.run.specs.Run.{State, Place, off, at, none, offerAt}
 use Rattle.run.proofs.Ways.{offer-nan, offer-passed, offer-taken, is-nan, is-number}
 use Rattle.around.specs.Around.{placeOf}
 use Rattle.batch.specs.Batch.{over}
-use Rattle.considering.specs.Considered.{offerTo, verdict, Considered}
+use Rattle.considering.specs.Considered.{offerPlace, verdict, Considered}
 
 place-off : (n : ℕ) → n ≡ none → placeOf n ≡ off
 place-off n e = ap (λ (t : Bool). if t then off else at n) (eq-eqb n none e)
@@ -25,16 +25,16 @@ place-at n e = ap (λ (t : Bool). if t then off else at n) (ne-eqb n none e)
 
 module _ (k to : ℕ) (q : Float) (field : List Float) (names : List ℕ) where
   pub was-off : to ≡ none → Considered k to q field names field names (record { number = 0; taken = false; distance = 0 })
-  unfolding offerTo verdict
+  unfolding offerPlace verdict
   was-off e = record {
-    is = λ also s. ap (λ (p : Place). offerTo also k p (rootOf q) (over field names s)) (place-off to e);
+    is = λ also s. ap (λ (p : Place). offerPlace also k p (rootOf q) (over field names s)) (place-off to e);
     inside = λ t. absurd (true≢false (sym t));
   }
 
   module _ (on : to ≡ none → ⊥) where
-    offered : (also : Entry → State → Turn State) (s : State) → offerTo also k (placeOf to) (rootOf q) (over field names s) ≡ offerAt also k to (rootOf q) (over field names s)
-    unfolding offerTo
-    offered also s = ap (λ (p : Place). offerTo also k p (rootOf q) (over field names s)) (place-at to on)
+    offered : (also : Entry → State → Turn State) (s : State) → offerPlace also k (placeOf to) (rootOf q) (over field names s) ≡ offerAt also k to (rootOf q) (over field names s)
+    unfolding offerPlace
+    offered also s = ap (λ (p : Place). offerPlace also k p (rootOf q) (over field names s)) (place-at to on)
 
     pub was-nan : isNan (rootOf q) ≡ isNan q → ne q q ≡ true → Considered k to q field names field names (record { number = 6; taken = false; distance = 0 })
     unfolding verdict

@@ -14,9 +14,9 @@ use Rattle.considering.specs.declared.Verdict.{Verdict}
 use Rattle.batch.specs.Batch.{over}
 
 -- triangle k, d away, is offered to a place
-unfoldable pub offerTo : (Entry → State → Turn State) → ℕ → Place → Float → State → Turn State
-offerTo also k off d s = goes s
-offerTo also k (at c) d s = offerAt also k c d s
+unfoldable pub offerPlace : (Entry → State → Turn State) → ℕ → Place → Float → State → Turn State
+offerPlace also k off d s = goes s
+offerPlace also k (at c) d s = offerAt also k c d s
 
 -- what it comes to, by a verdict
 unfoldable pub verdict : ℕ → Bool → (Entry → State → Turn State) → Entry → State → Turn State
@@ -32,5 +32,5 @@ pub record Passable (to : ℕ) (q : Float) (field : List Float) (names : List �
 
 pub record Considered (k to : ℕ) (q : Float) (field : List Float) (names : List ℕ) (field′ : List Float) (names′ : List ℕ) (v : Verdict) : Type 0 where
   pub is : (also : Entry → State → Turn State) (s : State)
-      → offerTo also k (placeOf to) (rootOf q) (over field names s) ≡ verdict (v .number) (v .taken) also (record { distance = v .distance; cell = to; triangle = k }) (over field′ names′ s)
+      → offerPlace also k (placeOf to) (rootOf q) (over field names s) ≡ verdict (v .number) (v .taken) also (record { distance = v .distance; cell = to; triangle = k }) (over field′ names′ s)
   pub inside : v .taken ≡ true → to ≡ none → ⊥

@@ -9,8 +9,8 @@ abbrev pub Room : ℕ → List ℕ → Type 0
 Room n l = (i : ℕ) → getD l i 0 + n < 2 ^ 32
 
 -- the places start, start + step, .. are below `size`
-abbrev pub Within : ℕ → ℕ → ℕ → ℕ → Type 0
-Within start step count size = (j : ℕ) → j < count → start + j * step < size
+abbrev pub PlacesBelow : ℕ → ℕ → ℕ → ℕ → Type 0
+PlacesBelow start step count size = (j : ℕ) → j < count → start + j * step < size
 
 -- one more at each of those places, the others as they were
 pub record Stepped (start step count : ℕ) (old new : List ℕ) : Type 0 where

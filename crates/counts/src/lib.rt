@@ -3,7 +3,7 @@ ghost use mathlib.Core.Path.{_≡_};
 ghost use mathlib.Core.Bool.{cond};
 ghost use Prim.Native.Nat.{_+_, _*_, _<_};
 ghost use lib.ListN.{length, replicate};
-ghost use Rattle.counts.specs.Counts.{Room, Within, Stepped};
+ghost use Rattle.counts.specs.Counts.{Room, PlacesBelow, Stepped};
 
 // Every number becomes 0.
 pub fn clear(s: &mut [u32])
@@ -25,7 +25,7 @@ pub fn one_if(test: bool) -> u32
 
 // Adds one to `count` numbers, from `start` on and `step` apart.
 pub fn add_each(s: &mut [u32], start: usize, step: usize, count: usize)
-    requires { ⌜ Within start step count (length (now s)) ⌝ }
+    requires { ⌜ PlacesBelow start step count (length (now s)) ⌝ }
     requires { ⌜ 0 < step ⌝ }
     requires { ⌜ Room 1 (now s) ⌝ }
     ensures { λ _. ⌜ Stepped start step count (now (s .entry)) (now (s .exit)) ⌝ }

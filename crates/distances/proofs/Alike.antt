@@ -17,7 +17,7 @@ use Rattle.float.specs.Distance.{Distance}
 use Rattle.float.proofs.Units.{unitsAt, units-grow, value, infinity}
 use Rattle.float.proofs.Order.{bits-eq, bits-back, bits-distance}
 use Rattle.float.specs.Steps.{absOf}
-use Rattle.distances.specs.Compare.{margin, apart, alike}
+use Rattle.distances.specs.Compare.{alikeMargin, apart, alike}
 use Rattle.distances.proofs.Difference.{apart-sym, difference, round-less}
 
 -- the rounded difference of the magnitudes with the patterns i and j, its sign dropped, and whether it is at most 1e-6
@@ -25,9 +25,9 @@ abbrev differenceAt : ℕ → ℕ → Float
 differenceAt i j = absOf (ofBits binary32 i ⊖ ofBits binary32 j)
 
 abbrev pub within : ℕ → ℕ → Bool
-within i j = differenceAt i j ≦ margin
+within i j = differenceAt i j ≦ alikeMargin
 
-pub margin-distance : Distance margin
+pub margin-distance : Distance alikeMargin
 margin-distance = bits-distance 0x3586_37bd (leb→le 0x3586_37bd 0x7f80_0000 tt)
 
 -- ---- finite patterns
@@ -54,11 +54,11 @@ infinities : absOf (inf false ⊖ inf false) ≡ nan
 unfolding sub absOf
 infinities = refl
 
-infinity-apart : (inf false ≦ margin) ≡ false
+infinity-apart : (inf false ≦ alikeMargin) ≡ false
 unfolding le ofBits
 infinity-apart = refl
 
-nan-apart : (nan ≦ margin) ≡ false
+nan-apart : (nan ≦ alikeMargin) ≡ false
 unfolding le
 nan-apart = refl
 
@@ -66,11 +66,11 @@ nan-apart = refl
 beside-infinity : (i : ℕ) → i ≤ 0x7f80_0000 → (within i 0x7f80_0000 ≡ false) × (within 0x7f80_0000 i ≡ false)
 beside-infinity i h = go (eq-or-lt-of-le h)
   where
-    at : (x y : Float) → absOf (x ⊖ inf false) ≡ y → (y ≦ margin) ≡ false → (absOf (x ⊖ ofBits binary32 0x7f80_0000) ≦ margin) ≡ false
-    at x y e f = ap (λ (v : Float). absOf (x ⊖ v) ≦ margin) infinity ∙ ap (λ (v : Float). v ≦ margin) e ∙ f
+    at : (x y : Float) → absOf (x ⊖ inf false) ≡ y → (y ≦ alikeMargin) ≡ false → (absOf (x ⊖ ofBits binary32 0x7f80_0000) ≦ alikeMargin) ≡ false
+    at x y e f = ap (λ (v : Float). absOf (x ⊖ v) ≦ alikeMargin) infinity ∙ ap (λ (v : Float). v ≦ alikeMargin) e ∙ f
 
-    from : (x y : Float) → absOf (inf false ⊖ x) ≡ y → (y ≦ margin) ≡ false → (absOf (ofBits binary32 0x7f80_0000 ⊖ x) ≦ margin) ≡ false
-    from x y e f = ap (λ (v : Float). absOf (v ⊖ x) ≦ margin) infinity ∙ ap (λ (v : Float). v ≦ margin) e ∙ f
+    from : (x y : Float) → absOf (inf false ⊖ x) ≡ y → (y ≦ alikeMargin) ≡ false → (absOf (ofBits binary32 0x7f80_0000 ⊖ x) ≦ alikeMargin) ≡ false
+    from x y e f = ap (λ (v : Float). absOf (v ⊖ x) ≦ alikeMargin) infinity ∙ ap (λ (v : Float). v ≦ alikeMargin) e ∙ f
 
     own : within 0x7f80_0000 0x7f80_0000 ≡ false
     own = at (ofBits binary32 0x7f80_0000) nan (ap (λ (v : Float). absOf (v ⊖ inf false)) infinity ∙ infinities) nan-apart
@@ -92,16 +92,16 @@ within-sym i j hi hj = go (eq-or-lt-of-le hi) (eq-or-lt-of-le hj)
     go (inr p) (inl e) =
         ap (λ (k : ℕ). within i k) e ∙ beside-infinity i hi .0 ∙ sym (beside-infinity i hi .1) ∙ ap (λ (k : ℕ). within k i) (sym e)
     go (inr p) (inr q) =
-        ap (λ (v : Float). v ≦ margin)
+        ap (λ (v : Float). v ≦ alikeMargin)
         (finite i j p q ∙ ap (λ (n : ℕ). round binary32 false n (2 ^ 149)) (apart-sym (unitsAt i) (unitsAt j)) ∙ sym (finite j i q p))
 
 -- two patterns no further apart in units than two others
 within-less : (i j k l : ℕ) → i < 0x7f80_0000 → j < 0x7f80_0000 → k < 0x7f80_0000 → l < 0x7f80_0000
     → apart (unitsAt i) (unitsAt j) ≤ apart (unitsAt k) (unitsAt l) → T (within k l) → T (within i j)
 within-less i j k l p q r s h w =
-    subst (λ (v : Float). T (v ≦ margin)) (sym (finite i j p q))
-    (round-less (apart (unitsAt i) (unitsAt j)) (apart (unitsAt k) (unitsAt l)) (2 ^ 149) margin (pow-pos 149) margin-distance h
-    (subst (λ (v : Float). T (v ≦ margin)) (finite k l r s) w))
+    subst (λ (v : Float). T (v ≦ alikeMargin)) (sym (finite i j p q))
+    (round-less (apart (unitsAt i) (unitsAt j)) (apart (unitsAt k) (unitsAt l)) (2 ^ 149) alikeMargin (pow-pos 149) margin-distance h
+    (subst (λ (v : Float). T (v ≦ alikeMargin)) (finite k l r s) w))
 
 within-inner : (i j k : ℕ) → i ≤ j → j ≤ k → k ≤ 0x7f80_0000 → T (within i k) → T (within i j) × T (within j k)
 within-inner i j k p q h w = go (eq-or-lt-of-le h)

@@ -8,7 +8,7 @@ use Rattle.float.specs.Case.{allHold}
 use Rattle.float.specs.Steps.{absOf}
 use Rattle.distances.specs.declared.Order.{Order}
 use Rattle.distances.specs.declared.Order.the-variants.{Less, Greater}
-use Rattle.distances.specs.Compare.{margin, alike, order}
+use Rattle.distances.specs.Compare.{alikeMargin, alike, order}
 use Rattle.distances.specs.Cases.{compareCases}
 
 pub compare-cases : allHold compareCases ≡ true
@@ -16,7 +16,7 @@ unfolding compareCases
 compare-cases = refl
 
 -- the margin is the binary32 nearest to 1 / 1,000,000
-pub margin-nearest : margin ≡ round binary32 false 1 1000000
+pub margin-nearest : alikeMargin ≡ round binary32 false 1 1000000
 unfolding ofBits round
 margin-nearest = refl
 

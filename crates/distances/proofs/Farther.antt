@@ -18,7 +18,7 @@ use Rattle.float.specs.Arith.{_⊖_, _≦_, _≺_}
 use Rattle.float.specs.Distance.{Distance, unsigned}
 use Rattle.float.proofs.Units.{unitsAt, units-grow, value, infinity}
 use Rattle.float.proofs.Order.{bits-lt, distance-lt, distance-le, unsigned-distance}
-use Rattle.distances.specs.Compare.{margin, alike, beyond}
+use Rattle.distances.specs.Compare.{alikeMargin, alike, beyond}
 use Rattle.float.proofs.Magnitude.{own-magnitude, distance-sign}
 use Rattle.float.proofs.NoSign.{round-unsigned}
 use Rattle.distances.proofs.Difference.{opened}
@@ -113,7 +113,7 @@ above-or-not x y p q = distance-lt x y p q ∙ numbers (toBits binary32 x) (toBi
         go (yes h) = lt-ltb a b h ∙ ap not (sym (lt-leb b a h))
         go (no h) = le-ltb a b (omega arith) ∙ ap not (sym (le-leb b a (omega arith)))
 
-pub beyond-test : (i j : ℕ) → i ≤ 0x7f80_0000 → j ≤ 0x7f80_0000 → (ltb (j + 2) i && (margin ≺ (ofBits binary32 i ⊖ ofBits binary32 j))) ≡ beyondAt i j
+pub beyond-test : (i j : ℕ) → i ≤ 0x7f80_0000 → j ≤ 0x7f80_0000 → (ltb (j + 2) i && (alikeMargin ≺ (ofBits binary32 i ⊖ ofBits binary32 j))) ≡ beyondAt i j
 beyond-test i j p q = go (decLt (j + 2) i)
   where
     d : Float
@@ -123,13 +123,13 @@ beyond-test i j p q = go (decLt (j + 2) i)
     near (yes l) h = sym (ap₂ (λ (s : Bool) (t : Bool). s && not t) (lt-ltb j i l) (alike-near i j p q (omega arith)))
     near (no l) h = sym (ap (λ (s : Bool). s && not (alike (ofBits binary32 i) (ofBits binary32 j))) (le-ltb j i (omega arith)))
 
-    go : Dec (j + 2 < i) → (ltb (j + 2) i && (margin ≺ d)) ≡ beyondAt i j
-    go (no h) = ap (λ (s : Bool). s && (margin ≺ d)) (le-ltb (j + 2) i (omega arith)) ∙ near (decLt j i) (omega arith) ∙ sym (beyond-is i j p q)
+    go : Dec (j + 2 < i) → (ltb (j + 2) i && (alikeMargin ≺ d)) ≡ beyondAt i j
+    go (no h) = ap (λ (s : Bool). s && (alikeMargin ≺ d)) (le-ltb (j + 2) i (omega arith)) ∙ near (decLt j i) (omega arith) ∙ sym (beyond-is i j p q)
     go (yes h) =
         let u = unsigned-distance d (sub-fits binary32 (ofBits binary32 i) (ofBits binary32 j)) (larger-unsigned i j (omega arith) p) in
-        ap (λ (s : Bool). s && (margin ≺ d)) (lt-ltb (j + 2) i h)
-        ∙ above-or-not margin d margin-distance u
-        ∙ ap (λ (v : Float). not (v ≦ margin)) (sym (own-magnitude d (distance-sign d u)))
+        ap (λ (s : Bool). s && (alikeMargin ≺ d)) (lt-ltb (j + 2) i h)
+        ∙ above-or-not alikeMargin d margin-distance u
+        ∙ ap (λ (v : Float). not (v ≦ alikeMargin)) (sym (own-magnitude d (distance-sign d u)))
         ∙ ap not (sym (alike-far i j p q (omega arith)))
         ∙ ap (λ (s : Bool). s && not (alike (ofBits binary32 i) (ofBits binary32 j))) (sym (lt-ltb j i (omega arith)))
         ∙ sym (beyond-is i j p q)

@@ -21,7 +21,7 @@ use Rattle.distances.specs.declared.Comparison.{Comparison}
 use Rattle.distances.specs.declared.Comparison.the-variants.{Is, NotANumber}
 use Rattle.float.specs.Steps.{signBit}
 use Rattle.distances.specs.Compare.{order, ofNumbers}
-use Rattle.distances.specs.Asked.{Answered}
+use Rattle.distances.specs.Asked.{Compared}
 use Rattle.distances.specs.Total.{Value, notGreater, opposite}
 use Rattle.float.proofs.Magnitude.{distance-sign}
 use Rattle.distances.proofs.Farther.{beyondAt}
@@ -104,7 +104,7 @@ module _ (a b : Float) (p : Distance a) (q : Distance b) where
 
 -- ---- an answer asked by itself is determined
 
-pub one-answer : (a b : Float) (r s : Comparison) → Answered a b r → Answered a b s → r ≡ s
+pub one-answer : (a b : Float) (r s : Comparison) → Compared a b r → Compared a b s → r ≡ s
 one-answer a b (Is o) (Is p) h k = let e : some o ≡ some p = h .value ∙ sym (k .value) in cc
 one-answer a b (Is o) NotANumber h k = let e : some o ≡ none = h .value ∙ sym (k .value) in cc
 one-answer a b NotANumber (Is p) h k = let e : none ≡ some p = h .value ∙ sym (k .value) in cc

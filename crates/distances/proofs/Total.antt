@@ -15,7 +15,7 @@ use Rattle.distances.specs.declared.Order.the-variants.{Less, Equal, Gre
 use Rattle.lists.specs.Total.{Total}
 use Rattle.float.specs.Steps.{signBit}
 use Rattle.distances.specs.Compare.{ofNumbers}
-use Rattle.distances.specs.Total.{Value, notGreater, goesFirst}
+use Rattle.distances.specs.Total.{Value, notGreater, notAfter}
 use Rattle.float.proofs.Magnitude.{same-value}
 use Rattle.distances.proofs.Farther.{beyondAt, beyond-up, beyond-down}
 use Rattle.distances.proofs.Signs.{pattern, pattern-small, order-same, order-positive, order-negative}
@@ -69,7 +69,7 @@ merged-antisym true i true j h l = (refl, le-antisymm (leb-true i j h) (leb-true
 merged-antisym false i true j h l = absurd (true≢false (sym l ∙ not-true (beyondAt i j) h))
 merged-antisym true i false j h l = absurd (true≢false (sym h ∙ not-true (beyondAt j i) l))
 
--- ---- `goesFirst` is that merge
+-- ---- `notAfter` is that merge
 
 numbers-first : (m n : ℕ) → notGreater (ofNumbers m n) ≡ leb m n
 numbers-first m n = go (decLt m n) (decLt n m)
@@ -91,10 +91,10 @@ less-first : (t : Bool) → notGreater (if t then Less else Greater) ≡ t
 less-first true = refl
 less-first false = refl
 
-first-is : (x y : Value) → goesFirst x y ≡ merged (signBit (x .float)) (pattern x) (signBit (y .float)) (pattern y)
+first-is : (x y : Value) → notAfter x y ≡ merged (signBit (x .float)) (pattern x) (signBit (y .float)) (pattern y)
 first-is x y = go (signBit (x .float)) (signBit (y .float)) refl refl
   where
-    go : (s t : Bool) → signBit (x .float) ≡ s → signBit (y .float) ≡ t → goesFirst x y ≡ merged s (pattern x) t (pattern y)
+    go : (s t : Bool) → signBit (x .float) ≡ s → signBit (y .float) ≡ t → notAfter x y ≡ merged s (pattern x) t (pattern y)
     go false false p q = ap notGreater (order-same x y (p ∙ sym q)) ∙ numbers-first (pattern x) (pattern y)
     go true true p q = ap notGreater (order-same x y (p ∙ sym q)) ∙ numbers-first (pattern x) (pattern y)
     go false true p q = ap notGreater (order-positive x y p q) ∙ greater-first (beyondAt (pattern x) (pattern y))
@@ -109,7 +109,7 @@ same-float x y e =
     (T-prop (fits binary32 (x .float)) (x .held) h) (T-prop (not (isNan (x .float))) (x .number) n))
     (y .held) (y .number)
 
-pub total-order : Total goesFirst
+pub total-order : Total notAfter
 total-order = record {
   total = λ x y h. first-is y x ∙ merged-total (signBit (x .float)) (pattern x) (signBit (y .float)) (pattern y) (sym (first-is x y) ∙ h);
   trans = λ x y z h k.

@@ -11,15 +11,15 @@ use Rattle.distances.specs.declared.Comparison.{Comparison}
 use Rattle.distances.specs.declared.Comparison.the-variants.{Is, NotANumber}
 
 -- document 01's number for each answer, and the order that it gives: a refusal gives none
-abbrev pub numberOf : Comparison → ℕ
-numberOf (Is o) = 0
-numberOf NotANumber = 6
+abbrev pub comparedNumber : Comparison → ℕ
+comparedNumber (Is o) = 0
+comparedNumber NotANumber = 6
 
-abbrev pub orderOf : Comparison → Option Order
-orderOf (Is o) = some o
-orderOf NotANumber = none
+abbrev pub comparedOrder : Comparison → Option Order
+comparedOrder (Is o) = some o
+comparedOrder NotANumber = none
 
 -- r answers for a and b: 6 and no order where either is a NaN, else 0 and the order of the two
-pub record Answered (a b : Float) (r : Comparison) : Type 0 where
-  pub number : numberOf r ≡ (if isNan a || isNan b then 6 else 0)
-  pub value : orderOf r ≡ (if isNan a || isNan b then none else some (order a b))
+pub record Compared (a b : Float) (r : Comparison) : Type 0 where
+  pub number : comparedNumber r ≡ (if isNan a || isNan b then 6 else 0)
+  pub value : comparedOrder r ≡ (if isNan a || isNan b then none else some (order a b))

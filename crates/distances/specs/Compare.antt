@@ -10,8 +10,8 @@ use Rattle.distances.specs.declared.Order.{Order}
 use Rattle.distances.specs.declared.Order.the-variants.{Less, Equal, Greater}
 
 -- 1e-6, as the nearest binary32
-abbrev pub margin : Float
-margin = ofBits binary32 0x3586_37bd
+abbrev pub alikeMargin : Float
+alikeMargin = ofBits binary32 0x3586_37bd
 
 -- by how much two whole numbers differ
 abbrev pub apart : ℕ → ℕ → ℕ
@@ -19,7 +19,7 @@ apart m n = m - n + (n - m)
 
 -- two magnitudes: equal, or their rounded difference at most 1e-6, or their bit patterns at most 2 apart
 unfoldable pub alike : Float → Float → Bool
-alike x y = (x ≐ y) || (absOf (x ⊖ y) ≦ margin) || leb (apart (toBits binary32 x) (toBits binary32 y)) 2
+alike x y = (x ≐ y) || (absOf (x ⊖ y) ≦ alikeMargin) || leb (apart (toBits binary32 x) (toBits binary32 y)) 2
 
 -- "the magnitudes decide"
 abbrev pub byMagnitude : Float → Float → Order

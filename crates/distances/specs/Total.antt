@@ -18,8 +18,8 @@ notGreater Less = true
 notGreater Equal = true
 notGreater Greater = false
 
-abbrev pub goesFirst : Value → Value → Bool
-goesFirst x y = notGreater (order (x .float) (y .float))
+abbrev pub notAfter : Value → Value → Bool
+notAfter x y = notGreater (order (x .float) (y .float))
 
 -- the order the other way round
 abbrev pub opposite : Order → Order

@@ -9,7 +9,7 @@ ghost use Prim.Native.Nat.{_≤_};
 ghost use lib.Dec.{T};
 ghost use lib.Ieee.{binary32, isNan, ofBits};
 ghost use Rattle.distances.specs.Compare as Compare;
-ghost use Rattle.distances.specs.Asked.{Answered};
+ghost use Rattle.distances.specs.Asked.{Compared};
 
 // The sign bit of a pattern.
 const SIGN: u32 = 0x8000_0000;
@@ -72,7 +72,7 @@ pub fn compare_distances(a: f32, b: f32) -> Order
 
 // The comparison asked by itself: it refuses a NaN, where the Rust panics or goes by the NaN's bits.
 pub fn compare(a: f32, b: f32) -> Comparison
-    ensures { λ r. ⌜ Answered a b r ⌝ }
+    ensures { λ r. ⌜ Compared a b r ⌝ }
 {
     if (a != a) | (b != b) {
         return Comparison::NotANumber;

@@ -8,21 +8,21 @@ use Rattle.lists.proofs.Table.{map-replicate}
 use Rattle.queue.specs.declared.Entry.{Entry}
 use Rattle.queue.specs.Heap.{Keeps}
 use Rattle.queue.specs.Queue.{blank, entries, Even}
-use Rattle.entries.specs.Row.{distances, cells, triangles, HeldRow, ClearedRow}
+use Rattle.entries.specs.Row.{rowDistances, rowCells, rowTriangles, HeldRow, ClearedRow}
 
-pub row-entries : (row : List Entry) → entries (distances row) (cells row) (triangles row) ≡ row
+pub row-entries : (row : List Entry) → entries (rowDistances row) (rowCells row) (rowTriangles row) ≡ row
 unfolding entries
 row-entries [] = refl
 row-entries (e ∷ row) = ap (λ (l : List Entry). e ∷ l) (row-entries row)
 
-pub row-even : (row : List Entry) → Even (distances row) (cells row) (triangles row)
+pub row-even : (row : List Entry) → Even (rowDistances row) (rowCells row) (rowTriangles row)
 row-even row = record {
   cells = length-map row (λ e. e .cell) ∙ sym (length-map row (λ e. e .distance));
   triangles = length-map row (λ e. e .triangle) ∙ sym (length-map row (λ e. e .distance));
 }
 
 -- the room of a row
-pub long-row : (row : List Entry) → length (distances row) ≡ length row
+pub long-row : (row : List Entry) → length (rowDistances row) ≡ length row
 long-row row = length-map row (λ e. e .distance)
 
 module _ {le : Entry → Entry → Bool} where

@@ -8,28 +8,28 @@ use Rattle.queue.specs.declared.Entry.{Entry}
 use Rattle.queue.specs.Queue.{Held, Pushed, Taken, Cleared}
 
 -- the three lists of a row
-abbrev pub distances : List Entry → List ℕ
-distances row = map (λ e. e .distance) row
+abbrev pub rowDistances : List Entry → List ℕ
+rowDistances row = map (λ e. e .distance) row
 
-abbrev pub cells : List Entry → List ℕ
-cells row = map (λ e. e .cell) row
+abbrev pub rowCells : List Entry → List ℕ
+rowCells row = map (λ e. e .cell) row
 
-abbrev pub triangles : List Entry → List ℕ
-triangles row = map (λ e. e .triangle) row
+abbrev pub rowTriangles : List Entry → List ℕ
+rowTriangles row = map (λ e. e .triangle) row
 
 module _ (le : Entry → Entry → Bool) where
   -- the row holds n waiting entries, and zeros in the rest of its room
   abbrev pub HeldRow : List Entry → ℕ → Type 0
-  HeldRow row n = Held le (distances row) (cells row) (triangles row) n
+  HeldRow row n = Held le (rowDistances row) (rowCells row) (rowTriangles row) n
 
   -- what push leaves
   abbrev pub PushedRow : Entry → List Entry → List Entry → ℕ → Type 0
-  PushedRow e row row′ n = Pushed le e (distances row) (cells row) (triangles row) (distances row′) (cells row′) (triangles row′) n
+  PushedRow e row row′ n = Pushed le e (rowDistances row) (rowCells row) (rowTriangles row) (rowDistances row′) (rowCells row′) (rowTriangles row′) n
 
   -- what take leaves
   abbrev pub TakenRow : Entry → List Entry → List Entry → ℕ → Type 0
-  TakenRow r row row′ n = Taken le r (distances row) (cells row) (triangles row) (distances row′) (cells row′) (triangles row′) n
+  TakenRow r row row′ n = Taken le r (rowDistances row) (rowCells row) (rowTriangles row) (rowDistances row′) (rowCells row′) (rowTriangles row′) n
 
 -- what clear leaves
 abbrev pub ClearedRow : List Entry → List Entry → Type 0
-ClearedRow row row′ = Cleared (distances row) (cells row) (triangles row) (distances row′) (cells row′) (triangles row′)
+ClearedRow row row′ = Cleared (rowDistances row) (rowCells row) (rowTriangles row) (rowDistances row′) (rowCells row′) (rowTriangles row′)

@@ -10,8 +10,8 @@ use Rattle.closest.specs.declared.Facet.{Facet}
 use Rattle.closest.specs.declared.Dots.{Dots}
 use Rattle.flat.specs.declared.Regions.{Regions}
 
-abbrev pub first : {A : Type 0} → Bool → Bool → Bool → A → A → A → A → A
-first x y z a b c e = cond x a (cond y b (cond z c e))
+abbrev pub pickFirst : {A : Type 0} → Bool → Bool → Bool → A → A → A → A → A
+pickFirst x y z a b c e = cond x a (cond y b (cond z c e))
 
 unfoldable pub regionsOf : Dots → Regions
 regionsOf d = record { a = atA d; b = atB d; c = atC d; ab = onAB d; ac = onAC d; bc = onBC d }
@@ -19,8 +19,8 @@ regionsOf d = record { a = atA d; b = atB d; c = atC d; ab = onAB d; ac = onAC d
 -- the edge's parameter, or the inside's `denom`
 unfoldable pub ratio : Regions → Dots → Float
 ratio g d =
-    first (g .ab) (g .ac) (g .bc) (d .d1) (d .d2) (d .d4 ⊖ d .d3) f1
-    ⊘ first (g .ab) (g .ac) (g .bc) (d .d1 ⊖ d .d3) (d .d2 ⊖ d .d6) ((d .d4 ⊖ d .d3) ⊕ (d .d5 ⊖ d .d6)) (va d ⊕ vb d ⊕ vc d)
+    pickFirst (g .ab) (g .ac) (g .bc) (d .d1) (d .d2) (d .d4 ⊖ d .d3) f1
+    ⊘ pickFirst (g .ab) (g .ac) (g .bc) (d .d1 ⊖ d .d3) (d .d2 ⊖ d .d6) ((d .d4 ⊖ d .d3) ⊕ (d .d5 ⊖ d .d6)) (va d ⊕ vb d ⊕ vc d)
 
 -- the corner that the region is, or from which its edge starts
 unfoldable pub start : Regions → Facet → Point

@@ -53,7 +53,7 @@ fn pick_point(c: bool, a: Point, b: Point) -> Point
 }
 
 fn first(x: bool, y: bool, z: bool, a: f32, b: f32, c: f32, e: f32) -> f32
-    ensures { λ r. ⌜ r ≡ Flat.first x y z a b c e ⌝ }
+    ensures { λ r. ⌜ r ≡ Flat.pickFirst x y z a b c e ⌝ }
 {
     if x {
         a

@@ -13,9 +13,9 @@ use Rattle.float.specs.Arith.{if_then_else_}
 use Rattle.lists.specs.Turns.{Turn, goes, refuses, andThen, turns}
 use Rattle.lists.proofs.Turns.{turns-same, turns-refused}
 use Rattle.queue.specs.declared.Entry.{Entry}
-use Rattle.run.specs.Run.{Ground, State, Place, queue, queued}
+use Rattle.run.specs.Run.{RunInput, State, Place, queue, queued}
 use Rattle.batch.specs.Batch.{stopAt, over}
-use Rattle.considering.specs.Considered.{offerTo, verdict}
+use Rattle.considering.specs.Considered.{offerPlace, verdict}
 use Rattle.gathering.specs.Gathered.{countedBy}
 
 -- ---- queueing over another field and other names
@@ -45,7 +45,7 @@ unfolding andThen
 then-goes (goes s) = refl
 then-goes (refuses n) = refl
 
-module _ (g : Ground) (field : List Float) (names : List ℕ) where
+module _ (g : RunInput) (field : List Float) (names : List ℕ) where
   queue-over : (e : Entry) (s : State) → queue g e (over field names s) ≡ after (over field names) (queue g e s)
   unfolding queue
   queue-over e s = go (ltb (length (s .waiting)) (g .room))
@@ -72,12 +72,12 @@ turns-next f k s = ap (λ (n : ℕ). turns f n s) (add-one k)
 -- ---- the offers of a pop
 
 module _ (k : ℕ) (place : ℕ → Place) (away : ℕ → Float) (field₀ : List Float) (names₀ : List ℕ) where
-  abbrev step : Ground → ℕ → State → Turn State
-  step g j = offerTo (queue g) k (place j) (away j)
+  abbrev step : RunInput → ℕ → State → Turn State
+  step g j = offerPlace (queue g) k (place j) (away j)
 
   -- after j offers the field, the names and the first n entries of f are such that queueing these comes to the same
   pub record Gathers (j : ℕ) (field : List Float) (names : List ℕ) (f : ℕ → Entry) (n : ℕ) : Type 0 where
-    pub is : (g : Ground) (s : State) → turns (step g) j (over field₀ names₀ s) ≡ turns (λ i. queue g (f i)) n (over field names s)
+    pub is : (g : RunInput) (s : State) → turns (step g) j (over field₀ names₀ s) ≡ turns (λ i. queue g (f i)) n (over field names s)
 
   pub none-yet : (f : ℕ → Entry) → Gathers 0 field₀ names₀ f 0
   unfolding turns
@@ -85,11 +85,11 @@ module _ (k : ℕ) (place : ℕ → Place) (away : ℕ → Float) (field₀ : Li
 
   module _ (j : ℕ) {field : List Float} {names : List ℕ} {f : ℕ → Entry} {n : ℕ} (h : Gathers j field names f n) where
     -- one offer more, whatever it comes to
-    next : (g : Ground) (s : State) → turns (step g) (j + 1) (over field₀ names₀ s) ≡ andThen (turns (λ i. queue g (f i)) n s) (λ u. step g j (over field names u))
+    next : (g : RunInput) (s : State) → turns (step g) (j + 1) (over field₀ names₀ s) ≡ andThen (turns (λ i. queue g (f i)) n s) (λ u. step g j (over field names u))
     next g s = turns-next (step g) j (over field₀ names₀ s) ∙ ap (λ (t : Turn State). andThen t (step g j)) (h .is g s) ∙ under g field names f n s (step g j)
 
     -- the cell does not take it
-    passes : {field′ : List Float} {names′ : List ℕ} {f′ : ℕ → Entry} → ((g : Ground) (s : State) → step g j (over field names s) ≡ goes (over field′ names′ s)) → ((i : ℕ) → i < n → f i ≡ f′ i)
+    passes : {field′ : List Float} {names′ : List ℕ} {f′ : ℕ → Entry} → ((g : RunInput) (s : State) → step g j (over field names s) ≡ goes (over field′ names′ s)) → ((i : ℕ) → i < n → f i ≡ f′ i)
         → Gathers (j + 1) field′ names′ f′ n
     passes {field′} {names′} {f′} e same = record {
       is = λ g s.
@@ -101,7 +101,7 @@ module _ (k : ℕ) (place : ℕ → Place) (away : ℕ → Float) (field₀ : Li
     }
 
     -- the cell takes it: one entry more
-    takes-it : {field′ : List Float} {names′ : List ℕ} {f′ : ℕ → Entry} {x : Entry} → ((g : Ground) (s : State) → step g j (over field names s) ≡ queue g x (over field′ names′ s))
+    takes-it : {field′ : List Float} {names′ : List ℕ} {f′ : ℕ → Entry} {x : Entry} → ((g : RunInput) (s : State) → step g j (over field names s) ≡ queue g x (over field′ names′ s))
         → ((i : ℕ) → i < n → f i ≡ f′ i) → f′ n ≡ x → Gathers (j + 1) field′ names′ f′ (n + 1)
     takes-it {field′} {names′} {f′} {x} e same new = record {
       is = λ g s.
@@ -114,8 +114,8 @@ module _ (k : ℕ) (place : ℕ → Place) (away : ℕ → Float) (field₀ : Li
     }
 
     -- it is refused: so are all 27
-    refused-here : (r : ℕ) (end : ℕ) → j < end → ((g : Ground) (s : State) → step g j (over field names s) ≡ refuses r) → (r ≡ 0 → ⊥)
-        → (g : Ground) (s : State) → turns (step g) end (over field₀ names₀ s) ≡ andThen (turns (λ i. queue g (f i)) n (over field names s)) (stopAt r)
+    refused-here : (r : ℕ) (end : ℕ) → j < end → ((g : RunInput) (s : State) → step g j (over field names s) ≡ refuses r) → (r ≡ 0 → ⊥)
+        → (g : RunInput) (s : State) → turns (step g) end (over field₀ names₀ s) ≡ andThen (turns (λ i. queue g (f i)) n (over field names s)) (stopAt r)
     unfolding stopAt andThen
     refused-here r end l e z g s =
         stays (turns (λ i. queue g (f i)) n s) refl
@@ -135,7 +135,7 @@ module _ (k : ℕ) (place : ℕ → Place) (away : ℕ → Float) (field₀ : Li
 
     -- by a verdict
     module _ (field′ : List Float) (names′ : List ℕ) (number : ℕ) (taken : Bool) (x : Entry)
-        (e : (also : Entry → State → Turn State) (s : State) → offerTo also k (place j) (away j) (over field names s) ≡ verdict number taken also x (over field′ names′ s)) where
+        (e : (also : Entry → State → Turn State) (s : State) → offerPlace also k (place j) (away j) (over field names s) ≡ verdict number taken also x (over field′ names′ s)) where
       pub goes-on : {f′ : ℕ → Entry} → number ≡ 0 → ((i : ℕ) → i < n → f i ≡ f′ i) → f′ n ≡ x → Gathers (j + 1) field′ names′ f′ (countedBy n taken)
       unfolding verdict
       goes-on {f′} z same new = go taken refl
@@ -145,7 +145,7 @@ module _ (k : ℕ) (place : ℕ → Place) (away : ℕ → Float) (field₀ : Li
           go false w = passes (λ g s. e (queue g) s ∙ ap (λ (i : ℕ). verdict i taken (queue g) x (over field′ names′ s)) z ∙ ap (λ (t : Bool). verdict 0 t (queue g) x (over field′ names′ s)) w) same
 
       pub stops-here : (end : ℕ) → j < end → (number ≡ 0 → ⊥)
-          → (g : Ground) (s : State) → turns (step g) end (over field₀ names₀ s) ≡ andThen (turns (λ i. queue g (f i)) n (over field′ names′ s)) (stopAt number)
+          → (g : RunInput) (s : State) → turns (step g) end (over field₀ names₀ s) ≡ andThen (turns (λ i. queue g (f i)) n (over field′ names′ s)) (stopAt number)
       unfolding verdict stopAt
       stops-here end l z g s =
           refused-here number end l (λ g s. e (queue g) s ∙ refuses-by number z (queue g) (over field′ names′ s)) z g s
@@ -163,7 +163,7 @@ module _ (k : ℕ) (place : ℕ → Place) (away : ℕ → Float) (field₀ : Li
 
   -- after all
   pub all-made : {j end : ℕ} {field : List Float} {names : List ℕ} {f : ℕ → Entry} {n : ℕ} → j ≡ end → Gathers j field names f n
-      → (g : Ground) (s : State) → turns (step g) end (over field₀ names₀ s) ≡ andThen (turns (λ i. queue g (f i)) n (over field names s)) (stopAt 0)
+      → (g : RunInput) (s : State) → turns (step g) end (over field₀ names₀ s) ≡ andThen (turns (λ i. queue g (f i)) n (over field names s)) (stopAt 0)
   unfolding stopAt
   all-made {j} {end} {field} {names} {f} {n} e h g s =
       ap (λ (i : ℕ). turns (step g) i (over field₀ names₀ s)) (sym e) ∙ h .is g s ∙ sym (then-goes (turns (λ i. queue g (f i)) n (over field names s)))

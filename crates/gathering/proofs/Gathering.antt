@@ -15,14 +15,14 @@ use Rattle.grid.specs.Index.{total}
 use Rattle.mesh.specs.Mesh.{Mesh}
 use Rattle.queue.specs.declared.Entry.{Entry}
 use Rattle.run.specs.Run.{State, Place, off, at, queue, offer, offerAt, spreadTo, spreadAround}
-use Rattle.run.specs.Ground.{groundOf}
+use Rattle.run.specs.Ground.{runInput}
 use Rattle.run.specs.Steps.{aroundCell}
 use Rattle.around.specs.Around.{placeOf, Around}
 use Rattle.batch.specs.declared.Batch.{Batch}
 use Rattle.considering.specs.declared.Verdict.{Verdict}
 use Rattle.batch.specs.Batch.{over}
-use Rattle.considering.specs.Considered.{offerTo, Passable, Considered}
-use Rattle.gathering.specs.Gathered.{countedBy, Listed, Gathered, Offered}
+use Rattle.considering.specs.Considered.{offerPlace, Passable, Considered}
+use Rattle.gathering.specs.Gathered.{countedBy, PlacesFit, BatchGathered, PopOffered}
 use Rattle.gathering.proofs.Batches.{Gathers, none-yet, goes-on, stops-here, all-made}
 
 abbrev pub inBatch : List ℕ → List ℕ → ℕ → ℕ → Entry
@@ -51,7 +51,7 @@ module _ (k : ℕ) (to : List ℕ) (squares : List Float) (field₀ : List Float
     is = none-yet k (λ i. placeOf (getD to i 0)) (λ i. rootOf (getD squares i nan)) field₀ names₀ (inBatch cells distances k);
   }
 
-  module _ {field : List Float} {names cells distances : List ℕ} {count j : ℕ} (h : Gathering k to squares field₀ names₀ field names cells distances count j) (listed : Listed to squares field₀ names₀) (l : j < 27) where
+  module _ {field : List Float} {names cells distances : List ℕ} {count j : ℕ} (h : Gathering k to squares field₀ names₀ field names cells distances count j) (listed : PlacesFit to squares field₀ names₀) (l : j < 27) where
     -- the offer may be made
     pub may-pass : Passable (getD to j 0) (getD squares j nan) field names
     may-pass =
@@ -104,7 +104,7 @@ module _ (k : ℕ) (to : List ℕ) (squares : List Float) (field₀ : List Float
               go (no q) = old i (omega (arith, w, q))
           inside-more false e i w = old i w
 
-      pub gathering-stops : (v .number ≡ 0 → ⊥) → Gathered k to squares field₀ names₀ field′ names′ (record { number = v .number; count = count; triangle = k; cells = cells; distances = distances })
+      pub gathering-stops : (v .number ≡ 0 → ⊥) → BatchGathered k to squares field₀ names₀ field′ names′ (record { number = v .number; count = count; triangle = k; cells = cells; distances = distances })
       gathering-stops z = record {
         few = omega (arith, h .few, l);
         triangle = refl;
@@ -115,7 +115,7 @@ module _ (k : ℕ) (to : List ℕ) (squares : List Float) (field₀ : List Float
       }
 
   pub gathering-ends : {field : List Float} {names cells distances : List ℕ} {count j : ℕ} → Gathering k to squares field₀ names₀ field names cells distances count j → 27 ≤ j
-      → Gathered k to squares field₀ names₀ field names (record { number = 0; count = count; triangle = k; cells = cells; distances = distances })
+      → BatchGathered k to squares field₀ names₀ field names (record { number = 0; count = count; triangle = k; cells = cells; distances = distances })
   gathering-ends {j = j} h l = record {
     few = omega (arith, h .few, h .within);
     triangle = refl;
@@ -127,7 +127,7 @@ module _ (k : ℕ) (to : List ℕ) (squares : List Float) (field₀ : List Float
 
 module _ (g : Grid) (m : Mesh) (e : Entry) (to : List ℕ) (squares : List Float) (around : Around g m e to squares) (field : List Float) (names : List ℕ)
     (fl : length field ≡ total g) (nl : length names ≡ total g) where
-  pub around-listed : (placed : (n : ℕ) → (n ≡ 0xffff_ffff → ⊥) → placeOf n ≡ at n) → Listed to squares field names
+  pub around-listed : (placed : (n : ℕ) → (n ≡ 0xffff_ffff → ⊥) → placeOf n ≡ at n) → PlacesFit to squares field names
   around-listed placed = record {
     to-long = around .to-long;
     squares-long = around .squares-long;
@@ -140,22 +140,22 @@ module _ (g : Grid) (m : Mesh) (e : Entry) (to : List ℕ) (squares : List Float
 
   -- a step of the run is an offer to where it leads
   as-offer : (room any : ℕ) (j : ℕ) → j < 27 → (s : State)
-      → spreadTo (groundOf g m room any) e (aroundCell g (e .cell) j) s ≡ offerTo (queue (groundOf g m room any)) (e .triangle) (placeOf (getD to j 0)) (rootOf (getD squares j nan)) s
-  unfolding spreadTo offerTo offer groundOf
-  as-offer room any j l s = ap (λ (p : Place). spreadTo (groundOf g m room any) e p s) (sym (around .leads j l)) ∙ go (placeOf (getD to j 0)) refl
+      → spreadTo (runInput g m room any) e (aroundCell g (e .cell) j) s ≡ offerPlace (queue (runInput g m room any)) (e .triangle) (placeOf (getD to j 0)) (rootOf (getD squares j nan)) s
+  unfolding spreadTo offerPlace offer runInput
+  as-offer room any j l s = ap (λ (p : Place). spreadTo (runInput g m room any) e p s) (sym (around .leads j l)) ∙ go (placeOf (getD to j 0)) refl
     where
-      go : (p : Place) → placeOf (getD to j 0) ≡ p → spreadTo (groundOf g m room any) e p s ≡ offerTo (queue (groundOf g m room any)) (e .triangle) p (rootOf (getD squares j nan)) s
+      go : (p : Place) → placeOf (getD to j 0) ≡ p → spreadTo (runInput g m room any) e p s ≡ offerPlace (queue (runInput g m room any)) (e .triangle) p (rootOf (getD squares j nan)) s
       go off w = refl
-      go (at c) w = ap (λ (d : Float). offerAt (queue (groundOf g m room any)) (e .triangle) c d s) (sym (around .near j l .root c w))
+      go (at c) w = ap (λ (d : Float). offerAt (queue (runInput g m room any)) (e .triangle) c d s) (sym (around .near j l .root c w))
 
-  pub all-offered : {field′ : List Float} {names′ : List ℕ} {b : Batch} → Gathered (e .triangle) to squares field names field′ names′ b → Offered g m e field names field′ names′ b
-  unfolding spreadAround groundOf
+  pub all-offered : {field′ : List Float} {names′ : List ℕ} {b : Batch} → BatchGathered (e .triangle) to squares field names field′ names′ b → PopOffered g m e field names field′ names′ b
+  unfolding spreadAround runInput
   all-offered {field′} {names′} {b} h = record {
     few = h .few;
     triangle = h .triangle;
     inside = λ j w. omega (arith, h .inside j w, fl);
     is = λ room any s.
-        turns-same (λ j. spreadTo (groundOf g m room any) e (aroundCell g (e .cell) j)) (λ j. offerTo (queue (groundOf g m room any)) (e .triangle) (placeOf (getD to j 0)) (rootOf (getD squares j nan))) 27 (over field names s)
+        turns-same (λ j. spreadTo (runInput g m room any) e (aroundCell g (e .cell) j)) (λ j. offerPlace (queue (runInput g m room any)) (e .triangle) (placeOf (getD to j 0)) (rootOf (getD squares j nan))) 27 (over field names s)
         (λ j t l. as-offer room any j l t)
-        ∙ h .is (groundOf g m room any) s;
+        ∙ h .is (runInput g m room any) s;
   }

@@ -11,7 +11,7 @@ ghost use lib.ListN.{length};
 ghost use Rattle.grid.specs.Index.{total};
 ghost use Rattle.mesh.specs.Mesh.{meshOf, trianglesIn};
 ghost use Rattle.told.specs.Told.{Ready, Known};
-ghost use Rattle.gathering.specs.Gathered.{countedBy, Listed, Gathered, Offered};
+ghost use Rattle.gathering.specs.Gathered.{countedBy, PlacesFit, BatchGathered, PopOffered};
 
 // One more, where it is taken.
 fn counted(n: usize, taken: bool) -> usize
@@ -23,8 +23,8 @@ fn counted(n: usize, taken: bool) -> usize
 
 // All offers of triangle k, to where the 27 steps lead.
 fn gather(field: &mut [f32], names: &mut [u32], k: u32, to: &[u32], squares: &[f32]) -> Batch
-    requires { ⌜ Listed (now to) (now squares) (now field) (now names) ⌝ }
-    ensures { λ r. ⌜ Gathered k (now (to .entry)) (now (squares .entry)) (now (field .entry)) (now (names .entry)) (now (field .exit)) (now (names .exit)) r ⌝ }
+    requires { ⌜ PlacesFit (now to) (now squares) (now field) (now names) ⌝ }
+    ensures { λ r. ⌜ BatchGathered k (now (to .entry)) (now (squares .entry)) (now (field .entry)) (now (names .entry)) (now (field .exit)) (now (names .exit)) r ⌝ }
 {
     let mut cells = [0u32; 27];
     let mut distances = [0u32; 27];
@@ -68,7 +68,7 @@ pub fn offers(
     e: Entry,
 ) -> Batch
     requires { ⌜ Ready grid (meshOf (now vertices) topology given (now indices)) × Known (total grid) (length (trianglesIn (meshOf (now vertices) topology given (now indices)))) e × (length (now field) ≡ total grid) × (length (now names) ≡ total grid) ⌝ }
-    ensures { λ r. ⌜ Offered grid (meshOf (now (vertices .entry)) topology given (now (indices .entry))) e (now (field .entry)) (now (names .entry)) (now (field .exit)) (now (names .exit)) r ⌝ }
+    ensures { λ r. ⌜ PopOffered grid (meshOf (now (vertices .entry)) topology given (now (indices .entry))) e (now (field .entry)) (now (names .entry)) (now (field .exit)) (now (names .exit)) r ⌝ }
 {
     let steps = around::STEPS;
     let mut to = [0u32; 27];

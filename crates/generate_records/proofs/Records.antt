@@ -11,11 +11,11 @@ use Rattle.mesh.specs.Mesh.{Mesh}
 use Rattle.queue.specs.declared.Entry.{Entry}
 use Rattle.queue.proofs.Uses as Queue
 use Rattle.run.specs.Run.{run}
-use Rattle.run.specs.Ground.{groundOf}
+use Rattle.run.specs.Ground.{runInput}
 use Rattle.lists.specs.Turns.{told}
 use Rattle.told.specs.declared.Progress.{Progress}
 use Rattle.told.specs.Told.{orderIn, stateOf, Fit}
-use Rattle.entries.specs.Row.{distances, cells, triangles, ClearedRow}
+use Rattle.entries.specs.Row.{rowDistances, rowCells, rowTriangles, ClearedRow}
 use Rattle.checks.specs.Job.{Job, Lent}
 use Rattle.checks.specs.Refusals.{refusal, refusalBy, lengthsOf}
 use Rattle.checks.proofs.Accepted.{Accepted, accepted}
@@ -82,7 +82,7 @@ module _ (g : Grid) (m : Mesh) (limit : ℕ) (field : List Float) (names crossin
           field-long = l-field ∙ taken .long .field;
           names-long = l-names ∙ taken .long .names;
           empty =
-              Queue.cleared (orderIn m) (distances queue) (cells queue) (triangles queue) (distances queue₁) (cells queue₁) (triangles queue₁)
+              Queue.cleared (orderIn m) (rowDistances queue) (rowCells queue) (rowTriangles queue) (rowDistances queue₁) (rowCells queue₁) (rowTriangles queue₁)
               (record { cells = taken .long .cells; triangles = taken .long .triangles }) clear;
         }
 
@@ -92,8 +92,8 @@ module _ (g : Grid) (m : Mesh) (limit : ℕ) (field : List Float) (names crossin
           field-long = w .holds .field-long
 
           -- the run of the job, whose room is the row's length
-          went : run (groundOf g m (length (distances queue)) limit) ≡ told (ran .number) (stateOf (orderIn m) field₂ names₂ (distances queue₂) (cells queue₂) (triangles queue₂) ran)
-          went = ap (λ (k : ℕ). run (groundOf g m k limit)) (length-map queue (λ (e : Entry). e .distance) ∙ sym l-queue) ∙ w .is 0
+          went : run (runInput g m (length (rowDistances queue)) limit) ≡ told (ran .number) (stateOf (orderIn m) field₂ names₂ (rowDistances queue₂) (rowCells queue₂) (rowTriangles queue₂) ran)
+          went = ap (λ (k : ℕ). run (runInput g m k limit)) (length-map queue (λ (e : Entry). e .distance) ∙ sym l-queue) ∙ w .is 0
 
           -- what is lent stays as long as it was
           as-long : (f : Entry → ℕ) → length (map f queue₂) ≡ length (map f queue)
@@ -110,11 +110,11 @@ module _ (g : Grid) (m : Mesh) (limit : ℕ) (field : List Float) (names crossin
             done-with y =
                 gives-outcome job lent none-refused
                 (gives-run job (lentRow field₂ names₂ crossings rows queue₂) lent long-as went
-                (gives-done g m limit field₂ names₂ crossings rows (distances queue₂) (cells queue₂) (triangles queue₂) ran c y (run-over (length queue₁) limit w)))
+                (gives-done g m limit field₂ names₂ crossings rows (rowDistances queue₂) (rowCells queue₂) (rowTriangles queue₂) ran c y (run-over (length queue₁) limit w)))
 
             -- or the row is cleared
             pub cleared-after : (ran .number ≡ 0 → ⊥) → (queue₃ : List Entry) → ClearedRow queue₂ queue₃ → Gives (outcome job lent) answer (lentRow field₃ names₃ crossings₃ rows₃ queue₃)
             cleared-after y queue₃ q =
                 gives-outcome job lent none-refused
                 (gives-run job (lentRow field₂ names₂ crossings rows queue₂) lent long-as went
-                (gives-refused g m limit field₂ names₂ crossings rows (distances queue₂) (cells queue₂) (triangles queue₂) ran c y q))
+                (gives-refused g m limit field₂ names₂ crossings rows (rowDistances queue₂) (rowCells queue₂) (rowTriangles queue₂) ran c y q))

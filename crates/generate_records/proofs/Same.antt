@@ -7,7 +7,7 @@ use lib.ListN.{length, length-map}
 use lib.Ieee.{Float}
 use Rattle.queue.specs.declared.Entry.{Entry}
 use Rattle.queue.specs.Queue.{entries}
-use Rattle.entries.specs.Row.{distances, cells, triangles}
+use Rattle.entries.specs.Row.{rowDistances, rowCells, rowTriangles}
 use Rattle.entries.proofs.Projections.{row-entries}
 use Rattle.checks.specs.Job.{Job, Lent, lentOf}
 use Rattle.checks.specs.Refusals.{refusal, refusalBy, lengthsOf}
@@ -74,7 +74,7 @@ same-job j field names crossings rows queue ds cs ts d c t answer answer′ left
 -- ---- "One call has one possible outcome"
 
 -- a row is told by its three projections
-one-row : (p q : List Entry) → distances p ≡ distances q → cells p ≡ cells q → triangles p ≡ triangles q → p ≡ q
+one-row : (p q : List Entry) → rowDistances p ≡ rowDistances q → rowCells p ≡ rowCells q → rowTriangles p ≡ rowTriangles q → p ≡ q
 one-row p q d c t = sym (row-entries p) ∙ (λ i. entries (d i) (c i) (t i)) ∙ row-entries q
 
 -- two calls over a row that come to one outcome agree in the answer, in the other buffers and in the row itself

@@ -4,8 +4,8 @@ use Prim.Native.Nat.{ℕ}
 use mathlib.Core.List.{List}
 use lib.Ieee.{Float}
 use Rattle.queue.specs.declared.Entry.{Entry}
-use Rattle.entries.specs.Row.{distances, cells, triangles}
+use Rattle.entries.specs.Row.{rowDistances, rowCells, rowTriangles}
 use Rattle.checks.specs.Job.{Lent, lentOf}
 
 abbrev pub lentRow : List Float → List ℕ → List ℕ → List ℕ → List Entry → Lent
-lentRow field names crossings rows queue = lentOf field names crossings rows (distances queue) (cells queue) (triangles queue)
+lentRow field names crossings rows queue = lentOf field names crossings rows (rowDistances queue) (rowCells queue) (rowTriangles queue)

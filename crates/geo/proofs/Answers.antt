@@ -13,7 +13,7 @@ use Rattle.float.proofs.Bools.{and-first, and-second}
 use Rattle.point.specs.Point.{turned}
 use Rattle.point.specs.declared.Point.{Point}
 use Rattle.point.specs.declared.Axis.{Axis}
-use Rattle.bounding.specs.Box.{margin, leastOf3, greatestOf3, boxOf}
+use Rattle.bounding.specs.Box.{boxMargin, leastOf3, greatestOf3, paddedBox}
 use Rattle.ray.specs.Ray.{weightsX, reachX, allBelow, allAbove, reply, rayX, rayAligned}
 use Rattle.geo.specs.Asked.{bound, within, pointNan, boxNan, rayNan, answered, refused, value}
 use Rattle.ray.specs.declared.RayHit.the-variants.{Miss, Hit}
@@ -107,7 +107,7 @@ sub-no-nan : (x y : Float) → T (finite x) → T (finite y) → isNan (x ⊖ y)
 unfolding sub
 sub-no-nan x y p q = add-no-nan x (neg y) p (neg-finite y q)
 
-margin-finite : T (finite margin)
+margin-finite : T (finite boxMargin)
 unfolding ofBits
 margin-finite = tt
 
@@ -128,13 +128,13 @@ greatest-finite : (x y : Float) → T (finite x) → T (finite y) → T (finite 
 greatest-finite x y p q = cond-finite (x ≺ y) y (cond (isNan x) y x) q (cond-finite (isNan x) y x q p)
 
 -- one axis of the box
-low-no-nan : (a b c : Float) → T (finite a) → T (finite b) → T (finite c) → isNan (leastOf3 a b c ⊖ margin) ≡ false
+low-no-nan : (a b c : Float) → T (finite a) → T (finite b) → T (finite c) → isNan (leastOf3 a b c ⊖ boxMargin) ≡ false
 unfolding leastOf3
-low-no-nan a b c p q r = sub-no-nan (leastOf a (leastOf b c)) margin (least-finite a (leastOf b c) p (least-finite b c q r)) margin-finite
+low-no-nan a b c p q r = sub-no-nan (leastOf a (leastOf b c)) boxMargin (least-finite a (leastOf b c) p (least-finite b c q r)) margin-finite
 
-high-no-nan : (a b c : Float) → T (finite a) → T (finite b) → T (finite c) → isNan (greatestOf3 a b c ⊕ margin) ≡ false
+high-no-nan : (a b c : Float) → T (finite a) → T (finite b) → T (finite c) → isNan (greatestOf3 a b c ⊕ boxMargin) ≡ false
 unfolding greatestOf3
-high-no-nan a b c p q r = add-no-nan (greatestOf a (greatestOf b c)) margin (greatest-finite a (greatestOf b c) p (greatest-finite b c q r)) margin-finite
+high-no-nan a b c p q r = add-no-nan (greatestOf a (greatestOf b c)) boxMargin (greatest-finite a (greatestOf b c) p (greatest-finite b c q r)) margin-finite
 
 pub record Finite (p : Point) : Type 0 where
   pub x : T (finite (p .x))
@@ -157,8 +157,8 @@ within-finite p h =
 six : (u v w x y z : Bool) → u ≡ false → v ≡ false → w ≡ false → x ≡ false → y ≡ false → z ≡ false → ((u || v || w) || (x || y || z)) ≡ false
 six u v w x y z a b c d e f = rw (a, b, c, d, e, f)
 
-finite-box : (a b c : Point) → Finite a → Finite b → Finite c → boxNan (boxOf a b c) ≡ false
-unfolding boxOf pointNan
+finite-box : (a b c : Point) → Finite a → Finite b → Finite c → boxNan (paddedBox a b c) ≡ false
+unfolding paddedBox pointNan
 finite-box a b c p q r =
     six _ _ _ _ _ _ (low-no-nan (a .x) (b .x) (c .x) (p .x) (q .x) (r .x))
     (low-no-nan (a .y) (b .y) (c .y) (p .y) (q .y) (r .y))
@@ -167,7 +167,7 @@ finite-box a b c p q r =
     (high-no-nan (a .y) (b .y) (c .y) (p .y) (q .y) (r .y))
     (high-no-nan (a .z) (b .z) (c .z) (p .z) (q .z) (r .z))
 
-pub box-no-nan : (a b c : Point) → (within a && within b && within c) ≡ true → boxNan (boxOf a b c) ≡ false
+pub box-no-nan : (a b c : Point) → (within a && within b && within c) ≡ true → boxNan (paddedBox a b c) ≡ false
 box-no-nan a b c h =
     let ab = and-first (within a && within b) (within c) h in
     finite-box a b c (within-finite a (and-first (within a) (within b) ab)) (within-finite b (and-second (within a) (within b) ab)) (within-finite c (and-second (within a && within b) (within c) h))

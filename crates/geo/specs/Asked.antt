@@ -9,7 +9,7 @@ use Rattle.point.specs.declared.Point.{Point}
 use Rattle.point.specs.declared.Axis.{Axis}
 use Rattle.closest.specs.Closest.{closestPointSegment, closestPointTriangle}
 use Rattle.squares.specs.Distance.{distance}
-use Rattle.bounding.specs.Box.{boxOf}
+use Rattle.bounding.specs.Box.{paddedBox}
 use Rattle.ray.specs.Ray.{rayAligned}
 use Rattle.bounding.specs.declared.TriangleBox.{TriangleBox}
 use Rattle.ray.specs.declared.RayHit.{RayHit}
@@ -75,7 +75,7 @@ rayAnswer (Rays.Is h) = value h
 -- ---- the questions
 
 abbrev pub askedBox : Point → Point → Point → Answer TriangleBox
-askedBox a b c = answered (within a && within b && within c) boxNan (boxOf a b c)
+askedBox a b c = answered (within a && within b && within c) boxNan (paddedBox a b c)
 
 abbrev pub askedSegment : Point → Point → Point → Answer Point
 askedSegment p a b = answered (within p && within a && within b) pointNan (closestPointSegment p a b)

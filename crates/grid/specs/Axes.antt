@@ -35,14 +35,14 @@ cellOn X c = c .x
 cellOn Y c = c .y
 cellOn Z c = c .z
 
-abbrev pub cell : ℕ → ℕ → ℕ → Cell
-cell x y z = record { x = x; y = y; z = z }
+abbrev pub cellNumbered : ℕ → ℕ → ℕ → Cell
+cellNumbered x y z = record { x = x; y = y; z = z }
 
 -- the cell with k in the place of its number along an axis
 abbrev pub put : Axis → ℕ → Cell → Cell
-put X k c = cell k (c .y) (c .z)
-put Y k c = cell (c .x) k (c .z)
-put Z k c = cell (c .x) (c .y) k
+put X k c = cellNumbered k (c .y) (c .z)
+put Y k c = cellNumbered (c .x) k (c .z)
+put Z k c = cellNumbered (c .x) (c .y) k
 
 -- the axis after this one, round and round
 abbrev pub next : Axis → Axis
@@ -52,9 +52,9 @@ next Z = X
 
 -- cell number n of the line along an axis whose cells have u on the next axis and v on the one after that
 abbrev pub cellFrom : Axis → ℕ → ℕ → ℕ → Cell
-cellFrom X n u v = cell n u v
-cellFrom Y n u v = cell v n u
-cellFrom Z n u v = cell u v n
+cellFrom X n u v = cellNumbered n u v
+cellFrom Y n u v = cellNumbered v n u
+cellFrom Z n u v = cellNumbered u v n
 
 -- the one of three numbers that belongs to an axis
 abbrev pub pick : Axis → ℕ → ℕ → ℕ → ℕ
@@ -67,7 +67,7 @@ abbrev pub pointBy : (Axis → Float) → Point
 pointBy f = vec (f X) (f Y) (f Z)
 
 abbrev pub cellBy : (Axis → ℕ) → Cell
-cellBy f = cell (f X) (f Y) (f Z)
+cellBy f = cellNumbered (f X) (f Y) (f Z)
 
 -- a test that holds on every axis, on some axis
 abbrev pub onEvery : (Axis → Bool) → Bool

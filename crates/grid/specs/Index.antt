@@ -6,14 +6,14 @@ use Rattle.point.specs.declared.Axis.{Axis}
 use Rattle.point.specs.declared.Axis.the-variants.{X, Y, Z}
 use Rattle.grid.specs.declared.Grid.{Grid}
 use Rattle.grid.specs.declared.Cell.{Cell}
-use Rattle.grid.specs.Axes.{countOn, cellOn, cell, onEvery}
+use Rattle.grid.specs.Axes.{countOn, cellOn, cellNumbered, onEvery}
 
 -- of a grid with ny cells along y and nz along z
 unfoldable pub index : ℕ → ℕ → Cell → ℕ
 index ny nz c = c .z + c .y * nz + c .x * ny * nz
 
 unfoldable pub coordinates : ℕ → ℕ → ℕ → Cell
-coordinates ny nz i = cell (i / (ny * nz)) (i / nz % ny) (i % nz)
+coordinates ny nz i = cellNumbered (i / (ny * nz)) (i / nz % ny) (i % nz)
 
 -- by how much the index grows from a cell to the next along an axis
 abbrev pub stride : Axis → ℕ → ℕ → ℕ

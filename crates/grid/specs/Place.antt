@@ -27,8 +27,8 @@ boxMin g = pointBy (λ a. lowOn (firstOn a g) (sizeOn a g))
 unfoldable pub boxMax : Grid → Point
 boxMax g = pointBy (λ a. highOn (firstOn a g) (sizeOn a g) (countOn a g))
 
-abbrev pub boxOf : Grid → BoundingBox
-boxOf g = record { min = boxMin g; max = boxMax g }
+abbrev pub gridBox : Grid → BoundingBox
+gridBox g = record { min = boxMin g; max = boxMax g }
 
 -- "Snap: floor of (point − box minimum) / size, as a signed whole number that saturates at the ends of the 64-bit range, then
 -- clamped to 0 .. count − 1. Inside if no axis was clamped, else Outside. [..] A NaN quotient gives 0, as the Rust cast does."

@@ -51,30 +51,30 @@ abbrev pub made : Grid → Reply Grid
 made g = ofGrid g g
 
 -- what each answer of the code says
-abbrev pub number : NumberAnswer → Reply ℕ
-number (Number.Refused n) = refused n
-number (Number.Number i) = given i
+abbrev pub numberReply : NumberAnswer → Reply ℕ
+numberReply (Number.Refused n) = refused n
+numberReply (Number.Number i) = given i
 
-abbrev pub cell : CellAnswer → Reply Cell
-cell (CellOf.Refused n) = refused n
-cell (CellOf.At c) = given c
+abbrev pub cellReply : CellAnswer → Reply Cell
+cellReply (CellOf.Refused n) = refused n
+cellReply (CellOf.At c) = given c
 
-abbrev pub point : PointAnswer → Reply Point
-point (PointOf.Refused n) = refused n
-point (PointOf.At p) = given p
+abbrev pub pointReply : PointAnswer → Reply Point
+pointReply (PointOf.Refused n) = refused n
+pointReply (PointOf.At p) = given p
 
-abbrev pub counts : CountsAnswer → Reply Counts
-counts (CountsOf.Refused n) = refused n
-counts (CountsOf.Are c) = given c
+abbrev pub countsReply : CountsAnswer → Reply Counts
+countsReply (CountsOf.Refused n) = refused n
+countsReply (CountsOf.Are c) = given c
 
-abbrev pub box : BoxAnswer → Reply BoundingBox
-box (BoxOf.Refused n) = refused n
-box (BoxOf.Is b) = given b
+abbrev pub boxReply : BoxAnswer → Reply BoundingBox
+boxReply (BoxOf.Refused n) = refused n
+boxReply (BoxOf.Is b) = given b
 
-abbrev pub snapped : SnapAnswer → Reply Snap
-snapped (SnapOf.Refused n) = refused n
-snapped (SnapOf.Snapped s) = given s
+abbrev pub snapReply : SnapAnswer → Reply Snap
+snapReply (SnapOf.Refused n) = refused n
+snapReply (SnapOf.Snapped s) = given s
 
-abbrev pub grid : GridAnswer → Reply Grid
-grid (GridOf.Refused n) = refused n
-grid (GridOf.Made g) = given g
+abbrev pub gridReply : GridAnswer → Reply Grid
+gridReply (GridOf.Refused n) = refused n
+gridReply (GridOf.Made g) = given g

@@ -124,7 +124,7 @@ impl Grid {
     }
 
     pub fn get_first_cell(self) -> PointAnswer
-        ensures { λ r. ⌜ Reply.point r ≡ Reply.ofGrid self (self .«first_cell») ⌝ }
+        ensures { λ r. ⌜ Reply.pointReply r ≡ Reply.ofGrid self (self .«first_cell») ⌝ }
     {
         if !self.in_bounds() {
             return PointAnswer::Refused(1);
@@ -134,7 +134,7 @@ impl Grid {
     }
 
     pub fn get_last_cell(self) -> PointAnswer
-        ensures { λ r. ⌜ Reply.point r ≡ Reply.ofGrid self (Place.lastCell self) ⌝ }
+        ensures { λ r. ⌜ Reply.pointReply r ≡ Reply.ofGrid self (Place.lastCell self) ⌝ }
     {
         if !self.in_bounds() {
             return PointAnswer::Refused(1);
@@ -143,7 +143,7 @@ impl Grid {
     }
 
     pub fn get_cell_size(self) -> PointAnswer
-        ensures { λ r. ⌜ Reply.point r ≡ Reply.ofGrid self (self .«cell_size») ⌝ }
+        ensures { λ r. ⌜ Reply.pointReply r ≡ Reply.ofGrid self (self .«cell_size») ⌝ }
     {
         if !self.in_bounds() {
             return PointAnswer::Refused(1);
@@ -153,7 +153,7 @@ impl Grid {
     }
 
     pub fn get_cell_count(self) -> CountsAnswer
-        ensures { λ r. ⌜ Reply.counts r ≡ Reply.ofGrid self (Axes.countsOf self) ⌝ }
+        ensures { λ r. ⌜ Reply.countsReply r ≡ Reply.ofGrid self (Axes.countsOf self) ⌝ }
     {
         if !self.in_bounds() {
             return CountsAnswer::Refused(1);
@@ -167,7 +167,7 @@ impl Grid {
     }
 
     pub fn get_total_cell_count(self) -> NumberAnswer
-        ensures { λ r. ⌜ Reply.number r ≡ Reply.ofGrid self (total self) ⌝ }
+        ensures { λ r. ⌜ Reply.numberReply r ≡ Reply.ofGrid self (total self) ⌝ }
     {
         if !self.in_bounds() {
             return NumberAnswer::Refused(1);
@@ -176,7 +176,7 @@ impl Grid {
     }
 
     pub fn get_bounding_box(self) -> BoxAnswer
-        ensures { λ r. ⌜ Reply.box r ≡ Reply.ofGrid self (Place.boxOf self) ⌝ }
+        ensures { λ r. ⌜ Reply.boxReply r ≡ Reply.ofGrid self (Place.gridBox self) ⌝ }
     {
         if !self.in_bounds() {
             return BoxAnswer::Refused(1);
@@ -185,7 +185,7 @@ impl Grid {
     }
 
     pub fn get_cell_idx(self, cell: Cell) -> NumberAnswer
-        ensures { λ r. ⌜ Reply.number r ≡ Reply.ofCell self cell (indexOf self cell) ⌝ }
+        ensures { λ r. ⌜ Reply.numberReply r ≡ Reply.ofCell self cell (indexOf self cell) ⌝ }
     {
         if !self.in_bounds() {
             return NumberAnswer::Refused(1);
@@ -197,7 +197,7 @@ impl Grid {
     }
 
     pub fn get_cell_integer_coordinates(self, cell_idx: u32) -> CellAnswer
-        ensures { λ r. ⌜ Reply.cell r ≡ Reply.ofIndex self «cell_idx» (cellAt self «cell_idx») ⌝ }
+        ensures { λ r. ⌜ Reply.cellReply r ≡ Reply.ofIndex self «cell_idx» (cellAt self «cell_idx») ⌝ }
     {
         if !self.in_bounds() {
             return CellAnswer::Refused(1);
@@ -209,7 +209,7 @@ impl Grid {
     }
 
     pub fn get_cell_center(self, cell: Cell) -> PointAnswer
-        ensures { λ r. ⌜ Reply.point r ≡ Reply.ofCell self cell (Place.centreOf self cell) ⌝ }
+        ensures { λ r. ⌜ Reply.pointReply r ≡ Reply.ofCell self cell (Place.centreOf self cell) ⌝ }
     {
         if !self.in_bounds() {
             return PointAnswer::Refused(1);
@@ -222,7 +222,7 @@ impl Grid {
 
     // Any point may be asked for, a NaN among its coordinates too.
     pub fn snap_point_to_grid(self, point: Point) -> SnapAnswer
-        ensures { λ r. ⌜ Reply.snapped r ≡ Reply.ofGrid self (Place.snap self point) ⌝ }
+        ensures { λ r. ⌜ Reply.snapReply r ≡ Reply.ofGrid self (Place.snap self point) ⌝ }
     {
         if !self.in_bounds() {
             return SnapAnswer::Refused(1);
@@ -232,7 +232,7 @@ impl Grid {
 
     // The grid that fills a box, where it and its counts are within the bounds.
     pub fn from_bounding_box(bbox_min: Point, bbox_max: Point, cell_count: Counts) -> GridAnswer
-        ensures { λ r. ⌜ Reply.grid r ≡ Reply.made (Place.fromBox «bbox_min» «bbox_max» «cell_count») ⌝ }
+        ensures { λ r. ⌜ Reply.gridReply r ≡ Reply.made (Place.fromBox «bbox_min» «bbox_max» «cell_count») ⌝ }
     {
         let grid = parts::from_bounding_box(bbox_min, bbox_max, cell_count);
         if !grid.in_bounds() {

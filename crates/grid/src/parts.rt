@@ -93,7 +93,7 @@ pub fn get_cell_center(grid: Grid, cell: Cell) -> Point
 
 // The corners of the box that the cells fill.
 pub fn get_bounding_box(grid: Grid) -> BoundingBox
-    ensures { λ r. ⌜ r ≡ Place.boxOf grid ⌝ }
+    ensures { λ r. ⌜ r ≡ Place.gridBox grid ⌝ }
 {
     let first = grid.first_cell;
     let size = grid.cell_size;

@@ -10,7 +10,7 @@ use Rattle.job.specs.declared.Reading.{Reading}
 use Rattle.job.specs.declared.Reading.the-variants.{Job, Unreadable}
 
 -- the record and the lent slices hold the job
-pub record Holds (j : TextJob) (a : Asked) (vertices indices : List ℕ) : Type 0 where
+pub record HoldsJob (j : TextJob) (a : Asked) (vertices indices : List ℕ) : Type 0 where
   pub count-is : a .count ≡ j .count
   pub first-is : a .first ≡ j .first
   pub size-is : a .size ≡ j .size
@@ -26,5 +26,5 @@ pub record Holds (j : TextJob) (a : Asked) (vertices indices : List ℕ) : Type 
 -- A text is read as the job within the limits that it is the text of, and where it is the text of no such job, it is unreadable. A text is that
 -- of one job at most (`one-job`, crates/text/proofs/Job.antt).
 abbrev pub Reads : List ℕ → List ℕ → List ℕ → Reading → Type 0
-Reads text vertices indices (Job a) = (j : TextJob) × Readable j × (text ≡ jobText j) × Holds j a vertices indices
+Reads text vertices indices (Job a) = (j : TextJob) × Readable j × (text ≡ jobText j) × HoldsJob j a vertices indices
 Reads text vertices indices Unreadable = (j : TextJob) → Readable j → text ≡ jobText j → ⊥

@@ -9,14 +9,14 @@ use Rattle.job.specs.declared.Asked.{Asked}
 use Rattle.job.specs.declared.Reading.{Reading}
 use Rattle.job.specs.declared.Reading.the-variants.{Job, Unreadable}
 use Rattle.job.specs.Told.{jobIn}
-use Rattle.job.specs.Reading.{Holds, Reads}
+use Rattle.job.specs.Reading.{HoldsJob, Reads}
 use Rattle.writing.specs.Put.{Put}
 
 -- `Reads` is what `read_job` promises of a text and of the slices that it filled
 text-reads : (text : List ℕ) (j : TextJob) → Readable j → text ≡ jobText j → (vertices indices : List ℕ) (r : Reading) → Reads text vertices indices r
-    → (b : Asked) × (r ≡ Job b) × Holds j b vertices indices
+    → (b : Asked) × (r ≡ Job b) × HoldsJob j b vertices indices
 text-reads text j h e vertices indices (Job b) w =
-    (b, refl, subst (λ (k : TextJob). Holds k b vertices indices) (one-job (w .0) j (w .1) h (sym (w .2) ∙ e)) (w .3))
+    (b, refl, subst (λ (k : TextJob). HoldsJob k b vertices indices) (one-job (w .0) j (w .1) h (sym (w .2) ∙ e)) (w .3))
 text-reads text j h e vertices indices Unreadable w = absurd (w j h e)
 
 -- the first n bytes of `new` are what `write_job` wrote of `a`
@@ -24,5 +24,5 @@ pub round-trip : (a : Asked) (vertices indices old new : List ℕ) (n : ℕ) →
     → Put old 0 (jobText (jobIn a vertices indices)) new n
     → (vertices' indices' : List ℕ) (r : Reading)
     → Reads (take n new) vertices' indices' r
-    → (b : Asked) × (r ≡ Job b) × Holds (jobIn a vertices indices) b vertices' indices'
+    → (b : Asked) × (r ≡ Job b) × HoldsJob (jobIn a vertices indices) b vertices' indices'
 round-trip a vertices indices old new n h p = text-reads (take n new) (jobIn a vertices indices) h (p .front)

@@ -12,7 +12,7 @@ use Rattle.job_writing.specs.declared.Written.{Written}
 use Rattle.job_writing.specs.declared.Written.the-variants.{Nothing, Bytes}
 
 -- what can be written: "256 vertices, 768 indices", which the slices hold; and 32,768 bytes, which hold any text of these
-pub record Few (a : Asked) (vertices indices out : List ℕ) : Type 0 where
+pub record RoomToWrite (a : Asked) (vertices indices out : List ℕ) : Type 0 where
   pub room : 32768 ≤ length out
   pub vertices-few : a .vertices ≤ 256
   pub vertices-held : 3 * a .vertices ≤ length vertices
@@ -20,6 +20,6 @@ pub record Few (a : Asked) (vertices indices out : List ℕ) : Type 0 where
   pub indices-held : a .indices ≤ length indices
 
 -- the text of the job stands at the first bytes of out, and the others are as they were; or it cannot be written, and out is as it was
-abbrev pub Writes : Asked → List ℕ → List ℕ → List ℕ → List ℕ → Written → Type 0
-Writes a vertices indices old new Nothing = (Few a vertices indices old → ⊥) × (new ≡ old)
-Writes a vertices indices old new (Bytes n) = Few a vertices indices old × Put old 0 (jobText (jobIn a vertices indices)) new n
+abbrev pub WritesJob : Asked → List ℕ → List ℕ → List ℕ → List ℕ → Written → Type 0
+WritesJob a vertices indices old new Nothing = (RoomToWrite a vertices indices old → ⊥) × (new ≡ old)
+WritesJob a vertices indices old new (Bytes n) = RoomToWrite a vertices indices old × Put old 0 (jobText (jobIn a vertices indices)) new n

@@ -12,7 +12,7 @@ ghost use Rattle.text.specs.TextJob.{jobText};
 ghost use Rattle.job.specs.Told.{jobIn};
 ghost use Rattle.writing.specs.Put.{Put};
 ghost use Rattle.job_writing.specs.Parts.{mostIndices};
-ghost use Rattle.job_writing.specs.Written.{Few, Writes};
+ghost use Rattle.job_writing.specs.Written.{RoomToWrite, WritesJob};
 
 fn most_indices(given: Indices) -> usize
     ensures { λ r. ⌜ r ≡ mostIndices given ⌝ }
@@ -25,7 +25,7 @@ fn most_indices(given: Indices) -> usize
 
 // The text of a job that fits.
 fn put_job(out: &mut [u8], asked: Asked, vertices: &[u32], indices: &[u32]) -> usize
-    requires { ⌜ Few asked (now vertices) (now indices) (now out) ⌝ }
+    requires { ⌜ RoomToWrite asked (now vertices) (now indices) (now out) ⌝ }
     ensures { λ r. ⌜ Put (now (out .entry)) 0 (jobText (jobIn asked (now (vertices .entry)) (now (indices .entry)))) (now (out .exit)) r ⌝ }
 {
     let given = asked.given;
@@ -39,7 +39,7 @@ fn put_job(out: &mut [u8], asked: Asked, vertices: &[u32], indices: &[u32]) -> u
 // indices, which the slices hold, and `out` is at least 32,768 bytes long, which hold any such text. Else
 // it writes nothing.
 pub fn write_job(asked: Asked, vertices: &[u32], indices: &[u32], out: &mut [u8]) -> Written
-    ensures { λ r. ⌜ Writes asked (now (vertices .entry)) (now (indices .entry)) (now (out .entry)) (now (out .exit)) r ⌝ }
+    ensures { λ r. ⌜ WritesJob asked (now (vertices .entry)) (now (indices .entry)) (now (out .entry)) (now (out .exit)) r ⌝ }
 {
     let given = asked.given;
     if out.len() < 32768 {

@@ -10,14 +10,14 @@ use Rattle.point.specs.declared.Axis.{Axis}
 use Rattle.point.specs.declared.Axis.the-variants.{X, Y, Z}
 use Rattle.grid.specs.declared.Grid.{Grid}
 use Rattle.grid.specs.declared.Cell.{Cell}
-use Rattle.grid.specs.Axes.{countOn, cellOn, cell, next, cellFrom}
+use Rattle.grid.specs.Axes.{countOn, cellOn, cellNumbered, next, cellFrom}
 use Rattle.grid.specs.Index.{Inside, indexOf, cellAt, total, strideOn}
 use Rattle.grid.specs.Bounds.{inBounds}
 use Rattle.grid.proofs.Facts.{bounds-of}
 use Rattle.grid.proofs.Laws.{index-below, index-of-cell, index-injective, index-along, cell-within}
 use Rattle.float.specs.Arith.{if_then_else_}
 use Rattle.run.specs.Signs.{axisAt}
-use Rattle.lines.specs.Lines.{uOf, vOf, placeOf, entryOf}
+use Rattle.lines.specs.Lines.{uOf, vOf, axisNumber, entryOf}
 
 -- ---- a cell and its line
 
@@ -56,12 +56,12 @@ inside-on g w Z = w .z-below
 
 -- ---- a cell and its entries
 
-pub place-below : (a : Axis) → placeOf a < 3
+pub place-below : (a : Axis) → axisNumber a < 3
 place-below X = lit< tt
 place-below Y = lit< tt
 place-below Z = lit< tt
 
-pub same-place : (a b : Axis) → placeOf a ≡ placeOf b → a ≡ b
+pub same-place : (a b : Axis) → axisNumber a ≡ axisNumber b → a ≡ b
 same-place X X e = refl
 same-place X Y e = absurd (omega arith)
 same-place X Z e = absurd (omega arith)
@@ -92,9 +92,9 @@ stride-pos g h Z = lit< tt
 
 -- along a line the entries lie a step apart
 index-on-line : (g : Grid) (axis : Axis) (n u v : ℕ) → indexOf g (cellFrom axis n u v) ≡ indexOf g (cellFrom axis 0 u v) + n * strideOn g axis
-index-on-line g X n u v = index-along X (countOn Y g) (countOn Z g) n (cell 0 u v)
-index-on-line g Y n u v = index-along Y (countOn Y g) (countOn Z g) n (cell v 0 u)
-index-on-line g Z n u v = index-along Z (countOn Y g) (countOn Z g) n (cell u v 0)
+index-on-line g X n u v = index-along X (countOn Y g) (countOn Z g) n (cellNumbered 0 u v)
+index-on-line g Y n u v = index-along Y (countOn Y g) (countOn Z g) n (cellNumbered v 0 u)
+index-on-line g Z n u v = index-along Z (countOn Y g) (countOn Z g) n (cellNumbered u v 0)
 
 pub entry-along : (g : Grid) (axis : Axis) (n u v : ℕ) → entryOf g axis (cellFrom axis n u v) ≡ entryOf g axis (cellFrom axis 0 u v) + n * (3 * strideOn g axis)
 unfolding entryOf
@@ -102,10 +102,10 @@ entry-along g axis n u v = omega (arith, index-on-line g axis n u v)
 
 -- ---- the entry of a number
 
-axis-place : (i : ℕ) → placeOf (axisAt i) ≡ i % 3
+axis-place : (i : ℕ) → axisNumber (axisAt i) ≡ i % 3
 axis-place i = go (i % 3) (mod-lt i (lit< tt))
   where
-    go : (r : ℕ) → r < 3 → placeOf (if eqb r 0 then X else if eqb r 1 then Y else Z) ≡ r
+    go : (r : ℕ) → r < 3 → axisNumber (if eqb r 0 then X else if eqb r 1 then Y else Z) ≡ r
     go zero h = refl
     go (suc zero) h = refl
     go (suc (suc zero)) h = refl

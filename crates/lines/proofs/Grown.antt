@@ -19,8 +19,8 @@ use Rattle.ray.specs.declared.RayHit.{RayHit}
 use Rattle.ray.specs.declared.RayHit.the-variants.{Miss}
 use Rattle.mesh.specs.declared.Corners.{Corners}
 use Rattle.run.specs.Signs.{axisAt, reaches}
-use Rattle.counts.specs.Counts.{Room, Within, Stepped}
-use Rattle.lines.specs.Lines.{uOf, vOf, placeOf, entryOf}
+use Rattle.counts.specs.Counts.{Room, PlacesBelow, Stepped}
+use Rattle.lines.specs.Lines.{uOf, vOf, axisNumber, entryOf}
 use Rattle.lines.specs.Pass.{Grown, same, onLine, lineCrossed, rowCrossed, axisCrossed, hitOn, crossedBy}
 use Rattle.lines.proofs.Entries.{on-its-line, line-number, line-u, line-v, inside-line, inside-on, same-place, entry-below, one-axis, one-cell, entry-along, inside-at, entry-at}
 
@@ -70,7 +70,7 @@ both true b h = (refl, h)
 both false b h = absurd (true≢false (sym h))
 
 pub same-self : (a : Axis) → same a a ≡ true
-same-self a = eq-eqb (placeOf a) (placeOf a) refl
+same-self a = eq-eqb (axisNumber a) (axisNumber a) refl
 
 -- the test of a line holds of its cells, and of no others
 on-line : (axis : Axis) (u v last j : ℕ) → j ≤ last → onLine axis u v last axis (cellFrom axis j u v) ≡ true
@@ -90,14 +90,14 @@ found axis u v last a c h =
     let e-u = eqb-true (uOf axis c) u (su .1) in
     let e-v = eqb-true (vOf axis c) v (vn .0) in
     record {
-      along = same-place a axis (eqb-true (placeOf a) (placeOf axis) (su .0));
+      along = same-place a axis (eqb-true (axisNumber a) (axisNumber axis) (su .0));
       cell-is = sym (on-its-line axis c) ∙ ap₂ (λ (x : ℕ) (y : ℕ). cellFrom axis (cellOn axis c) x y) e-u e-v;
       reached = leb-true (cellOn axis c) last (vn .1);
     }
 
 -- a line's cells lie within the entries, a step apart
 pub line-within : (g : Grid) (axis : Axis) (u v last : ℕ) → u < countOn (next axis) g → v < countOn (next (next axis)) g → last < countOn axis g
-    → Within (entryOf g axis (cellFrom axis 0 u v)) (3 * strideOn g axis) (last + 1) (3 * total g)
+    → PlacesBelow (entryOf g axis (cellFrom axis 0 u v)) (3 * strideOn g axis) (last + 1) (3 * total g)
 line-within g axis u v last hu hv hn j h =
     subst (λ (i : ℕ). i < 3 * total g) (entry-along g axis j u v) (entry-below g axis (cellFrom axis j u v) (inside-line g axis j u v (omega arith) hu hv))
 

@@ -17,7 +17,7 @@ use Rattle.ray.specs.declared.Three.{Three}
 use Rattle.ray.specs.declared.Cast.{Cast}
 use Rattle.ray.specs.Ray.{acrossZ}
 use Rattle.lines.specs.Lines.{centreAlong}
-use Rattle.lines.specs.Pass.{threeAt, mayHit, Across, Marked}
+use Rattle.lines.specs.Pass.{partsAt, mayHit, Across, Marked}
 
 -- ---- the parts of the weights
 
@@ -28,7 +28,7 @@ pub across-more : (g : Grid) (axis : Axis) (f : Cast) (i : ℕ) (z0 z1 z2 : List
     → part ≡ acrossZ f (centreAlong g axis i) → Across g axis f i z0 z1 z2 → Across g axis f (i + 1) (set z0 i (part .v0)) (set z1 i (part .v1)) (set z2 i (part .v2))
 across-more g axis f i z0 z1 z2 part h0 h1 h2 e s = record { each = λ v h. go v h (ℕ-discrete v i) }
   where
-    go : (v : ℕ) → v < i + 1 → Dec (v ≡ i) → threeAt (set z0 i (part .v0)) (set z1 i (part .v1)) (set z2 i (part .v2)) v ≡ acrossZ f (centreAlong g axis v)
+    go : (v : ℕ) → v < i + 1 → Dec (v ≡ i) → partsAt (set z0 i (part .v0)) (set z1 i (part .v1)) (set z2 i (part .v2)) v ≡ acrossZ f (centreAlong g axis v)
     go v h (yes q) =
         rw (stored-at nan z0 i v (part .v0) h0 q, stored-at nan z1 i v (part .v1) h1 q, stored-at nan z2 i v (part .v2) h2 q)
         (e ∙ ap (λ (k : ℕ). acrossZ f (centreAlong g axis k)) (sym q))
@@ -40,12 +40,12 @@ across-more g axis f i z0 z1 z2 part h0 h1 h2 e s = record { each = λ v h. go v
 pub marked-none : (z0 z1 z2 : List Float) (ys : Three) (flags : List Bool) → Marked z0 z1 z2 ys 0 flags
 marked-none z0 z1 z2 ys flags = record { each = λ v h. absurd (not-suc-le-zero h) }
 
-pub marked-more : (z0 z1 z2 : List Float) (ys : Three) (i : ℕ) (flags : List Bool) (flag : Bool) → i < length flags → flag ≡ mayHit (threeAt z0 z1 z2 i) ys
+pub marked-more : (z0 z1 z2 : List Float) (ys : Three) (i : ℕ) (flags : List Bool) (flag : Bool) → i < length flags → flag ≡ mayHit (partsAt z0 z1 z2 i) ys
     → Marked z0 z1 z2 ys i flags → Marked z0 z1 z2 ys (i + 1) (set flags i flag)
 marked-more z0 z1 z2 ys i flags flag l e s = record { each = λ v h. go v h (ℕ-discrete v i) }
   where
-    go : (v : ℕ) → v < i + 1 → Dec (v ≡ i) → getD (set flags i flag) v false ≡ mayHit (threeAt z0 z1 z2 v) ys
-    go v h (yes q) = stored-at false flags i v flag l q ∙ e ∙ ap (λ (k : ℕ). mayHit (threeAt z0 z1 z2 k) ys) (sym q)
+    go : (v : ℕ) → v < i + 1 → Dec (v ≡ i) → getD (set flags i flag) v false ≡ mayHit (partsAt z0 z1 z2 v) ys
+    go v h (yes q) = stored-at false flags i v flag l q ∙ e ∙ ap (λ (k : ℕ). mayHit (partsAt z0 z1 z2 k) ys) (sym q)
     go v h (no q) = getD-set-other flags i v flag false q ∙ s .each v (omega arith)
 
 -- while nothing is marked, no line may be hit

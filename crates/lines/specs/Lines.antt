@@ -23,10 +23,10 @@ abbrev pub centreAlong : Grid → Axis → ℕ → Float
 centreAlong g axis i = centreOn (firstOn axis g) (sizeOn axis g) i
 
 -- "x, y, z of each cell in turn"
-abbrev pub placeOf : Axis → ℕ
-placeOf X = 0
-placeOf Y = 1
-placeOf Z = 2
+abbrev pub axisNumber : Axis → ℕ
+axisNumber X = 0
+axisNumber Y = 1
+axisNumber Z = 2
 
 unfoldable pub entryOf : Grid → Axis → Cell → ℕ
-entryOf g axis c = 3 * indexOf g c + placeOf axis
+entryOf g axis c = 3 * indexOf g c + axisNumber axis

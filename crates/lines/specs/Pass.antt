@@ -20,7 +20,7 @@ use Rattle.ray.specs.declared.RayHit.the-variants.{Miss, Hit}
 use Rattle.ray.specs.Ray.{allBelow, allAbove, acrossZ, acrossY, alongX, rayOf, rayAligned}
 use Rattle.mesh.specs.declared.Corners.{Corners}
 use Rattle.run.specs.Signs.{reaches}
-use Rattle.lines.specs.Lines.{uOf, vOf, centreAlong, placeOf, entryOf}
+use Rattle.lines.specs.Lines.{uOf, vOf, centreAlong, axisNumber, entryOf}
 
 -- ---- entries that grow by one
 
@@ -30,7 +30,7 @@ pub record Grown (g : Grid) (test : Axis → Cell → Bool) (old new : List ℕ)
   pub each : (a : Axis) (c : Cell) → Inside g c → getD new (entryOf g a c) 0 ≡ getD old (entryOf g a c) 0 + cond (test a c) 1 0
 
 abbrev pub same : Axis → Axis → Bool
-same a b = eqb (placeOf a) (placeOf b)
+same a b = eqb (axisNumber a) (axisNumber b)
 
 -- the cells of line (u, v) up to number `last`
 abbrev pub onLine : Axis → ℕ → ℕ → ℕ → Axis → Cell → Bool
@@ -59,8 +59,8 @@ crossedBy g t axis c = reaches (sizeOn axis g) (cellOn axis c) (hitOn g t axis (
 -- ---- the ray test in a row of lines
 
 -- the parts of the weights of line v
-abbrev pub threeAt : List Float → List Float → List Float → ℕ → Three
-threeAt z0 z1 z2 v = record { v0 = getD z0 v nan; v1 = getD z1 v nan; v2 = getD z2 v nan }
+abbrev pub partsAt : List Float → List Float → List Float → ℕ → Three
+partsAt z0 z1 z2 v = record { v0 = getD z0 v nan; v1 = getD z1 v nan; v2 = getD z2 v nan }
 
 -- the weights are all below 0 or all above 0. Else the ray misses.
 unfoldable pub mayHit : Three → Three → Bool
@@ -77,15 +77,15 @@ ahead (Hit t) = f0 ≺ t
 
 -- the parts of the weights on the lines of a row, worked out once for a triangle
 pub record Across (g : Grid) (axis : Axis) (f : Cast) (count : ℕ) (z0 z1 z2 : List Float) : Type 0 where
-  pub each : (v : ℕ) → v < count → threeAt z0 z1 z2 v ≡ acrossZ f (centreAlong g axis v)
+  pub each : (v : ℕ) → v < count → partsAt z0 z1 z2 v ≡ acrossZ f (centreAlong g axis v)
 
 -- the lines of a row that may be hit are marked
 pub record Marked (z0 z1 z2 : List Float) (ys : Three) (count : ℕ) (flags : List Bool) : Type 0 where
-  pub each : (v : ℕ) → v < count → getD flags v false ≡ mayHit (threeAt z0 z1 z2 v) ys
+  pub each : (v : ℕ) → v < count → getD flags v false ≡ mayHit (partsAt z0 z1 z2 v) ys
 
 -- the answers on the lines of a row
 abbrev pub rowHit : List Float → List Float → List Float → Three → Three → ℕ → RayHit
-rowHit z0 z1 z2 ys xs v = rayOf (threeAt z0 z1 z2 v) ys xs
+rowHit z0 z1 z2 ys xs v = rayOf (partsAt z0 z1 z2 v) ys xs
 
 -- the answers on all lines along the axis, from the triangle made ready and those parts
 abbrev pub castHit : Grid → Axis → Cast → List Float → List Float → List Float → ℕ → ℕ → RayHit

@@ -57,7 +57,7 @@ pub fn cell_on(axis: Axis, n: u32, u: u32, v: u32) -> Cell
 
 // Which of a cell's three entries is the axis's.
 fn place(axis: Axis) -> usize
-    ensures { λ r. ⌜ r ≡ Lines.placeOf axis ⌝ }
+    ensures { λ r. ⌜ r ≡ Lines.axisNumber axis ⌝ }
 {
     match axis {
         Axis::X => 0,

@@ -17,7 +17,7 @@ abbrev pub shown : List Float → List ℕ → List ℕ → Lent
 shown field names rows = lentOf field names [] rows [] [] []
 
 -- "512 cells", as many names, and no more layers than that; and 32,768 bytes, which hold any listing of these
-pub record Few (field : List Float) (names rows out : List ℕ) : Type 0 where
+pub record RoomToList (field : List Float) (names rows out : List ℕ) : Type 0 where
   pub room : 32768 ≤ length out
   pub cells-few : length field ≤ 512
   pub all-named : length names ≡ length field
@@ -25,10 +25,10 @@ pub record Few (field : List Float) (names rows out : List ℕ) : Type 0 where
 
 -- what can be written: the numbers of a text are at most 4,294,967,295
 pub record Listable (a : Answer) (field : List Float) (names rows out : List ℕ) : Type 0 where
-  pub few : Few field names rows out
+  pub few : RoomToList field names rows out
   pub peak-fits : peakOf a ≤ 4294967295
 
 -- the listing stands at the first bytes of out, and the others are as they were; or it cannot be written, and out is as it was
-abbrev pub Writes : Answer → List Float → List ℕ → List ℕ → List ℕ → List ℕ → Written → Type 0
-Writes a field names rows old new Nothing = (Listable a field names rows old → ⊥) × (new ≡ old)
-Writes a field names rows old new (Bytes n) = Listable a field names rows old × Put old 0 (listed a (shown field names rows)) new n
+abbrev pub WritesListing : Answer → List Float → List ℕ → List ℕ → List ℕ → List ℕ → Written → Type 0
+WritesListing a field names rows old new Nothing = (Listable a field names rows old → ⊥) × (new ≡ old)
+WritesListing a field names rows old new (Bytes n) = Listable a field names rows old × Put old 0 (listed a (shown field names rows)) new n

@@ -18,7 +18,7 @@ use Rattle.grid.specs.Index.{total}
 use Rattle.grid.specs.Bounds.{isAxis, inBounds}
 use Rattle.grid.proofs.Facts.{bounds-of, on-axis}
 use Rattle.run.specs.Run.{State}
-use Rattle.run.specs.Ground.{groundOf}
+use Rattle.run.specs.Ground.{runInput}
 use Rattle.run.proofs.Done.{run-done}
 use Rattle.run.proofs.Grounds.{fair-ground}
 use Rattle.outcome.specs.declared.Answer.{Answer}
@@ -32,7 +32,7 @@ use Rattle.outcome.proofs.Outcomes.{same-ended, same-run}
 use Rattle.listing.specs.Listing.{floatsOf, listed}
 use Rattle.writing.specs.Put.{Put}
 use Rattle.writing.proofs.Puts.{said}
-use Rattle.listing.specs.Written.{shown, Few, Listable}
+use Rattle.listing.specs.Written.{shown, RoomToList, Listable}
 use Rattle.own_row.specs.Own.{GivesFour}
 use Rattle.listing_run.specs.Parts.{listedOf, lentBy}
 
@@ -58,11 +58,11 @@ same-listed j b c e =
 -- ---- the peak
 
 ran-low : (j : Job) (b : Lent) → refusal j b ≡ 0 → (s : State) → runOf j b ≡ goes s → s .peak ≤ length (b .distances)
-unfolding groundOf
+unfolding runInput
 ran-low j b r s h =
     let room = length (b .distances) in
     let fit = accepted (j .grid) (j .mesh) (lengthsOf b) r .fit in
-    run-done (groundOf (j .grid) (j .mesh) room (j .limit))
+    run-done (runInput (j .grid) (j .mesh) room (j .limit))
     (fair-ground (j .grid) (j .mesh) room (j .limit) (λ a. on-axis (bounds-of (j .grid) (fit .ready .bounded)) a .some) (omega (arith, fit .few)))
     s
     h
@@ -98,7 +98,7 @@ module _ {o : Outcome} {answer : Answer} {field : List Float} {names crossings r
   given-listed p =
       said ((λ i. listed (given .answers i) (shown (given .field-left i) (given .names-left i) (given .rows-left i))) ∙ as-shown (o .answer) (o .left)) refl p
 
-  pub can-be-listed : {old-field : List Float} {old-names old-rows out : List ℕ} → peakOf (o .answer) ≤ 2048 → Few old-field old-names old-rows out
+  pub can-be-listed : {old-field : List Float} {old-names old-rows out : List ℕ} → peakOf (o .answer) ≤ 2048 → RoomToList old-field old-names old-rows out
       → length field ≡ length old-field → length names ≡ length old-names → length rows ≡ length old-rows → Listable answer field names rows out
   can-be-listed low few f n r =
       record {
@@ -116,7 +116,7 @@ as-long l a n m e h = prefix l n m e h ∙ sym (length-replicate n a)
 
 -- such buffers have room for a listing
 pub few-cut : (field : List Float) (names rows : List ℕ) {out : List ℕ} (cells layers : ℕ) → 512 ≡ length field → 512 ≡ length names → 512 ≡ length rows
-    → cells ≤ 512 → layers ≤ 512 → 32768 ≤ length out → Few (take cells field) (take cells names) (take layers rows) out
+    → cells ≤ 512 → layers ≤ 512 → 32768 ≤ length out → RoomToList (take cells field) (take cells names) (take layers rows) out
 few-cut field names rows cells layers f n r hc hl room =
     let long = prefix field cells 512 f hc in
     record { room = room; cells-few = omega (arith, long, hc); all-named = prefix names cells 512 n hc ∙ sym long; rows-few = omega (arith, prefix rows layers 512 r hl, hl) }

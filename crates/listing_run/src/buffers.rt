@@ -18,7 +18,7 @@ ghost use Rattle.grid.specs.Layers.{layers};
 ghost use Rattle.checks.specs.Job.{jobOf, lentOf};
 ghost use Rattle.writing.specs.Put.{Put};
 ghost use Rattle.listing.specs.Listing.{pointOf, floatsOf, listed};
-ghost use Rattle.listing.specs.Written.{Few, Listable, shown};
+ghost use Rattle.listing.specs.Written.{RoomToList, Listable, shown};
 ghost use Rattle.own_row.specs.Own.{lentOwn};
 ghost use Rattle.listing_run.specs.Parts.{listedOf, gridBy, lentBy};
 
@@ -51,7 +51,7 @@ fn list_outcome(
     limit: u32,
     out: &mut [u8],
 ) -> usize
-    requires { ⌜ Few (now field) (now names) (now rows) (now out) ⌝ }
+    requires { ⌜ RoomToList (now field) (now names) (now rows) (now out) ⌝ }
     requires { ⌜ length (now distances) ≤ 2048 ⌝ }
     ensures { λ r. ⌜ Put (now (out .entry)) 0 (listedOf (jobOf grid (now (vertices .entry)) topology given (now (indices .entry)) limit) (lentOf (now (field .entry)) (now (names .entry)) (now (crossings .entry)) (now (rows .entry)) (now (distances .entry)) (now (cells .entry)) (now (triangles .entry)))) (now (out .exit)) r ⌝ }
 {
@@ -88,7 +88,7 @@ fn list_records(
     limit: u32,
     out: &mut [u8],
 ) -> usize
-    requires { ⌜ Few (now field) (now names) (now rows) (now out) ⌝ }
+    requires { ⌜ RoomToList (now field) (now names) (now rows) (now out) ⌝ }
     requires { ⌜ room ≤ 2048 ⌝ }
     ensures { λ r. ⌜ Put (now (out .entry)) 0 (listedOf (jobOf grid (now (vertices .entry)) topology given (now (indices .entry)) limit) (lentOwn (now (field .entry)) (now (names .entry)) (now (crossings .entry)) (now (rows .entry)) room)) (now (out .exit)) r ⌝ }
 {

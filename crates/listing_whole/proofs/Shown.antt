@@ -11,15 +11,15 @@ use Rattle.outcome.specs.Outcome.{peakOf}
 use Rattle.text.specs.Words.{bytes, decimal, lf, line}
 use Rattle.writing.specs.Put.{Put}
 use Rattle.listing.specs.Listing.{listed}
-use Rattle.listing.specs.Written.{shown, Few, Listable}
+use Rattle.listing.specs.Written.{shown, RoomToList, Listable}
 
 module _ {a : Answer} {field : List Float} {names rows old new : List ℕ} {k : ℕ} where
-  pub refused-written : (n : ℕ) → a ≡ Refused n → Few field names rows old → Put old 0 (bytes "answer=" ++ decimal n ++ lf ∷ []) new k
+  pub refused-written : (n : ℕ) → a ≡ Refused n → RoomToList field names rows old → Put old 0 (bytes "answer=" ++ decimal n ++ lf ∷ []) new k
       → Listable a field names rows old × Put old 0 (listed a (shown field names rows)) new k
   unfolding listed line
   refused-written n e f p = rw e (record { few = f; peak-fits = omega arith }, p)
 
-  pub done-written : (t : Tally) → a ≡ Done t → Few field names rows old → t .peak ≤ 4294967295
+  pub done-written : (t : Tally) → a ≡ Done t → RoomToList field names rows old → t .peak ≤ 4294967295
       → Put old 0 (listed (Done t) (shown field names rows)) new k
       → Listable a field names rows old × Put old 0 (listed a (shown field names rows)) new k
   done-written t e f h p = rw e (record { few = f; peak-fits = h }, p)

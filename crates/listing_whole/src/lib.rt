@@ -10,7 +10,7 @@ ghost use mathlib.Core.Path.{_≡_};
 ghost use Rattle.outcome.specs.declared.Answer.the-variants.{Done};
 ghost use Rattle.writing.specs.Put.{Put};
 ghost use Rattle.listing.specs.Listing.{listed};
-ghost use Rattle.listing.specs.Written.{shown, Few, Writes};
+ghost use Rattle.listing.specs.Written.{shown, RoomToList, WritesListing};
 
 // The listing of a job that is done.
 fn put_done(
@@ -21,7 +21,7 @@ fn put_done(
     names: &[u32],
     rows: &[u32],
 ) -> usize
-    requires { ⌜ Few (now field) (now names) (now rows) (now out) ⌝ }
+    requires { ⌜ RoomToList (now field) (now names) (now rows) (now out) ⌝ }
     ensures { λ r. ⌜ Put (now (out .entry)) 0 (listed (Done (record { pops = pops; peak = peak })) (shown (now (field .entry)) (now (names .entry)) (now (rows .entry)))) (now (out .exit)) r ⌝ }
 {
     let a = put_number(out, 0, b"answer=", 0);
@@ -40,7 +40,7 @@ pub fn write_listing(
     rows: &[u32],
     out: &mut [u8],
 ) -> Written
-    ensures { λ r. ⌜ Writes answer (now (field .entry)) (now (names .entry)) (now (rows .entry)) (now (out .entry)) (now (out .exit)) r ⌝ }
+    ensures { λ r. ⌜ WritesListing answer (now (field .entry)) (now (names .entry)) (now (rows .entry)) (now (out .entry)) (now (out .exit)) r ⌝ }
 {
     if out.len() < 32768 {
         return Written::Nothing;

@@ -6,7 +6,7 @@ use mathlib.Core.Path.{_≡_, refl, sym}
 use mathlib.Core.Logic.{_⊎_, inl, inr}
 use mathlib.Core.Bool.{Bool, true, false, cond}
 use mathlib.Core.List.{List, [], _∷_, _++_, List·Memᴰ, List·Memᴰ·head, List·Memᴰ·tail}
-use Rattle.lists.specs.Checks.{Check, firstOf, numbersOf, orElse}
+use Rattle.lists.specs.Checks.{Check, firstThatApplies, numbersOf, orElse}
 
 -- no check has the number 0; none of them applies
 abbrev pub Numbered : List Check → Type 0
@@ -22,7 +22,7 @@ passed : (b : Bool) (n : ℕ) {rest : ℕ} → 0 < n → cond b n rest ≡ 0 →
 passed true n p h = absurd (omega arith)
 passed false n p h = (refl, h)
 
-pub none-applies : (cs : List Check) → Numbered cs → firstOf cs ≡ 0 → NoneApplies cs
+pub none-applies : (cs : List Check) → Numbered cs → firstThatApplies cs ≡ 0 → NoneApplies cs
 none-applies [] n h = tt
 none-applies (c ∷ cs) n h =
     let p = passed (c .applies) (c .number) (n .0) h in
@@ -30,12 +30,12 @@ none-applies (c ∷ cs) n h =
 
 -- ---- no number is given otherwise
 
-pub first-is : (cs : List Check) → (firstOf cs ≡ 0) ⊎ List·Memᴰ (firstOf cs) (numbersOf cs)
+pub first-is : (cs : List Check) → (firstThatApplies cs ≡ 0) ⊎ List·Memᴰ (firstThatApplies cs) (numbersOf cs)
 first-is [] = inl refl
 first-is (c ∷ cs) = go (c .applies) (first-is cs)
   where
-    go : (b : Bool) → (firstOf cs ≡ 0) ⊎ List·Memᴰ (firstOf cs) (numbersOf cs)
-        → (cond b (c .number) (firstOf cs) ≡ 0) ⊎ List·Memᴰ (cond b (c .number) (firstOf cs)) (numbersOf (c ∷ cs))
+    go : (b : Bool) → (firstThatApplies cs ≡ 0) ⊎ List·Memᴰ (firstThatApplies cs) (numbersOf cs)
+        → (cond b (c .number) (firstThatApplies cs) ≡ 0) ⊎ List·Memᴰ (cond b (c .number) (firstThatApplies cs)) (numbersOf (c ∷ cs))
     go true r = inr (List·Memᴰ·head refl)
     go false (inl e) = inl e
     go false (inr m) = inr (List·Memᴰ·tail m)
@@ -47,10 +47,10 @@ pub or-kept : (n m : ℕ) → 0 < n → orElse n m ≡ n
 or-kept zero m h = absurd (omega arith)
 or-kept (suc n) m h = refl
 
-pub first-of-append : (cs ds : List Check) → Numbered cs → firstOf (cs ++ ds) ≡ orElse (firstOf cs) (firstOf ds)
+pub first-of-append : (cs ds : List Check) → Numbered cs → firstThatApplies (cs ++ ds) ≡ orElse (firstThatApplies cs) (firstThatApplies ds)
 first-of-append [] ds n = refl
-first-of-append (c ∷ cs) ds n = go (c .applies) (firstOf (cs ++ ds)) (firstOf cs) (first-of-append cs ds (n .1))
+first-of-append (c ∷ cs) ds n = go (c .applies) (firstThatApplies (cs ++ ds)) (firstThatApplies cs) (first-of-append cs ds (n .1))
   where
-    go : (b : Bool) (all rest : ℕ) → all ≡ orElse rest (firstOf ds) → cond b (c .number) all ≡ orElse (cond b (c .number) rest) (firstOf ds)
-    go true all rest e = sym (or-kept (c .number) (firstOf ds) (n .0))
+    go : (b : Bool) (all rest : ℕ) → all ≡ orElse rest (firstThatApplies ds) → cond b (c .number) all ≡ orElse (cond b (c .number) rest) (firstThatApplies ds)
+    go true all rest e = sym (or-kept (c .number) (firstThatApplies ds) (n .0))
     go false all rest e = e

@@ -9,9 +9,9 @@ pub record Check : Type 0 where
   pub number : ℕ
 
 -- the number of the first that applies, and 0 where none does
-abbrev pub firstOf : List Check → ℕ
-firstOf [] = 0
-firstOf (c ∷ cs) = cond (c .applies) (c .number) (firstOf cs)
+abbrev pub firstThatApplies : List Check → ℕ
+firstThatApplies [] = 0
+firstThatApplies (c ∷ cs) = cond (c .applies) (c .number) (firstThatApplies cs)
 
 -- the numbers that they may give
 abbrev pub numbersOf : List Check → List ℕ

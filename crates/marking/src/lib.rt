@@ -11,12 +11,12 @@ ghost use Prim.Native.Nat.{ℕ, _<_, _≤_};
 ghost use lib.ListN.{length};
 ghost use Rattle.grid.specs.Axes.{countOn};
 ghost use Rattle.grid.specs.Bounds.{inBounds};
-ghost use Rattle.lines.specs.Pass.{threeAt, mayHit, Across, Marked};
+ghost use Rattle.lines.specs.Pass.{partsAt, mayHit, Across, Marked};
 
 // Line v of a row: the parts of its weights.
 pub fn three_at(z0: &[f32], z1: &[f32], z2: &[f32], v: usize) -> Three
     requires { ⌜ (v < length (now z0)) × (v < length (now z1)) × (v < length (now z2)) ⌝ }
-    ensures { λ r. ⌜ r ≡ threeAt (now (z0 .entry)) (now (z1 .entry)) (now (z2 .entry)) v ⌝ }
+    ensures { λ r. ⌜ r ≡ partsAt (now (z0 .entry)) (now (z1 .entry)) (now (z2 .entry)) v ⌝ }
 {
     let v0 = z0[v];
     let v1 = z1[v];
@@ -72,7 +72,7 @@ pub fn mark_row(
 ) -> bool
     requires { ⌜ (count ≤ length (now z0)) × (count ≤ length (now z1)) × (count ≤ length (now z2)) × (count ≤ length (now flags)) ⌝ }
     ensures { λ r. ⌜ Marked (now (z0 .entry)) (now (z1 .entry)) (now (z2 .entry)) ys count (now (flags .exit)) ⌝ }
-    ensures { λ r. ⌜ (r ≡ false → (v : ℕ) → v < count → mayHit (threeAt (now (z0 .entry)) (now (z1 .entry)) (now (z2 .entry)) v) ys ≡ false) ⌝ }
+    ensures { λ r. ⌜ (r ≡ false → (v : ℕ) → v < count → mayHit (partsAt (now (z0 .entry)) (now (z1 .entry)) (now (z2 .entry)) v) ys ≡ false) ⌝ }
 {
     let mut any = false;
     let mut v = 0;

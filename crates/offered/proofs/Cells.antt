@@ -24,7 +24,7 @@ use Rattle.grid.specs.Index.{indexOf, total, Inside}
 use Rattle.grid.proofs.Laws.{index-below, cell-of-index}
 use Rattle.mesh.specs.Mesh.{Mesh, trianglesIn, cornersAt}
 use Rattle.run.specs.Run.{State, none, held, run}
-use Rattle.run.specs.Ground.{groundOf}
+use Rattle.run.specs.Ground.{runInput}
 use Rattle.run.specs.Signs.{crossings, axisAt, crossingsAt, allCrossings, twoOdd, inside, signed, signedField}
 use Rattle.run.proofs.Grounds.{box-inside, fair-ground}
 use Rattle.offered.specs.Meaning.{countLeft, oddOnes, CellMeans}
@@ -87,8 +87,8 @@ module _ (g : Grid) (m : Mesh) (c : Cell) (v : Inside g c) where
 -- ---- what the run is told is of the grid
 
 module _ (grid : Grid) (mesh : Mesh) (room limit : ℕ) (some : (a : Axis) → 0 < countOn a grid) (few : length (trianglesIn mesh) ≤ none) where
-  pub fair-on : FairOn grid (groundOf grid mesh room limit)
-  unfolding groundOf
+  pub fair-on : FairOn grid (runInput grid mesh room limit)
+  unfolding runInput
   fair-on =
       record {
         fair = fair-ground grid mesh room limit some few;
@@ -100,14 +100,14 @@ module _ (grid : Grid) (mesh : Mesh) (room limit : ℕ) (some : (a : Axis) → 0
 
   -- ---- a run that has gone to its end
 
-  pub run-means : (s : State) → run (groundOf grid mesh room limit) ≡ goes s → (c : Cell) → Inside grid c
-      → CellMeans grid mesh (groundOf grid mesh room limit) (signedField grid mesh (s .field)) (s .names) (allCrossings grid mesh) c
+  pub run-means : (s : State) → run (runInput grid mesh room limit) ≡ goes s → (c : Cell) → Inside grid c
+      → CellMeans grid mesh (runInput grid mesh room limit) (signedField grid mesh (s .field)) (s .names) (allCrossings grid mesh) c
   run-means s h c v =
       record {
         magnitude = held s (indexOf grid c);
-        no-sign = true-of _ (distance-unsigned _ (magnitude-distance grid (groundOf grid mesh room limit) fair-on s h c v));
-        least = least grid (groundOf grid mesh room limit) fair-on s h c v;
-        name = names grid (groundOf grid mesh room limit) fair-on s h c v;
+        no-sign = true-of _ (distance-unsigned _ (magnitude-distance grid (runInput grid mesh room limit) fair-on s h c v));
+        least = least grid (runInput grid mesh room limit) fair-on s h c v;
+        name = names grid (runInput grid mesh room limit) fair-on s h c v;
         counts = counts-left grid mesh c v;
         sign = signed-at grid mesh c v (s .field);
       }

@@ -17,7 +17,7 @@ use Rattle.grid.specs.Axes.{cellOn}
 use Rattle.grid.specs.Index.{indexOf, cellAt, total, Inside}
 use Rattle.grid.proofs.Laws.{index-of-cell, index-injective, index-below, cell-within}
 use Rattle.queue.specs.declared.Entry.{Entry}
-use Rattle.run.specs.Run.{Ground, at, State, Box, named, seeding, taken, spreadAround}
+use Rattle.run.specs.Run.{RunInput, at, State, Box, named, seeding, taken, spreadAround}
 use Rattle.run.specs.Good.{Waits, Good}
 use Rattle.run.specs.Steps.{stepAt, aroundCell}
 use Rattle.run.proofs.Values.{Fair}
@@ -32,7 +32,7 @@ use Rattle.offered.proofs.Values.{FairOn}
 
 -- ---- an entry that waits was held
 
-module _ (g : Ground) (F : Fair g) where
+module _ (g : RunInput) (F : Fair g) where
   abbrev AllHeld : State → Type 0
   AllHeld s = (x : Entry) → List·Memᴰ x (s .waiting) → Held g (x .cell) (x .triangle)
 
@@ -85,7 +85,7 @@ in-box-covers p X = (omega (arith, p .on-x .low), omega (arith, p .on-x .high))
 in-box-covers p Y = (omega (arith, p .on-y .low), omega (arith, p .on-y .high))
 in-box-covers p Z = (omega (arith, p .on-z .low), omega (arith, p .on-z .high))
 
-module _ (grid : Grid) (g : Ground) (O : FairOn grid g) where
+module _ (grid : Grid) (g : RunInput) (O : FairOn grid g) where
   -- a step leads to a neighbour
   step-near : (i j : ℕ) (c : Cell) → i < total grid → Inside grid c → aroundCell grid i j ≡ at (indexOf grid c) → Near c (cellAt grid i)
   step-near i j c l v h a =

@@ -21,8 +21,8 @@ use Rattle.queue.proofs.Meaning.{Sorted, sorted-insert, after-member}
 use Rattle.queue.proofs.Order.{order-of, nearer-first, larger-cell-first}
 use Rattle.topology.specs.Topology.{trianglesOf, kth}
 use Rattle.mesh.specs.Mesh.{vertexCount}
-use Rattle.run.specs.Run.{Ground, Place, off, at, State, taken, queue, queueCell, queueing, spreadTo, spreadAround}
-use Rattle.run.specs.Ground.{groundOf}
+use Rattle.run.specs.Run.{RunInput, Place, off, at, State, taken, queue, queueCell, queueing, spreadTo, spreadAround}
+use Rattle.run.specs.Ground.{runInput}
 use Rattle.run.proofs.Values.{Fair}
 use Rattle.run.proofs.Offers.{Offer, passes, takesIt, offer-went, Queued, queue-went, QueuedCell, notBelow, below, queueCell-went}
 use Rattle.run.specs.Good.{Waits, Good, Apart}
@@ -38,12 +38,12 @@ use Rattle.offered.proofs.States.{before-pop-good}
 use Rattle.offered.proofs.Theorem.{checks-passed}
 
 -- the order of the entries is that of document 01
-pub record Ordered (g : Ground) : Type 0 where
+pub record Ordered (g : RunInput) : Type 0 where
   pub total : Total (g .goesFirst)
   pub nearer : (x y : Entry) → g .goesFirst x y ≡ true → x .distance ≤ y .distance
   pub larger-cell : (x y : Entry) → g .goesFirst x y ≡ true → x .distance ≡ y .distance → y .cell ≤ x .cell
 
-module _ (g : Ground) (F : Fair g) (O : Ordered g) where
+module _ (g : RunInput) (F : Fair g) (O : Ordered g) where
   -- ---- what waits is in order
 
   abbrev InOrder : State → Type 0
@@ -122,7 +122,7 @@ module _ (g : Ground) (F : Fair g) (O : Ordered g) where
 -- ---- of every job that comes to its run
 
 order-on : (j : Job) (b : Lent) → Ordered (groundFor j b)
-unfolding groundOf
+unfolding runInput
 order-on j b =
     let m = j .mesh in
     let count = vertexCount (m .vertices) in

@@ -10,7 +10,7 @@ use lib.ListN.{length, getD}
 use Rattle.lists.specs.Turns.{goes, turns}
 use Rattle.lists.proofs.Made.{goes-same}
 use Rattle.queue.specs.declared.Entry.{Entry}
-use Rattle.run.specs.Run.{Ground, State, named, seeding, queueCell, queueing, taken, spreadAround, spreading, run}
+use Rattle.run.specs.Run.{RunInput, State, named, seeding, queueCell, queueing, taken, spreadAround, spreading, run}
 use Rattle.run.specs.Good.{Waits, Good}
 use Rattle.run.proofs.Values.{Fair}
 use Rattle.run.proofs.Offers.{Spread, over, pops, spreading-went, Popped, spreading-pops, run-went}
@@ -20,7 +20,7 @@ use Rattle.run.proofs.Queueing.{QueuedTo, queued-to, queueing-to}
 use Rattle.run.proofs.Spreading.{Led, Served, first-lead, rest-lead, around-leads, ends}
 use Rattle.offered.specs.States.{firstOffers, BeforePop, afterQueueing, afterPop, Since, endOfSeeding, inQueueing, beforePop, inPop}
 
-module _ (g : Ground) (F : Fair g) where
+module _ (g : RunInput) (F : Fair g) where
   -- ---- the run's end is one of them
 
   end-is-one : (left : ℕ) (s t : State) → BeforePop g s → spreading g left s ≡ goes t → BeforePop g t

@@ -18,8 +18,8 @@ use Rattle.grid.specs.declared.Grid.{Grid}
 use Rattle.grid.specs.declared.Cell.{Cell}
 use Rattle.grid.specs.Index.{indexOf, total, Inside}
 use Rattle.grid.proofs.Laws.{index-below}
-use Rattle.run.specs.Run.{Ground, State, none, held, named, run}
-use Rattle.run.specs.Good.{bits, Holds, isBare, has, Falls}
+use Rattle.run.specs.Run.{RunInput, State, none, held, named, run}
+use Rattle.run.specs.Good.{bits, CellHolds, isBare, has, Falls}
 use Rattle.run.specs.Steps.{aroundCell}
 use Rattle.run.proofs.Values.{Fair, Met, met-on, max-distance, holds-distance, holds-at-most-max, has-below}
 use Rattle.run.proofs.Offers.{Ran, run-went}
@@ -32,7 +32,7 @@ use Rattle.offered.proofs.States.{since-good, end-since, since-served}
 use Rattle.offered.proofs.Neighbours.{near-reached}
 
 -- what the run is told is of the grid
-pub record FairOn (grid : Grid) (g : Ground) : Type 0 where
+pub record FairOn (grid : Grid) (g : RunInput) : Type 0 where
   pub fair : Fair g
   pub cells-are : g .cells ≡ total grid
   pub index-is : (x y z : ℕ) → g .index x y z ≡ indexOf grid (record { x = x; y = y; z = z })
@@ -42,7 +42,7 @@ pub record FairOn (grid : Grid) (g : Ground) : Type 0 where
 near-itself : (c : Cell) → Near c c
 near-itself c a = (omega arith, omega arith)
 
-module _ (grid : Grid) (g : Ground) (O : FairOn grid g) (f : State) (D : run g ≡ goes f) where
+module _ (grid : Grid) (g : RunInput) (O : FairOn grid g) (f : State) (D : run g ≡ goes f) where
   F : Fair g
   F = O .fair
 
@@ -89,7 +89,7 @@ module _ (grid : Grid) (g : Ground) (O : FairOn grid g) (f : State) (D : run g �
         go (inr h) = held-met k (o .triangle) h
 
     -- what the cell holds at the end
-    holds : Holds g (held f (indexOf grid c)) (named f (indexOf grid c)) (indexOf grid c)
+    holds : CellHolds g (held f (indexOf grid c)) (named f (indexOf grid c)) (indexOf grid c)
     holds = since-good g F f (end-since g F f D) .sound .each (indexOf grid c) (on-grid c v)
 
     pub magnitude-distance : Distance (held f (indexOf grid c))
@@ -119,7 +119,7 @@ module _ (grid : Grid) (g : Ground) (O : FairOn grid g) (f : State) (D : run g �
           one-of-them = one holds;
         }
       where
-        one : Holds g (held f (indexOf grid c)) (named f (indexOf grid c)) (indexOf grid c)
+        one : CellHolds g (held f (indexOf grid c)) (named f (indexOf grid c)) (indexOf grid c)
             → (held f (indexOf grid c) ≡ fMax) ⊎ ((k : ℕ) × Offered grid g c k × (held f (indexOf grid c) ≡ g .distance k (indexOf grid c)))
         one (isBare e n) = inl e
         one (has l e n b) = inr (named f (indexOf grid c), named-offered l, e)
@@ -131,6 +131,6 @@ module _ (grid : Grid) (g : Ground) (O : FairOn grid g) (f : State) (D : run g �
           otherwise = λ b. none-named b holds;
         }
       where
-        none-named : (held f (indexOf grid c) ≺ fMax) ≡ false → Holds g (held f (indexOf grid c)) (named f (indexOf grid c)) (indexOf grid c) → named f (indexOf grid c) ≡ none
+        none-named : (held f (indexOf grid c) ≺ fMax) ≡ false → CellHolds g (held f (indexOf grid c)) (named f (indexOf grid c)) (indexOf grid c) → named f (indexOf grid c) ≡ none
         none-named b (isBare e n) = n
         none-named b (has l e n q) = absurd (true≢false (sym q ∙ b))

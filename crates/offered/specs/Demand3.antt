@@ -5,8 +5,8 @@ use mathlib.Core.Path.{_≡_}
 use lib.ListN.{length}
 use Rattle.grid.specs.declared.Cell.{Cell}
 use Rattle.grid.specs.Index.{Inside}
-use Rattle.run.specs.Run.{Ground}
-use Rattle.run.specs.Ground.{groundOf}
+use Rattle.run.specs.Run.{RunInput}
+use Rattle.run.specs.Ground.{runInput}
 use Rattle.outcome.specs.declared.Answer.{Answer}
 use Rattle.outcome.specs.declared.Answer.the-variants.{Done}
 use Rattle.outcome.specs.declared.Tally.{Tally}
@@ -15,8 +15,8 @@ use Rattle.outcome.specs.Outcome.{Gives, outcome}
 use Rattle.offered.specs.Meaning.{CellMeans}
 
 -- what the run of a job is told: the queue's room is the length of the lent queue
-abbrev pub groundFor : Job → Lent → Ground
-groundFor j b = groundOf (j .grid) (j .mesh) (length (b .distances)) (j .limit)
+abbrev pub groundFor : Job → Lent → RunInput
+groundFor j b = runInput (j .grid) (j .mesh) (length (b .distances)) (j .limit)
 
 abbrev pub Demand3 : Job → Lent → Type 0
 Demand3 j b =

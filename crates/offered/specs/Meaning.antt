@@ -16,20 +16,20 @@ use Rattle.grid.specs.declared.Grid.{Grid}
 use Rattle.grid.specs.declared.Cell.{Cell}
 use Rattle.grid.specs.Index.{indexOf}
 use Rattle.mesh.specs.Mesh.{Mesh}
-use Rattle.run.specs.Run.{Ground, none}
+use Rattle.run.specs.Run.{RunInput, none}
 use Rattle.run.specs.Signs.{crossings}
 use Rattle.offered.specs.Offered.{Offered}
 
 -- "The cell's magnitude is the least of f32::MAX and the distances of all triangles offered to it: it is at most each of them and at
 -- most f32::MAX, and it is one of them." Nothing is at most a NaN.
-pub record Least (grid : Grid) (g : Ground) (c : Cell) (magnitude : Float) : Type 0 where
+pub record Least (grid : Grid) (g : RunInput) (c : Cell) (magnitude : Float) : Type 0 where
   pub at-most-max : (magnitude ≦ fMax) ≡ true
   pub at-most-each : (k : ℕ) → Offered grid g c k → (magnitude ≦ g .distance k (indexOf grid c)) ≡ true
   pub one-of-them : (magnitude ≡ fMax) ⊎ ((k : ℕ) × Offered grid g c k × (magnitude ≡ g .distance k (indexOf grid c)))
 
 -- "If the magnitude is below f32::MAX, the named triangle was offered to the cell and has exactly that distance (the same bits);
 -- otherwise none is named (4,294,967,295)."
-pub record Names (grid : Grid) (g : Ground) (c : Cell) (magnitude : Float) (name : ℕ) : Type 0 where
+pub record Names (grid : Grid) (g : RunInput) (c : Cell) (magnitude : Float) (name : ℕ) : Type 0 where
   pub below-max : (magnitude ≺ fMax) ≡ true → Offered grid g c name × (magnitude ≡ g .distance name (indexOf grid c))
   pub otherwise : (magnitude ≺ fMax) ≡ false → name ≡ none
 
@@ -44,7 +44,7 @@ abbrev pub oddOnes : (Axis → ℕ) → ℕ
 oddOnes count = count X % 2 + count Y % 2 + count Z % 2
 
 -- what the three buffers hold for cell c after the call
-pub record CellMeans (grid : Grid) (mesh : Mesh) (g : Ground) (field : List Float) (names left : List ℕ) (c : Cell) : Type 0 where
+pub record CellMeans (grid : Grid) (mesh : Mesh) (g : RunInput) (field : List Float) (names left : List ℕ) (c : Cell) : Type 0 where
   -- the cell's value without its sign
   pub magnitude : Float
   pub no-sign : unsigned magnitude ≡ true

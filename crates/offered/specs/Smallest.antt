@@ -8,7 +8,7 @@ use mathlib.Core.List.{List, _∷_, List·Memᴰ}
 use lib.Ieee.{Float, binary32, ofBits}
 use Rattle.float.specs.Arith.{_≦_, _≐_}
 use Rattle.queue.specs.declared.Entry.{Entry}
-use Rattle.run.specs.Run.{Ground, State}
+use Rattle.run.specs.Run.{RunInput, State}
 use Rattle.offered.specs.States.{BeforePop}
 
 -- the number whose bit pattern an entry holds
@@ -16,12 +16,12 @@ abbrev pub distanceOf : Entry → Float
 distanceOf e = ofBits binary32 (e .distance)
 
 -- entry e, where the entries w wait besides
-pub record Smallest (g : Ground) (e : Entry) (w : List Entry) : Type 0 where
+pub record Smallest (g : RunInput) (e : Entry) (w : List Entry) : Type 0 where
   -- it holds the distance of its triangle from its cell
   pub is-distance : distanceOf e ≡ g .distance (e .triangle) (e .cell)
   pub at-most-each : (x : Entry) → List·Memᴰ x w → (distanceOf e ≦ distanceOf x) ≡ true
   pub larger-cell : (x : Entry) → List·Memᴰ x w → (distanceOf e ≐ distanceOf x) ≡ true → x .cell < e .cell
 
 -- before each pop of the run, of the entry that it takes: the first of those that wait
-abbrev pub SmallestTaken : Ground → Type 0
+abbrev pub SmallestTaken : RunInput → Type 0
 SmallestTaken g = (s : State) (e : Entry) (w : List Entry) → BeforePop g s → s .waiting ≡ e ∷ w → Smallest g e w

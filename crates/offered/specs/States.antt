@@ -6,20 +6,20 @@ use mathlib.Core.Path.{_≡_}
 use mathlib.Core.List.{List, _∷_}
 use Rattle.lists.specs.Turns.{Turn, goes, turns}
 use Rattle.queue.specs.declared.Entry.{Entry}
-use Rattle.run.specs.Run.{Ground, State, seeding, queueCell, queueing, taken, spreadTo, spreadAround}
+use Rattle.run.specs.Run.{RunInput, State, seeding, queueCell, queueing, taken, spreadTo, spreadAround}
 
 -- the first j of the 27 offers of an entry that is taken
-abbrev pub firstOffers : Ground → Entry → ℕ → State → Turn State
+abbrev pub firstOffers : RunInput → Entry → ℕ → State → Turn State
 firstOffers g e j s = turns (λ i. spreadTo g e (g .around (e .cell) i)) j s
 
 -- s is a state before a pop, or the last: after queueing, or after the first entry e was taken, w were left, and its triangle was
 -- offered to all the cells around
-pub data BeforePop (g : Ground) : State → Type 0 where
+pub data BeforePop (g : RunInput) : State → Type 0 where
   afterQueueing : {s t : State} → seeding g ≡ goes s → queueing g s ≡ goes t → BeforePop g t
   afterPop : {s t : State} {e : Entry} {w : List Entry} → BeforePop g s → s .waiting ≡ e ∷ w → spreadAround g e (taken w s) ≡ goes t → BeforePop g t
 
 -- s is a state of the run from the end of seeding on
-pub data Since (g : Ground) : State → Type 0 where
+pub data Since (g : RunInput) : State → Type 0 where
   -- the end of seeding
   endOfSeeding : {s : State} → seeding g ≡ goes s → Since g s
   -- in queueing, after i cells

@@ -17,12 +17,12 @@ use Rattle.grid.specs.Index.{total}
 use Rattle.mesh.specs.Mesh.{Mesh, trianglesIn}
 use Rattle.queue.specs.declared.Entry.{Entry}
 use Rattle.run.specs.Run.{State, Place, off, at, none, held, entry, takes, queue, offerAt, offer, spreadTo, spreadAround}
-use Rattle.run.specs.Ground.{groundOf}
+use Rattle.run.specs.Ground.{runInput}
 use Rattle.run.proofs.Ways.{offer-nan, offer-passed, offer-taken, is-nan, is-number}
 use Rattle.run.specs.Steps.{aroundCell}
 use Rattle.told.specs.declared.Progress.{Progress}
 use Rattle.told.specs.Told.{refusedBy, orderIn, stateOf, Holds, Told, Queued}
-use Rattle.around.specs.Around.{placeOf, Near}
+use Rattle.around.specs.Around.{placeOf, StepNear}
 use Rattle.queueing.proofs.Queues.{still-holds, less-no-nan}
 
 pub no-nan : (x : Float) → isNan x ≡ false → T (not (isNan x))
@@ -39,7 +39,7 @@ module _ {g : Grid} {m : Mesh} {field : List Float} {names ds cs ts : List ℕ} 
   offered-nan h a t =
       record {
         holds = h;
-        is = λ any. offer-nan (queue (groundOf g m (length ds) any)) k c (rootOf q) (stateOf (orderIn m) field names ds cs ts p) (a ∙ is-nan q t);
+        is = λ any. offer-nan (queue (runInput g m (length ds) any)) k c (rootOf q) (stateOf (orderIn m) field names ds cs ts p) (a ∙ is-nan q t);
       }
 
   pub offered-passed : Holds g m field names ds cs ts (p .waiting) → p .number ≡ 0 → isNan (rootOf q) ≡ isNan q → ne q q ≡ false
@@ -48,22 +48,22 @@ module _ {g : Grid} {m : Mesh} {field : List Float} {names ds cs ts : List ℕ} 
       let s = stateOf (orderIn m) field names ds cs ts p in
       record {
         holds = h;
-        is = λ any. offer-passed (queue (groundOf g m (length ds) any)) k c (rootOf q) s (a ∙ is-number q t) l ∙ sym (told-goes (p .number) s z);
+        is = λ any. offer-passed (queue (runInput g m (length ds) any)) k c (rootOf q) s (a ∙ is-number q t) l ∙ sym (told-goes (p .number) s z);
       }
 
   pub offered-taken : {d : Float} {ds′ cs′ ts′ : List ℕ} {r : Progress} → Holds g m field names ds cs ts (p .waiting) → c < total g → k < length (trianglesIn m)
       → isNan (rootOf q) ≡ isNan q → ne q q ≡ false → d ≡ rootOf q → (d ≺ getD field c nan) ≡ true
       → Queued (orderIn m) (entry d c k) ds cs ts p ds′ cs′ ts′ r
       → Told g m (λ G. offerAt (queue G) k c (rootOf q)) field names ds cs ts p (set field c d) (set names c k) ds′ cs′ ts′ r
-  unfolding groundOf
+  unfolding runInput
   offered-taken {d} h b l a t e w j =
       let s = stateOf (orderIn m) field names ds cs ts p in
       record {
         holds = still-holds h (length-set field c d) (length-set names c k) (record { cell-below = b; triangle-below = l }) j;
         is = λ any.
-            ap (λ (v : Float). offerAt (queue (groundOf g m (length ds) any)) k c v s) (sym e)
-            ∙ offer-taken (queue (groundOf g m (length ds) any)) k c d s (ap isNan e ∙ a ∙ is-number q t) w
-            ∙ j .is (groundOf g m (length ds) any) (set field c d) (set names c k) refl refl;
+            ap (λ (v : Float). offerAt (queue (runInput g m (length ds) any)) k c v s) (sym e)
+            ∙ offer-taken (queue (runInput g m (length ds) any)) k c d s (ap isNan e ∙ a ∙ is-number q t) w
+            ∙ j .is (runInput g m (length ds) any) (set field c d) (set names c k) refl refl;
       }
 
 -- ---- the place of a step
@@ -81,25 +81,25 @@ step-off {g} {m} {field} {names} {ds} {cs} {ts} {to} {p} e h z n =
     let s = stateOf (orderIn m) field names ds cs ts p in
     record {
       holds = h;
-      is = λ any. ap (λ (l : Place). spreadTo (groundOf g m (length ds) any) e l s) (place-off to n) ∙ sym (told-goes (p .number) s z);
+      is = λ any. ap (λ (l : Place). spreadTo (runInput g m (length ds) any) e l s) (place-off to n) ∙ sym (told-goes (p .number) s z);
     }
 
 -- the cell is on the grid
-pub step-below : {g : Grid} {m : Mesh} {k to : ℕ} {q : Float} → Near g m k to q → (to ≡ none → ⊥) → to < total g
+pub step-below : {g : Grid} {m : Mesh} {k to : ℕ} {q : Float} → StepNear g m k to q → (to ≡ none → ⊥) → to < total g
 step-below {to = to} n z = n .below to (place-at to z)
 
 module _ {g : Grid} {m : Mesh} {field field′ : List Float} {names ds cs ts names′ ds′ cs′ ts′ : List ℕ} {p r : Progress} (e : Entry) where
-  pub step-at : {to : ℕ} {q : Float} → Near g m (e .triangle) to q → (to ≡ none → ⊥)
+  pub step-at : {to : ℕ} {q : Float} → StepNear g m (e .triangle) to q → (to ≡ none → ⊥)
       → Told g m (λ G. offerAt (queue G) (e .triangle) to (rootOf q)) field names ds cs ts p field′ names′ ds′ cs′ ts′ r
       → Told g m (λ G. spreadTo G e (placeOf to)) field names ds cs ts p field′ names′ ds′ cs′ ts′ r
-  unfolding spreadTo offer groundOf
+  unfolding spreadTo offer runInput
   step-at {to} n z t =
       let s = stateOf (orderIn m) field names ds cs ts p in
       record {
         holds = t .holds;
         is = λ any.
-            ap (λ (l : Place). spreadTo (groundOf g m (length ds) any) e l s) (place-at to z)
-            ∙ ap (λ (v : Float). offerAt (queue (groundOf g m (length ds) any)) (e .triangle) to v s) (sym (n .root to (place-at to z)))
+            ap (λ (l : Place). spreadTo (runInput g m (length ds) any) e l s) (place-at to z)
+            ∙ ap (λ (v : Float). offerAt (queue (runInput g m (length ds) any)) (e .triangle) to v s) (sym (n .root to (place-at to z)))
             ∙ t .is any;
       }
 
@@ -109,12 +109,12 @@ module _ {g : Grid} {m : Mesh} {field field′ : List Float} {names ds cs ts nam
   step-around w t =
       record {
         holds = t .holds;
-        is = λ any. ap (λ (l : Place). spreadTo (groundOf g m (length ds) any) e l (stateOf (orderIn m) field names ds cs ts p)) (sym w) ∙ t .is any;
+        is = λ any. ap (λ (l : Place). spreadTo (runInput g m (length ds) any) e l (stateOf (orderIn m) field names ds cs ts p)) (sym w) ∙ t .is any;
       }
 
 -- ---- all steps
 
 pub all-steps : (g : Grid) (m : Mesh) (e : Entry) (room any : ℕ) (s : State)
-    → spreadAround (groundOf g m room any) e s ≡ turns (λ j. spreadTo (groundOf g m room any) e (aroundCell g (e .cell) j)) 27 s
-unfolding spreadAround groundOf
+    → spreadAround (runInput g m room any) e s ≡ turns (λ j. spreadTo (runInput g m room any) e (aroundCell g (e .cell) j)) 27 s
+unfolding spreadAround runInput
 all-steps g m e room any s = refl

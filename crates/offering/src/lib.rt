@@ -13,7 +13,7 @@ ghost use Rattle.float.specs.RootOf.{rootOf};
 ghost use Rattle.grid.specs.Index.{total};
 ghost use Rattle.mesh.specs.Mesh.{meshOf, trianglesIn};
 ghost use Rattle.run.specs.Run.{queue, offerAt, spreadTo, spreadAround};
-ghost use Rattle.around.specs.Around.{placeOf, Near, Around};
+ghost use Rattle.around.specs.Around.{placeOf, StepNear, Around};
 ghost use Rattle.told.specs.Told.{Ready, Holds, Told};
 
 // Offers triangle k, whose squared distance is q, to cell c. Where q shows that the distance is not below
@@ -91,7 +91,7 @@ fn offer_to(
 ) -> Progress
     requires { ⌜ Ready grid (meshOf (now vertices) topology given (now indices)) ⌝ }
     requires { ⌜ Holds grid (meshOf (now vertices) topology given (now indices)) (now field) (now names) (now distances) (now cells) (now triangles) (at .waiting) ⌝ }
-    requires { ⌜ (at .number ≡ 0) × (e .triangle < length (trianglesIn (meshOf (now vertices) topology given (now indices)))) × Near grid (meshOf (now vertices) topology given (now indices)) (e .triangle) to q ⌝ }
+    requires { ⌜ (at .number ≡ 0) × (e .triangle < length (trianglesIn (meshOf (now vertices) topology given (now indices)))) × StepNear grid (meshOf (now vertices) topology given (now indices)) (e .triangle) to q ⌝ }
     ensures { λ r. ⌜ Told grid (meshOf (now (vertices .entry)) topology given (now (indices .entry))) (λ g. spreadTo g e (placeOf to)) (now (field .entry)) (now (names .entry)) (now (distances .entry)) (now (cells .entry)) (now (triangles .entry)) at (now (field .exit)) (now (names .exit)) (now (distances .exit)) (now (cells .exit)) (now (triangles .exit)) r ⌝ }
 {
     if to == around::NOWHERE {

@@ -12,7 +12,7 @@ use Rattle.mesh.specs.Mesh.{Mesh}
 use Rattle.queue.specs.Queue.{Held, Cleared}
 use Rattle.queue.proofs.Uses.{left-zero}
 use Rattle.run.specs.Run.{State, run}
-use Rattle.run.specs.Ground.{groundOf}
+use Rattle.run.specs.Ground.{runInput}
 use Rattle.told.specs.declared.Progress.{Progress}
 use Rattle.told.specs.Told.{orderIn, stateOf, Ran}
 use Rattle.checks.specs.declared.Lengths.{Lengths}
@@ -70,7 +70,7 @@ same-ended j b c (goes s) e =
 same-ended j b c (refuses n) e = λ i. record { answer = Refused n; left = same-cleared b c e i }
 
 pub same-run : (j : Job) (b c : Lent) → lengthsOf b ≡ lengthsOf c → runOf j b ≡ runOf j c
-same-run j b c e = ap (λ (l : Lengths). run (groundOf (j .grid) (j .mesh) (l .distances) (j .limit))) e
+same-run j b c e = ap (λ (l : Lengths). run (runInput (j .grid) (j .mesh) (l .distances) (j .limit))) e
 
 pub gives-run : (j : Job) (b c : Lent) {r : Answer} {left : Lent} {o : Turn State} → lengthsOf b ≡ lengthsOf c → runOf j c ≡ o → Gives (ended j b o) r left
     → Gives (ended j c (runOf j c)) r left

@@ -5,7 +5,7 @@ use mathlib.Core.Path.{_≡_}
 use lib.ListN.{length}
 use Rattle.lists.specs.Turns.{Turn, goes, refuses}
 use Rattle.run.specs.Run.{State, run}
-use Rattle.run.specs.Ground.{groundOf}
+use Rattle.run.specs.Ground.{runInput}
 use Rattle.run.specs.Signs.{signedField, allCrossings, rows}
 use Rattle.checks.specs.Job.{Job, Lent}
 use Rattle.checks.specs.Refusals.{refusal}
@@ -48,7 +48,7 @@ ended j b (refuses n) = record { answer = Refused n; left = cleared b }
 
 -- the run of a job over the lent queue, whose room is its length
 abbrev pub runOf : Job → Lent → Turn State
-runOf j b = run (groundOf (j .grid) (j .mesh) (length (b .distances)) (j .limit))
+runOf j b = run (runInput (j .grid) (j .mesh) (length (b .distances)) (j .limit))
 
 unfoldable pub unlessRefused : ℕ → Lent → Outcome → Outcome
 unlessRefused zero b o = o

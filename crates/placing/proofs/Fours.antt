@@ -14,7 +14,7 @@ use Rattle.point.specs.declared.Point.{Point}
 use Rattle.point.specs.declared.Axis.the-variants.{Z}
 use Rattle.grid.specs.declared.Grid.{Grid}
 use Rattle.grid.specs.declared.Cell.{Cell}
-use Rattle.grid.specs.Axes.{cell, firstOn, sizeOn}
+use Rattle.grid.specs.Axes.{cellNumbered, firstOn, sizeOn}
 use Rattle.grid.specs.Index.{Inside, index, indexOf}
 use Rattle.grid_axis.specs.OnAxis.{centreOn}
 use Rattle.grid.specs.Place.{centreOf}
@@ -27,7 +27,7 @@ use Rattle.placing.proofs.Offers.{placed}
 
 -- the cell i behind another along z
 abbrev pub behind : Cell → ℕ → Cell
-behind at i = cell (at .x) (at .y) (at .z + i)
+behind at i = cellNumbered (at .x) (at .y) (at .z + i)
 
 -- ---- the squared distances of four
 
@@ -65,7 +65,7 @@ pub index-behind : (g : Grid) (at : Cell) (c i : ℕ) → c ≡ indexOf g at →
 unfolding index
 index-behind g at c i h = omega (arith, h)
 
-module _ (g : Grid) (f : Facet) (at : Cell) (last : ℕ) (inside : Inside g (cell (at .x) (at .y) last)) (squares : List Float) (all : SquaresFrom g f at squares) where
+module _ (g : Grid) (f : Facet) (at : Cell) (last : ℕ) (inside : Inside g (cellNumbered (at .x) (at .y) last)) (squares : List Float) (all : SquaresFrom g f at squares) where
   pub inside-behind : (i : ℕ) → at .z + i ≤ last → Inside g (behind at i)
   inside-behind i h = record { x-below = inside .x-below; y-below = inside .y-below; z-below = omega (arith, inside .z-below) }
 

@@ -8,7 +8,7 @@ use lib.Ieee.{Float, nan}
 use Rattle.lists.specs.Turns.{Turn, through}
 use Rattle.grid.specs.declared.Grid.{Grid}
 use Rattle.grid.specs.declared.Cell.{Cell}
-use Rattle.grid.specs.Axes.{cell}
+use Rattle.grid.specs.Axes.{cellNumbered}
 use Rattle.grid.specs.Index.{indexOf, cellAt}
 use Rattle.grid.specs.Place.{centreOf}
 use Rattle.closest.specs.declared.Facet.{Facet}
@@ -17,7 +17,7 @@ use Rattle.squares.specs.Distance.{squaredOn, distanceOn}
 use Rattle.mesh.specs.declared.Corners.{Corners}
 use Rattle.mesh.specs.Mesh.{Mesh, cornersAt}
 use Rattle.run.specs.Run.{State, Box, offerAt, nothingElse}
-use Rattle.run.specs.Ground.{boxOf}
+use Rattle.run.specs.Ground.{snappedBox}
 
 -- in seeding nothing waits, and nothing was taken
 abbrev pub seedState : List Float → List ℕ → State
@@ -29,7 +29,7 @@ offerTo g f k c s = offerAt nothingElse k c (distanceOn f (centreOf g (cellAt g 
 
 -- to the cells (x, y, z) with z from lo to hi
 unfoldable pub alongLine : Grid → Facet → ℕ → ℕ → ℕ → ℕ → ℕ → State → Turn State
-alongLine g f k x y lo hi s = through (λ z. offerTo g f k (indexOf g (cell x y z))) lo hi s
+alongLine g f k x y lo hi s = through (λ z. offerTo g f k (indexOf g (cellNumbered x y z))) lo hi s
 
 -- to the cells of a box with one x, and to all of them
 unfoldable pub alongPlane : Grid → Facet → ℕ → ℕ → Cell → Cell → State → Turn State
@@ -40,11 +40,11 @@ alongBox g f k low high s = through (λ x. alongPlane g f k x low high) (low .x)
 
 -- to the snapped box of a triangle, by its corners, and by its number
 unfoldable pub overBox : Grid → Corners → ℕ → State → Turn State
-overBox g t k s = alongBox g (facetOf (t .a) (t .b) (t .c)) k (boxOf g t .low) (boxOf g t .high) s
+overBox g t k s = alongBox g (facetOf (t .a) (t .b) (t .c)) k (snappedBox g t .low) (snappedBox g t .high) s
 
 unfoldable pub overTriangle : Grid → Mesh → ℕ → State → Turn State
 overTriangle g m k s = overBox g (cornersAt m k) k s
 
 -- the squared distances of four cells, the one given and the three behind it along z
 pub record SquaresFrom (g : Grid) (f : Facet) (at : Cell) (squares : List Float) : Type 0 where
-  pub each : (i : ℕ) → i < 4 → getD squares i nan ≡ squaredOn f (centreOf g (cell (at .x) (at .y) (at .z + i)))
+  pub each : (i : ℕ) → i < 4 → getD squares i nan ≡ squaredOn f (centreOf g (cellNumbered (at .x) (at .y) (at .z + i)))

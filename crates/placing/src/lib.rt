@@ -10,7 +10,7 @@ ghost use lib.ListN.{length};
 ghost use lib.Ieee.{isNan};
 ghost use Rattle.float.specs.RootOf.{rootOf};
 ghost use Rattle.lists.specs.Turns.{told};
-ghost use Rattle.grid.specs.Axes.{cell};
+ghost use Rattle.grid.specs.Axes.{cellNumbered};
 ghost use Rattle.grid.specs.Index.{Inside, total};
 ghost use Rattle.grid.specs.Bounds.{inBounds};
 ghost use Rattle.run.specs.Run.{offerAt, nothingElse};
@@ -72,7 +72,7 @@ pub fn offer_four(
     at: Cell,
     last: u32,
 ) -> u32
-    requires { ⌜ (inBounds grid ≡ true) × Inside grid (cell (at .x) (at .y) last) × (at .z ≤ last) × (last < at .z + 4) ⌝ }
+    requires { ⌜ (inBounds grid ≡ true) × Inside grid (cellNumbered (at .x) (at .y) last) × (at .z ≤ last) × (last < at .z + 4) ⌝ }
     requires { ⌜ (length (now field) ≡ total grid) × (length (now names) ≡ total grid) ⌝ }
     ensures { λ r. ⌜ alongLine grid f k (at .x) (at .y) (at .z) last (seedState (now (field .entry)) (now (names .entry))) ≡ told r (seedState (now (field .exit)) (now (names .exit))) ⌝ }
 {

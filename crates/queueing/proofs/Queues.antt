@@ -22,15 +22,15 @@ use Rattle.queue.specs.InOrder.{insert}
 use Rattle.queue.specs.Queue.{Held, Pushed, waiting}
 use Rattle.queue.proofs.Uses.{how-many}
 use Rattle.queue.proofs.Meaning.{from-insert}
-use Rattle.run.specs.Run.{Ground, State, held, named, entry, queue, queued, queueCell, queueing}
-use Rattle.run.specs.Ground.{groundOf}
+use Rattle.run.specs.Run.{RunInput, State, held, named, entry, queue, queued, queueCell, queueing}
+use Rattle.run.specs.Ground.{runInput}
 use Rattle.told.specs.declared.Progress.{Progress}
 use Rattle.told.specs.Told.{refusedBy, orderIn, stateOf, Known, Holds, Named, Told, Queued}
 
 -- ---- the room
 
 -- the test of the definition is that of the code
-room-test : {le : Entry → Entry → Bool} (g : Ground) (ds cs ts : List ℕ) (n : ℕ) → Held le ds cs ts n → g .room ≡ length ds
+room-test : {le : Entry → Entry → Bool} (g : RunInput) (ds cs ts : List ℕ) (n : ℕ) → Held le ds cs ts n → g .room ≡ length ds
     → ltb (length (waiting le ds cs ts n)) (g .room) ≡ ltb n (length ds)
 room-test {le} g ds cs ts n h r = ap (λ (k : ℕ). ltb k (g .room)) (how-many ds cs ts n h) ∙ ap (λ (k : ℕ). ltb n k) r
 
@@ -93,7 +93,7 @@ cell-small g c n b e l = less (total g) e (bounds-of g b .total-few)
     less : (t : ℕ) → n ≡ t → t ≤ 1048576 → c < 1048576
     less t e f = omega arith
 
-module _ (c : ℕ) (g : Ground) (s : State) where
+module _ (c : ℕ) (g : RunInput) (s : State) where
   -- it is not below f32::MAX, or it is
   cell-above : (held s c ≺ fMax) ≡ false → queueCell g c s ≡ goes s
   unfolding queueCell
@@ -108,23 +108,23 @@ module _ {g : Grid} {m : Mesh} {field : List Float} {names ds cs ts : List ℕ} 
       → Told g m (λ G. queueCell G c) field names ds cs ts at field names ds cs ts at
   cell-passed h z t =
       let s = stateOf (orderIn m) field names ds cs ts at in
-      record { holds = h; is = λ any. cell-above c (groundOf g m (length ds) any) s t ∙ sym (told-goes (at .number) s z) }
+      record { holds = h; is = λ any. cell-above c (runInput g m (length ds) any) s t ∙ sym (told-goes (at .number) s z) }
 
   pub cell-queued : {ds′ cs′ ts′ : List ℕ} {r : Progress} → Holds g m field names ds cs ts (at .waiting) → Named g m field names → c < length field
       → (getD field c nan ≺ fMax) ≡ true → Queued (orderIn m) (entry (getD field c nan) c (getD names c 0)) ds cs ts at ds′ cs′ ts′ r
       → Told g m (λ G. queueCell G c) field names ds cs ts at field names ds′ cs′ ts′ r
-  unfolding groundOf
+  unfolding runInput
   cell-queued h n l t q =
       let below : c < total g = subst (λ (k : ℕ). c < k) (h .field-long) l in
       record {
         holds = still-holds h refl refl (record { cell-below = below; triangle-below = n c below t }) q;
-        is = λ any. cell-below c (groundOf g m (length ds) any) (stateOf (orderIn m) field names ds cs ts at) t ∙ q .is (groundOf g m (length ds) any) field names refl refl;
+        is = λ any. cell-below c (runInput g m (length ds) any) (stateOf (orderIn m) field names ds cs ts at) t ∙ q .is (runInput g m (length ds) any) field names refl refl;
       }
 
 -- ---- all cells
 
-pub all-cells : (g : Grid) (m : Mesh) (room any : ℕ) (s : State) → queueing (groundOf g m room any) s ≡ turns (queueCell (groundOf g m room any)) (total g) s
-unfolding queueing groundOf
+pub all-cells : (g : Grid) (m : Mesh) (room any : ℕ) (s : State) → queueing (runInput g m room any) s ≡ turns (queueCell (runInput g m room any)) (total g) s
+unfolding queueing runInput
 all-cells g m room any s = refl
 
 -- ---- numbers

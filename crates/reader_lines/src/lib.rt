@@ -7,7 +7,7 @@ use text::Three;
 use topology::Topology;
 ghost use mathlib.Core.Path.{_≡_};
 ghost use lib.ListN.{drop};
-ghost use Rattle.text.specs.Reader.{threeAt, numberLine, floatsLine, fewCells, countLine, topologyLine};
+ghost use Rattle.text.specs.Reader.{threeNumbers, numberLine, floatsLine, fewCells, countLine, topologyLine};
 ghost use Rattle.reader_words.specs.Told.{gotNumber, readerOf};
 ghost use Rattle.reader_lines.specs.Told.{gotTriple, gotShape};
 
@@ -25,7 +25,7 @@ pub enum Shape {
 
 // Three numbers to the end of the line.
 fn three_values(text: &[u8], at: usize, form: Form) -> Triple
-    ensures { λ r. ⌜ gotTriple (now (text .entry)) r ≡ threeAt (readerOf form) (drop at (now (text .entry))) ⌝ }
+    ensures { λ r. ⌜ gotTriple (now (text .entry)) r ≡ threeNumbers (readerOf form) (drop at (now (text .entry))) ⌝ }
 {
     let Number::Is {
         value: x,

@@ -8,7 +8,7 @@ use Rattle.topology.specs.declared.Indices.the-variants.{Given, None}
 use Rattle.text.specs.declared.Three.{Three}
 use Rattle.text.specs.declared.Head.{Head}
 use Rattle.text.specs.declared.Tail.{Tail}
-use Rattle.text.specs.TextJob.{Listed, none, these}
+use Rattle.text.specs.TextJob.{TextIndices, none, these}
 use Rattle.text.specs.Reader.{Got, took, nothing, three}
 use Rattle.reader_words.specs.declared.Number.{Number}
 use Rattle.reader_words.specs.declared.Number.the-variants as Number
@@ -38,11 +38,11 @@ gotVertices out text (Number.Is n k) = took (threesIn n out) (drop k text)
 gotVertices out text Number.Not = nothing
 
 -- indices that were stored in `out`
-abbrev pub listedAs : Indices → List ℕ → Listed
+abbrev pub listedAs : Indices → List ℕ → TextIndices
 listedAs Given l = these l
 listedAs None l = none
 
-abbrev pub gotRow : List ℕ → List ℕ → Row → Got Listed
+abbrev pub gotRow : List ℕ → List ℕ → Row → Got TextIndices
 gotRow out text (Row.Are given n k) = took (listedAs given (take n out)) (drop k text)
 gotRow out text Row.Not = nothing
 
@@ -55,6 +55,6 @@ abbrev pub storedIn : Row → Type 0
 storedIn (Row.Are given n k) = stored given n
 storedIn Row.Not = Unit
 
-pub record RowIs (out text : List ℕ) (r : Row) (found : Got Listed) : Type 0 where
+pub record RowIs (out text : List ℕ) (r : Row) (found : Got TextIndices) : Type 0 where
   pub is : gotRow out text r ≡ found
   pub few : storedIn r

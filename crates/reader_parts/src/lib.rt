@@ -10,7 +10,7 @@ use topology::Indices;
 ghost use mathlib.Core.Path.{_≡_};
 ghost use Prim.Native.Nat.{_*_, _≤_};
 ghost use lib.ListN.{length, take, drop};
-ghost use Rattle.text.specs.Reader.{headAt, vertexAt, verticesAt, indexAt, indicesAt, tailAt, linesAt};
+ghost use Rattle.text.specs.Reader.{headAt, vertexLineAt, verticesAt, indexAt, indicesAt, tailAt, linesAt};
 ghost use Rattle.reader_words.specs.Told.{gotNext, gotNumber};
 ghost use Rattle.reader_lines.specs.Told.{gotTriple};
 ghost use Rattle.reader_parts.specs.Told.{gotHead, gotTail, gotVertices, RowIs, threesIn};
@@ -76,7 +76,7 @@ pub fn head(text: &[u8], at: usize) -> Front
 }
 
 fn vertex_line(text: &[u8], at: usize) -> Triple
-    ensures { λ r. ⌜ gotTriple (now (text .entry)) r ≡ vertexAt (drop at (now (text .entry))) ⌝ }
+    ensures { λ r. ⌜ gotTriple (now (text .entry)) r ≡ vertexLineAt (drop at (now (text .entry))) ⌝ }
 {
     reader_lines::floats_line(text, at, b"v=")
 }
@@ -84,7 +84,7 @@ fn vertex_line(text: &[u8], at: usize) -> Triple
 // The lines of n vertices, whose bits are stored three by three.
 fn vertex_lines(text: &[u8], at: usize, n: usize, out: &mut [u32]) -> Next
     requires { ⌜ 3 * n ≤ length (now out) ⌝ }
-    ensures { λ r. ⌜ gotNext (threesIn n (now (out .exit))) (now (text .entry)) r ≡ linesAt n vertexAt (drop at (now (text .entry))) ⌝ }
+    ensures { λ r. ⌜ gotNext (threesIn n (now (out .exit))) (now (text .entry)) r ≡ linesAt n vertexLineAt (drop at (now (text .entry))) ⌝ }
 {
     let mut k = at;
     let mut i = 0;

@@ -3,7 +3,7 @@
 // the reader: callers use `job::read_job`.
 ghost use mathlib.Core.Path.{_≡_};
 ghost use lib.ListN.{drop};
-ghost use Rattle.text.specs.Reader.{digitOf, wordAt, numberAt, bitsAt};
+ghost use Rattle.text.specs.Reader.{hexValue, wordAt, numberAt, bitsAt};
 ghost use Rattle.reader_words.specs.Told.{gotNext, gotNumber, readerOf};
 
 // The place behind what was looked for.
@@ -26,7 +26,7 @@ pub enum Form {
 
 // The value of a lower-case hex digit, and 16 of any other byte.
 fn digit(b: u8) -> u32
-    ensures { λ r. ⌜ r ≡ digitOf b ⌝ }
+    ensures { λ r. ⌜ r ≡ hexValue b ⌝ }
 {
     if b < b'0' {
         return 16;

@@ -13,28 +13,28 @@ use Rattle.grid.specs.declared.Grid.{Grid}
 use Rattle.mesh.specs.Mesh.{Mesh}
 use Rattle.queue.specs.declared.Entry.{Entry}
 use Rattle.queue.specs.Queue.{waiting}
-use Rattle.run.specs.Run.{Ground, State, queueing}
+use Rattle.run.specs.Run.{RunInput, State, queueing}
 use Rattle.told.specs.declared.Progress.{Progress}
 use Rattle.told.specs.Told.{refusedBy, stateOf, Holds, Told}
-use Rattle.entries.specs.Row.{distances, cells, triangles, HeldRow}
+use Rattle.entries.specs.Row.{rowDistances, rowCells, rowTriangles, HeldRow}
 use Rattle.batch.specs.declared.Batch.{Batch}
 use Rattle.batch.specs.Batch.{entryIn, queueAll}
 
 -- what waits in a row, and the state that it holds
 abbrev pub waitingIn : (Entry → Entry → Bool) → List Entry → ℕ → List Entry
-waitingIn le row n = waiting le (distances row) (cells row) (triangles row) n
+waitingIn le row n = waiting le (rowDistances row) (rowCells row) (rowTriangles row) n
 
 abbrev pub stateIn : (Entry → Entry → Bool) → List Float → List ℕ → List Entry → Progress → State
-stateIn le field names row p = stateOf le field names (distances row) (cells row) (triangles row) p
+stateIn le field names row p = stateOf le field names (rowDistances row) (rowCells row) (rowTriangles row) p
 
 -- the slices are of the right lengths and the row holds n waiting entries
 abbrev pub HoldsRow : Grid → Mesh → List Float → List ℕ → List Entry → ℕ → Type 0
-HoldsRow g m field names row n = Holds g m field names (distances row) (cells row) (triangles row) n
+HoldsRow g m field names row n = Holds g m field names (rowDistances row) (rowCells row) (rowTriangles row) n
 
 -- a turn of the run over what is lent
-abbrev pub ToldRow : Grid → Mesh → (Ground → State → Turn State) → List Float → List ℕ → List Entry → Progress → List Float → List ℕ → List Entry → Progress → Type 0
+abbrev pub ToldRow : Grid → Mesh → (RunInput → State → Turn State) → List Float → List ℕ → List Entry → Progress → List Float → List ℕ → List Entry → Progress → Type 0
 ToldRow g m turn field names row at field′ names′ row′ r =
-    Told g m turn field names (distances row) (cells row) (triangles row) at field′ names′ (distances row′) (cells row′) (triangles row′) r
+    Told g m turn field names (rowDistances row) (rowCells row) (rowTriangles row) at field′ names′ (rowDistances row′) (rowCells row′) (rowTriangles row′) r
 
 -- ---- the counts
 
@@ -61,7 +61,7 @@ pub record OneOf (b : Batch) (x : Entry) : Type 0 where
 pub record QueuedAll (le : Entry → Entry → Bool) (b : Batch) (row : List Entry) (at : Progress) (row′ : List Entry) (r : Progress) : Type 0 where
   pub held : HeldRow le row′ (r .waiting)
   pub from : (x : Entry) → List·Memᴰ x (waitingIn le row′ (r .waiting)) → OneOf b x ⊎ List·Memᴰ x (waitingIn le row (at .waiting))
-  pub is : (g : Ground) (field : List Float) (names : List ℕ) → g .goesFirst ≡ le → g .room ≡ length row
+  pub is : (g : RunInput) (field : List Float) (names : List ℕ) → g .goesFirst ≡ le → g .room ≡ length row
       → queueAll g b (stateIn le field names row at) ≡ told (r .number) (stateIn le field names row′ r)
 
 -- x is the entry of a cell that is below f32::MAX
@@ -74,5 +74,5 @@ pub record OfCell (field : List Float) (names : List ℕ) (x : Entry) : Type 0 w
 pub record QueuedCells (le : Entry → Entry → Bool) (field : List Float) (names : List ℕ) (row : List Entry) (at : Progress) (row′ : List Entry) (r : Progress) : Type 0 where
   pub held : HeldRow le row′ (r .waiting)
   pub from : (x : Entry) → List·Memᴰ x (waitingIn le row′ (r .waiting)) → OfCell field names x ⊎ List·Memᴰ x (waitingIn le row (at .waiting))
-  pub is : (g : Ground) → g .goesFirst ≡ le → g .room ≡ length row → g .cells ≡ length field
+  pub is : (g : RunInput) → g .goesFirst ≡ le → g .room ≡ length row → g .cells ≡ length field
       → queueing g (stateIn le field names row at) ≡ told (r .number) (stateIn le field names row′ r)

@@ -13,11 +13,11 @@ use Rattle.float.specs.Arith.{if_then_else_}
 use Rattle.lists.specs.Turns.{goes, turns, told}
 use Rattle.lists.proofs.Turns.{then-goes, then-refuses, turns-none, turns-more, turns-stopped, told-goes, told-refuses}
 use Rattle.queue.specs.declared.Entry.{Entry}
-use Rattle.run.specs.Run.{Ground, State, queue}
+use Rattle.run.specs.Run.{RunInput, State, queue}
 use Rattle.told.specs.declared.Progress.{Progress}
 use Rattle.told.specs.Told.{refusedBy, Queued}
 use Rattle.queueing.proofs.Queues.{full, put-in}
-use Rattle.entries.specs.Row.{distances, cells, triangles, HeldRow, PushedRow}
+use Rattle.entries.specs.Row.{rowDistances, rowCells, rowTriangles, HeldRow, PushedRow}
 use Rattle.entries.proofs.Projections.{long-row}
 use Rattle.batch.specs.declared.Batch.{Batch}
 use Rattle.batch.specs.Batch.{entryIn, stopAt, queuedBy}
@@ -61,7 +61,7 @@ module _ (le : Entry → Entry → Bool) (b : Batch) (row : List Entry) (at : Pr
     pub long : length q ≡ length row
     pub held : HeldRow le q (p .waiting)
     pub from : (x : Entry) → List·Memᴰ x (waitingIn le q (p .waiting)) → OneOf b x ⊎ List·Memᴰ x (waitingIn le row (at .waiting))
-    pub is : (g : Ground) (field : List Float) (names : List ℕ) → g .goesFirst ≡ le → g .room ≡ length row
+    pub is : (g : RunInput) (field : List Float) (names : List ℕ) → g .goesFirst ≡ le → g .room ≡ length row
         → turns (λ i. queue g (entryIn b i)) j (stateIn le field names row at) ≡ goes (stateIn le field names q p)
 
   pub push-begins : at .number ≡ 0 → HeldRow le row (at .waiting) → Pushing row at 0
@@ -72,8 +72,8 @@ module _ (le : Entry → Entry → Bool) (b : Batch) (row : List Entry) (at : Pr
     pub push-on : (q′ : List Entry) → queuedBy (length row) p .number ≡ 0 → length q′ ≡ length q → PushedRow le (entryIn b j) q q′ (p .waiting) → Pushing q′ (queuedBy (length row) p) (j + 1)
     push-on q′ z e w =
         let within : p .waiting < length row = had-room (length row) p z in
-        let there : p .waiting < length (distances q) = omega (arith, within, h .long, long-row q) in
-        let k : Queued le (entryIn b j) (distances q) (cells q) (triangles q) p (distances q′) (cells q′) (triangles q′) (record { number = 0; waiting = p .waiting + 1; pops = p .pops; peak = max (p .peak) (p .waiting + 1) }) =
+        let there : p .waiting < length (rowDistances q) = omega (arith, within, h .long, long-row q) in
+        let k : Queued le (entryIn b j) (rowDistances q) (rowCells q) (rowTriangles q) p (rowDistances q′) (rowCells q′) (rowTriangles q′) (record { number = 0; waiting = p .waiting + 1; pops = p .pops; peak = max (p .peak) (p .waiting + 1) }) =
         put-in {peak = max (p .peak) (p .waiting + 1)} (h .held) there w refl in
         subst (λ (r : Progress). Pushing q′ r (j + 1)) (sym (with-room (length row) p within)) (record {
           fine = refl;
@@ -95,8 +95,8 @@ module _ (le : Entry → Entry → Bool) (b : Batch) (row : List Entry) (at : Pr
     unfolding stoppedBy
     push-stops z =
         let o = no-room (length row) p z in
-        let there : length (distances q) ≤ p .waiting = omega (arith, o .0, h .long, long-row q) in
-        let k : Queued le (entryIn b j) (distances q) (cells q) (triangles q) p (distances q) (cells q) (triangles q) (refusedBy 7 p) = full (h .held) there in
+        let there : length (rowDistances q) ≤ p .waiting = omega (arith, o .0, h .long, long-row q) in
+        let k : Queued le (entryIn b j) (rowDistances q) (rowCells q) (rowTriangles q) p (rowDistances q) (rowCells q) (rowTriangles q) (refusedBy 7 p) = full (h .held) there in
         subst (λ (r : Progress). QueuedAll le b row at q r) (sym (ap (λ (r : Progress). if eqb (r .number) 0 then refusedBy (b .number) r else r) (o .1))) (record {
           held = h .held;
           from = h .from;

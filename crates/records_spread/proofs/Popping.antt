@@ -16,13 +16,13 @@ use Rattle.grid.specs.Index.{total}
 use Rattle.mesh.specs.Mesh.{Mesh, trianglesIn}
 use Rattle.queue.specs.declared.Entry.{Entry}
 use Rattle.run.specs.Run.{takeFirst, spreading}
-use Rattle.run.specs.Ground.{groundOf}
+use Rattle.run.specs.Ground.{runInput}
 use Rattle.told.specs.declared.Progress.{Progress}
 use Rattle.told.specs.Told.{refusedBy, orderIn, Known}
 use Rattle.spreading.proofs.Pops.{first-known, rest-holds, popped, Spreads, spread-spent, spread-stops, spread-on, counted}
-use Rattle.entries.specs.Row.{distances, cells, triangles, HeldRow, TakenRow}
+use Rattle.entries.specs.Row.{rowDistances, rowCells, rowTriangles, HeldRow, TakenRow}
 use Rattle.batch.specs.declared.Batch.{Batch}
-use Rattle.gathering.specs.Gathered.{Offered}
+use Rattle.gathering.specs.Gathered.{PopOffered}
 use Rattle.entries.proofs.Projections.{long-row}
 use Rattle.records.specs.Records.{waitingIn, stateIn, poppedBy, HoldsRow, ToldRow, OneOf, QueuedAll}
 
@@ -33,10 +33,10 @@ module _ (g : Grid) (m : Mesh) (field : List Float) (names : List ℕ) (row : Li
   taken-known = first-known h t
 
   pop-is : (field′ : List Float) (names′ : List ℕ) (b : Batch) (row′ : List Entry) (r : Progress) → length field′ ≡ length field → length names′ ≡ length names
-      → Offered g m e field names field′ names′ b
+      → PopOffered g m e field names field′ names′ b
       → QueuedAll (orderIn m) b row₁ (record { number = 0; waiting = p .waiting - 1; pops = p .pops + 1; peak = p .peak }) row′ r
       → ToldRow g m (λ G s. takeFirst G goes (s .waiting) s) field names row p field′ names′ row′ r
-  unfolding groundOf
+  unfolding runInput
   pop-is field′ names′ b row′ r fl nl o w =
       let rest = rest-holds h t in
       popped p t (long-row row₁ ∙ l₁ ∙ sym (long-row row)) (record {
@@ -53,15 +53,15 @@ module _ (g : Grid) (m : Mesh) (field : List Float) (names : List ℕ) (row : Li
               (w .from x i);
         };
         is = λ any.
-            o .is (length (distances row₁)) any (stateIn (orderIn m) field names row₁ (record { number = 0; waiting = p .waiting - 1; pops = p .pops + 1; peak = p .peak }))
-            ∙ w .is (groundOf g m (length (distances row₁)) any) field′ names′ refl (long-row row₁);
+            o .is (length (rowDistances row₁)) any (stateIn (orderIn m) field names row₁ (record { number = 0; waiting = p .waiting - 1; pops = p .pops + 1; peak = p .peak }))
+            ∙ w .is (runInput g m (length (rowDistances row₁)) any) field′ names′ refl (long-row row₁);
       })
 
 -- ---- the loop of pops
 
 abbrev pub SpreadsRow : Grid → Mesh → ℕ → List Float → List ℕ → List Entry → Progress → List Float → List ℕ → List Entry → Progress → Type 0
 SpreadsRow g m limit field₀ names₀ row₀ r₀ field names row r =
-    Spreads g m limit field₀ names₀ (distances row₀) (cells row₀) (triangles row₀) r₀ field names (distances row) (cells row) (triangles row) r
+    Spreads g m limit field₀ names₀ (rowDistances row₀) (rowCells row₀) (rowTriangles row₀) r₀ field names (rowDistances row) (rowCells row) (rowTriangles row) r
 
 -- where a pop is not counted, the pops are spent
 spent-by : (limit : ℕ) (p : Progress) → (poppedBy limit p .number ≡ 0 → ⊥) → (p .pops ≡ limit) × (poppedBy limit p ≡ refusedBy 8 p)
@@ -111,7 +111,7 @@ module _ (g : Grid) (m : Mesh) (limit : ℕ) (field₀ : List Float) (names₀ :
       still-held = subst (λ (r : Progress). HeldRow (orderIn m) row₁ (r .waiting)) (sym was) (took .held)
 
       module _ (field′ : List Float) (names′ : List ℕ) (b : Batch) (row′ : List Entry) (r : Progress) (fl : length field′ ≡ length field) (nl : length names′ ≡ length names)
-          (o : Offered g m e field names field′ names′ b) (w : QueuedAll (orderIn m) b row₁ p₁ row′ r) where
+          (o : PopOffered g m e field names field′ names′ b) (w : QueuedAll (orderIn m) b row₁ p₁ row′ r) where
         pop : ToldRow g m (λ G s. takeFirst G goes (s .waiting) s) field names row p field′ names′ row′ r
         pop = pop-is g m field names row p (a .holds) e row₁ took l₁ field′ names′ b row′ r fl nl o (subst (λ (x : Progress). QueuedAll (orderIn m) b row₁ x row′ r) was w)
 

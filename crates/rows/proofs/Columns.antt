@@ -18,7 +18,7 @@ use Rattle.grid.specs.Layers.{layers}
 use Rattle.lists.specs.Range.{sumBelow}
 use Rattle.lists.proofs.Range.{sum-none, sum-more, sum-le}
 use Rattle.lists.proofs.Table.{is-table}
-use Rattle.run.specs.Signs.{counted, weight, rowBelow, rowsBy, rows}
+use Rattle.run.specs.Signs.{counted, rowWeight, rowBelow, rowsBy, rows}
 use Rattle.counts.specs.Counts.{Room}
 use Rattle.rows.specs.Column.{ColumnAdded}
 
@@ -46,13 +46,13 @@ column n base z layer weigh h (suc j) l =
 
 -- what the cells below c add to layer z, where layers follow each other, `height` of them to a column
 abbrev pub layerBelow : ℕ → List Float → ℕ → ℕ → ℕ
-layerBelow height field z c = sumBelow (λ i. cond (eqb (i % height) z) (weight (getD field i nan)) 0) c
+layerBelow height field z c = sumBelow (λ i. cond (eqb (i % height) z) (rowWeight (getD field i nan)) 0) c
 
 -- a column more
 layer-more : (height : ℕ) (field : List Float) (z k : ℕ) → z < height
-    → layerBelow height field z ((k + 1) * height) ≡ layerBelow height field z (k * height) + weight (getD field (k * height + z) nan)
+    → layerBelow height field z ((k + 1) * height) ≡ layerBelow height field z (k * height) + rowWeight (getD field (k * height + z) nan)
 layer-more height field z k h =
-    ap (layerBelow height field z) (more k height) ∙ column height (k * height) z (λ i. i % height) (λ i. weight (getD field i nan)) (λ j l. mul-add-mod-self-right k height j ∙ mod-eq-of-lt l) height (omega arith) ∙ ap (λ (b : Bool). layerBelow height field z (k * height) + cond b (weight (getD field (k * height + z) nan)) 0) (lt-ltb z height h)
+    ap (layerBelow height field z) (more k height) ∙ column height (k * height) z (λ i. i % height) (λ i. rowWeight (getD field i nan)) (λ j l. mul-add-mod-self-right k height j ∙ mod-eq-of-lt l) height (omega arith) ∙ ap (λ (b : Bool). layerBelow height field z (k * height) + cond b (rowWeight (getD field (k * height + z) nan)) 0) (lt-ltb z height h)
   where
     more : (k n : ℕ) → (k + 1) * n ≡ k * n + n
     more k n = omega arith
@@ -73,7 +73,7 @@ pub rowed-more : (height : ℕ) (field : List Float) (k : ℕ) {l m : List ℕ} 
 rowed-more height field k {l} {m} s t =
     record {
       long = t .long ∙ s .long;
-      each = λ z h. t .each z (omega (arith, s .long)) ∙ ap (λ (n : ℕ). n + weight (getD field (k * height + z) nan)) (s .each z h) ∙ sym (layer-more height field z k h);
+      each = λ z h. t .each z (omega (arith, s .long)) ∙ ap (λ (n : ℕ). n + rowWeight (getD field (k * height + z) nan)) (s .each z h) ∙ sym (layer-more height field z k h);
     }
 
 -- a row is at most the number of cells
@@ -86,7 +86,7 @@ rowed-room height field k l h s z = go (decLt z height)
     one false c = omega arith
 
     go : Dec (z < height) → getD l z 0 + 1 < 2 ^ 32
-    go (yes w) = omega (arith, s .each z w, sum-le (λ i. cond (eqb (i % height) z) (weight (getD field i nan)) 0) 1 (k * height) (λ i l. one (eqb (i % height) z) (counted (getD field i nan))))
+    go (yes w) = omega (arith, s .each z w, sum-le (λ i. cond (eqb (i % height) z) (rowWeight (getD field i nan)) 0) 1 (k * height) (λ i l. one (eqb (i % height) z) (counted (getD field i nan))))
     go (no w) =
         let past : length l ≤ z = omega (arith, s .long) in
         let none : getD l z 0 ≡ 0 = List·getD-eq-default l 0 past in
@@ -95,4 +95,4 @@ rowed-room height field k l h s z = go (decLt z height)
 pub rowed-all : (g : Grid) (field : List Float) (k : ℕ) (l : List ℕ) → k ≡ countOn X g * countOn Y g → Rowed (layers g) field k l → l ≡ rows g field
 unfolding rowsBy rowBelow coordinates
 rowed-all g field k l e s =
-    is-table 0 (λ z. rowBelow weight g field z (total g)) (layers g) l (s .long) (λ z h. s .each z h ∙ ap (λ (n : ℕ). layerBelow (layers g) field z (n * layers g)) e)
+    is-table 0 (λ z. rowBelow rowWeight g field z (total g)) (layers g) l (s .long) (λ z h. s .each z h ∙ ap (λ (n : ℕ). layerBelow (layers g) field z (n * layers g)) e)

@@ -18,7 +18,7 @@ use Rattle.point.specs.declared.Axis.the-variants.{X, Y, Z}
 use Rattle.point.proofs.Squares.{dot-self}
 use Rattle.grid.specs.declared.Grid.{Grid}
 use Rattle.grid.specs.declared.Cell.{Cell}
-use Rattle.grid.specs.Axes.{countOn, cellOn, cell}
+use Rattle.grid.specs.Axes.{countOn, cellOn, cellNumbered}
 use Rattle.grid.specs.Index.{indexOf, cellAt, total, Inside}
 use Rattle.grid.specs.Place.{snapCell, floorOn}
 use Rattle.grid.proofs.Laws.{index-below}
@@ -26,7 +26,7 @@ use Rattle.squares.specs.Distance.{squaredOn}
 use Rattle.mesh.specs.declared.Corners.{Corners}
 use Rattle.mesh.specs.Mesh.{Mesh, trianglesIn, cornersAt}
 use Rattle.run.specs.Run.{none}
-use Rattle.run.specs.Ground.{raised, lastOf, boxOf, distanceFrom, groundOf}
+use Rattle.run.specs.Ground.{raised, seedLast, snappedBox, distanceFrom, runInput}
 use Rattle.run.proofs.Values.{Fair}
 use Rattle.run.proofs.Steps.{around-on}
 
@@ -48,8 +48,8 @@ module _ (g : Grid) (some : (a : Axis) → 0 < countOn a g) where
   snap-on Y p = cell-lt (countOn Y g) (floorOn Y g p) (some Y)
   snap-on Z p = cell-lt (countOn Z g) (floorOn Z g p) (some Z)
 
-  pub last-inside : (high : Point) → Inside g (lastOf g high)
-  unfolding lastOf
+  pub last-inside : (high : Point) → Inside g (seedLast g high)
+  unfolding seedLast
   last-inside high =
       record {
         x-below = raised-on X high (cellOn X (snapCell g high)) (snap-on X high);
@@ -57,8 +57,8 @@ module _ (g : Grid) (some : (a : Axis) → 0 < countOn a g) where
         z-below = raised-on Z high (cellOn Z (snapCell g high)) (snap-on Z high);
       }
 
-  pub box-inside : (t : Corners) → Inside g (boxOf g t .high)
-  unfolding boxOf
+  pub box-inside : (t : Corners) → Inside g (snappedBox g t .high)
+  unfolding snappedBox
   box-inside t = last-inside _
 
 -- ---- a distance has no sign bit
@@ -75,8 +75,8 @@ distance-unsigned g t c h = root-distance _ (dot-self _ (root-number _ h))
 
 -- ---- so a job's ground is fair
 
-pub fair-ground : (g : Grid) (m : Mesh) (room limit : ℕ) → ((a : Axis) → 0 < countOn a g) → length (trianglesIn m) ≤ none → Fair (groundOf g m room limit)
-unfolding groundOf
+pub fair-ground : (g : Grid) (m : Mesh) (room limit : ℕ) → ((a : Axis) → 0 < countOn a g) → length (trianglesIn m) ≤ none → Fair (runInput g m room limit)
+unfolding runInput
 fair-ground g m room limit some few =
     record {
       few = few;
@@ -85,8 +85,8 @@ fair-ground g m room limit some few =
       boxes-on = boxes-on;
     }
   where
-    boxes-on : (k x y z : ℕ) → k < length (trianglesIn m) → x ≤ boxOf g (cornersAt m k) .high .x → y ≤ boxOf g (cornersAt m k) .high .y → z ≤ boxOf g (cornersAt m k) .high .z
-        → indexOf g (cell x y z) < total g
+    boxes-on : (k x y z : ℕ) → k < length (trianglesIn m) → x ≤ snappedBox g (cornersAt m k) .high .x → y ≤ snappedBox g (cornersAt m k) .high .y → z ≤ snappedBox g (cornersAt m k) .high .z
+        → indexOf g (cellNumbered x y z) < total g
     boxes-on k x y z l a b c =
         let w = box-inside g some (cornersAt m k) in
         index-below (record { x-below = omega (arith, w .x-below); y-below = omega (arith, w .y-below); z-below = omega (arith, w .z-below) })

@@ -10,9 +10,9 @@ use Rattle.lists.specs.Turns.{Turn, goes, refuses, andThen}
 use Rattle.lists.specs.OnlyBy.{OnlyBy}
 use Rattle.lists.proofs.OnlyBy.{only-if, only-then, only-turns, only-between}
 use Rattle.queue.specs.declared.Entry.{Entry}
-use Rattle.run.specs.Run.{Ground, Place, off, at, State, bare, held, named, entry, takes, offerAt, offer, nothingElse, seedLine, seedPlane, seedTriangle, seeding, queued, queue, queueCell, queueing, spreadTo, spreadAround, taken, takeFirst, mayStop, spreading, run}
+use Rattle.run.specs.Run.{RunInput, Place, off, at, State, atFirst, held, named, entry, takes, offerAt, offer, nothingElse, seedLine, seedPlane, seedTriangle, seeding, queued, queue, queueCell, queueing, spreadTo, spreadAround, taken, takeFirst, limitReached, spreading, run}
 
-module _ (set : ℕ → Type 0) (g : Ground) where
+module _ (set : ℕ → Type 0) (g : RunInput) where
   -- 6 at each distance, and what else a cell does that takes the triangle
   offer-by : set 6 → (also : Entry → State → Turn State) → ((e : Entry) (s : State) → OnlyBy set (also e s))
       → (k c : ℕ) (s : State) → OnlyBy set (offer g also k c s)
@@ -25,7 +25,7 @@ module _ (set : ℕ → Type 0) (g : Ground) where
   pub seeding-by : set 6 → OnlyBy set (seeding g)
   unfolding seeding seedTriangle seedPlane seedLine
   seeding-by six =
-      only-turns set (seedTriangle g) (g .triangles) (bare (g .cells))
+      only-turns set (seedTriangle g) (g .triangles) (atFirst (g .cells))
       (λ k s. only-between set (λ x. seedPlane g k x) (g .box k .low .x) (g .box k .high .x + 1) s
       (λ x t. only-between set (λ y. seedLine g k x y) (g .box k .low .y) (g .box k .high .y + 1) t
       (λ y u. only-between set (λ z. offer g nothingElse k (g .index x y z)) (g .box k .low .z) (g .box k .high .z + 1) u
@@ -53,10 +53,10 @@ module _ (set : ℕ → Type 0) (g : Ground) where
 
     -- 8 before each pop
     pub spreading-by : set 8 → (left : ℕ) (s : State) → OnlyBy set (spreading g left s)
-    unfolding spreading takeFirst mayStop
+    unfolding spreading takeFirst limitReached
     spreading-by eight zero s = stop (s .waiting)
       where
-        stop : (w : List Entry) → OnlyBy set (mayStop w s)
+        stop : (w : List Entry) → OnlyBy set (limitReached w s)
         stop [] = tt
         stop (e ∷ w) = eight
     spreading-by eight (suc left) s = first (spreading-by eight left) (s .waiting)

@@ -14,7 +14,7 @@ use Rattle.lists.specs.Turns.{Turn, goes, refuses, andThen}
 use Rattle.lists.proofs.Turns.{then-went}
 use Rattle.lists.proofs.Made.{goes-same}
 use Rattle.queue.specs.declared.Entry.{Entry}
-use Rattle.run.specs.Run.{Ground, State, held, named, entry, takes, offerAt, offer, queued, queue, queueCell, taken, spreadAround, takeFirst, mayStop, spreading, seeding, queueing, run}
+use Rattle.run.specs.Run.{RunInput, State, held, named, entry, takes, offerAt, offer, queued, queue, queueCell, taken, spreadAround, takeFirst, limitReached, spreading, seeding, queueing, run}
 
 refused : {S : Type 0} {n : ℕ} {s : S} → refuses n ≡ goes s → ⊥
 refused e = let z : _≡_ {A = ℕ} 0 1 = cc in omega arith
@@ -26,7 +26,7 @@ pub data Offer (also : Entry → State → Turn State) (k c : ℕ) (d : Float) (
   passes : isNan d ≡ false → (d ≺ held s c) ≡ false → t ≡ s → Offer also k c d s t
   takesIt : isNan d ≡ false → (d ≺ held s c) ≡ true → also (entry d c k) (takes c k d s) ≡ goes t → Offer also k c d s t
 
-pub offer-went : (g : Ground) (also : Entry → State → Turn State) (k c : ℕ) (s t : State) → offer g also k c s ≡ goes t → Offer also k c (g .distance k c) s t
+pub offer-went : (g : RunInput) (also : Entry → State → Turn State) (k c : ℕ) (s t : State) → offer g also k c s ≡ goes t → Offer also k c (g .distance k c) s t
 unfolding offer offerAt
 offer-went g also k c s t h = number (isNan d) refl h
   where
@@ -43,11 +43,11 @@ offer-went g also k c s t h = number (isNan d) refl h
 
 -- ---- a queueing
 
-pub record Queued (g : Ground) (e : Entry) (s t : State) : Type 0 where
+pub record Queued (g : RunInput) (e : Entry) (s t : State) : Type 0 where
   pub room : length (s .waiting) < g .room
   pub is : t ≡ queued g e s
 
-pub queue-went : (g : Ground) (e : Entry) (s t : State) → queue g e s ≡ goes t → Queued g e s t
+pub queue-went : (g : RunInput) (e : Entry) (s t : State) → queue g e s ≡ goes t → Queued g e s t
 unfolding queue
 queue-went g e s t h = go (ltb (length (s .waiting)) (g .room)) refl h
   where
@@ -55,11 +55,11 @@ queue-went g e s t h = go (ltb (length (s .waiting)) (g .room)) refl h
     go true l w = record { room = ltb-true (length (s .waiting)) (g .room) l; is = sym (goes-same w) }
     go false l w = absurd (refused w)
 
-pub data QueuedCell (g : Ground) (c : ℕ) (s t : State) : Type 0 where
+pub data QueuedCell (g : RunInput) (c : ℕ) (s t : State) : Type 0 where
   notBelow : (held s c ≺ fMax) ≡ false → t ≡ s → QueuedCell g c s t
   below : (held s c ≺ fMax) ≡ true → Queued g (entry (held s c) c (named s c)) s t → QueuedCell g c s t
 
-pub queueCell-went : (g : Ground) (c : ℕ) (s t : State) → queueCell g c s ≡ goes t → QueuedCell g c s t
+pub queueCell-went : (g : RunInput) (c : ℕ) (s t : State) → queueCell g c s ≡ goes t → QueuedCell g c s t
 unfolding queueCell
 queueCell-went g c s t h = go (held s c ≺ fMax) refl h
   where
@@ -70,15 +70,15 @@ queueCell-went g c s t h = go (held s c ≺ fMax) refl h
 -- ---- a pop
 
 -- with so many pops left, the run went on from s to its end t: nothing waits, or the first was taken and went round
-pub data Spread (g : Ground) (left : ℕ) (s t : State) : Type 0 where
+pub data Spread (g : RunInput) (left : ℕ) (s t : State) : Type 0 where
   over : s .waiting ≡ [] → t ≡ s → Spread g left s t
   pops : (e : Entry) (w : List Entry) (n : ℕ) (u : State) → s .waiting ≡ e ∷ w → left ≡ suc n → spreadAround g e (taken w s) ≡ goes u → spreading g n u ≡ goes t → Spread g left s t
 
-pub spreading-went : (g : Ground) (left : ℕ) (s t : State) → spreading g left s ≡ goes t → Spread g left s t
-unfolding spreading takeFirst mayStop
+pub spreading-went : (g : RunInput) (left : ℕ) (s t : State) → spreading g left s ≡ goes t → Spread g left s t
+unfolding spreading takeFirst limitReached
 spreading-went g zero s t h = go (s .waiting) refl h
   where
-    go : (l : List Entry) → s .waiting ≡ l → mayStop l s ≡ goes t → Spread g 0 s t
+    go : (l : List Entry) → s .waiting ≡ l → limitReached l s ≡ goes t → Spread g 0 s t
     go [] e w = over e (sym (goes-same w))
     go (x ∷ l) e w = absurd (refused w)
 spreading-went g (suc n) s t h = go (s .waiting) refl h
@@ -90,14 +90,14 @@ spreading-went g (suc n) s t h = go (s .waiting) refl h
         pops x l n (p .0) e refl (p .1) (p .2)
 
 -- where an entry waits the run went on by taking the first
-pub record Popped (g : Ground) (e : Entry) (w : List Entry) (s t : State) : Type 0 where
+pub record Popped (g : RunInput) (e : Entry) (w : List Entry) (s t : State) : Type 0 where
   pub left : ℕ
   pub after : State
   pub around : spreadAround g e (taken w s) ≡ goes after
   pub later : spreading g left after ≡ goes t
 
-pub spreading-pops : (g : Ground) (left : ℕ) (e : Entry) (w : List Entry) (s t : State) → s .waiting ≡ e ∷ w → spreading g left s ≡ goes t → Popped g e w s t
-unfolding spreading takeFirst mayStop
+pub spreading-pops : (g : RunInput) (left : ℕ) (e : Entry) (w : List Entry) (s t : State) → s .waiting ≡ e ∷ w → spreading g left s ≡ goes t → Popped g e w s t
+unfolding spreading takeFirst limitReached
 spreading-pops g zero e w s t q h = absurd (refused (rw q at h))
 spreading-pops g (suc n) e w s t q h =
     let p = then-went (spreadAround g e (taken w s)) (spreading g n) t (rw q at h) in
@@ -105,14 +105,14 @@ spreading-pops g (suc n) e w s t q h =
 
 -- ---- the whole run
 
-pub record Ran (g : Ground) (t : State) : Type 0 where
+pub record Ran (g : RunInput) (t : State) : Type 0 where
   pub seeded : State
   pub queued-all : State
   pub by-seeding : seeding g ≡ goes seeded
   pub by-queueing : queueing g seeded ≡ goes queued-all
   pub by-spreading : spreading g (g .limit) queued-all ≡ goes t
 
-pub run-went : (g : Ground) (t : State) → run g ≡ goes t → Ran g t
+pub run-went : (g : RunInput) (t : State) → run g ≡ goes t → Ran g t
 unfolding run
 run-went g t h =
     let a = then-went (seeding g) (λ s. andThen (queueing g s) (spreading g (g .limit))) t h in

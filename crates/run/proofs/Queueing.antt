@@ -13,14 +13,14 @@ use Rattle.lists.specs.Turns.{goes, turns}
 use Rattle.lists.proofs.Turns.{turns-keep}
 use Rattle.queue.specs.declared.Entry.{Entry}
 use Rattle.queue.proofs.Meaning.{in-insert, still-in, from-insert}
-use Rattle.run.specs.Run.{Ground, State, held, named, entry, queued, queueCell, queueing}
+use Rattle.run.specs.Run.{RunInput, State, held, named, entry, queued, queueCell, queueing}
 use Rattle.run.specs.Good.{bits, Waits, Differ, Good}
 use Rattle.run.proofs.Values.{Fair, has-named, has-below}
 use Rattle.run.proofs.Offers.{Queued, QueuedCell, notBelow, below, queueCell-went}
 use Rattle.run.proofs.Waiting.{good-queued, WaitsFor, waits-for-on}
 
 -- from s, where nothing waits, the cells below i have been queued, which gives t
-pub record QueuedTo (g : Ground) (s : State) (i : ℕ) (t : State) : Type 0 where
+pub record QueuedTo (g : RunInput) (s : State) (i : ℕ) (t : State) : Type 0 where
   pub good : Good g t
   pub field-same : t .field ≡ s .field
   pub names-same : t .names ≡ s .names
@@ -29,7 +29,7 @@ pub record QueuedTo (g : Ground) (s : State) (i : ℕ) (t : State) : Type 0 wher
   pub names-it : (x : Entry) → List·Memᴰ x (t .waiting) → named t (x .cell) ≡ x .triangle
   pub each : (c : ℕ) → c < i → named t c < g .triangles → WaitsFor t c (named t c)
 
-module _ (g : Ground) (F : Fair g) (s : State) where
+module _ (g : RunInput) (F : Fair g) (s : State) where
   -- cell i is queued
   module _ (i : ℕ) (u : State) (il : i < g .cells) (P : QueuedTo g s i u) (b : (held u i ≺ fMax) ≡ true) where
     new-waits : Waits g (u .field) (entry (held u i) i (named u i))

@@ -9,8 +9,8 @@ use mathlib.Core.List.{[], List·Memᴰ, List·Memᴰ·not-nil}
 use lib.ListN.{getD, set, replicate, getD-replicate}
 use Rattle.lists.specs.Turns.{Turn, goes}
 use Rattle.lists.proofs.Made.{goes-same, Made, turns-lead, turns-made, between-lead, between-made}
-use Rattle.run.specs.Run.{Ground, State, Box, none, bare, named, offer, nothingElse, seedLine, seedPlane, seedTriangle, seeding}
-use Rattle.run.specs.Good.{Sound, Falls, Apart, Good}
+use Rattle.run.specs.Run.{RunInput, State, Box, none, atFirst, named, offer, nothingElse, seedLine, seedPlane, seedTriangle, seeding}
+use Rattle.run.specs.Good.{FieldSound, Falls, Apart, Good}
 use Rattle.run.proofs.Values.{Fair, Met, met-on, Took, sound-bare, took, passes-met}
 use Rattle.run.proofs.Offers.{Offer, passes, takesIt, offer-went}
 
@@ -26,7 +26,7 @@ pub record InBox (b : Box) (x y z : ℕ) : Type 0 where
   pub on-z : From (b .low .z) (b .high .z) z
 
 -- cell c is in the snapped box of triangle k
-pub record InBoxOf (g : Ground) (c k : ℕ) : Type 0 where
+pub record InBoxOf (g : RunInput) (c k : ℕ) : Type 0 where
   pub x : ℕ
   pub y : ℕ
   pub z : ℕ
@@ -34,8 +34,8 @@ pub record InBoxOf (g : Ground) (c k : ℕ) : Type 0 where
   pub is : c ≡ g .index x y z
 
 -- from s to t values only fall and the queue is left alone
-pub record Seeds (g : Ground) (s t : State) : Type 0 where
-  pub sound : Sound g (t .field) (t .names)
+pub record Seeds (g : RunInput) (s t : State) : Type 0 where
+  pub sound : FieldSound g (t .field) (t .names)
   pub falls : Falls g (s .field) (t .field)
   pub waiting-same : t .waiting ≡ s .waiting
   pub pops-same : t .pops ≡ s .pops
@@ -44,13 +44,13 @@ pub record Seeds (g : Ground) (s t : State) : Type 0 where
   pub boxed : (c : ℕ) → (named t c ≡ named s c) ⊎ InBoxOf g c (named t c)
 
 -- where the state before is sound
-abbrev Leads : Ground → State → State → Type 0
-Leads g s t = Sound g (s .field) (s .names) → Seeds g s t
+abbrev Leads : RunInput → State → State → Type 0
+Leads g s t = FieldSound g (s .field) (s .names) → Seeds g s t
 
-stays : (g : Ground) (s : State) → Leads g s s
+stays : (g : RunInput) (s : State) → Leads g s s
 stays g s S = record { sound = S; falls = λ c l. omega arith; waiting-same = refl; pops-same = refl; peak-same = refl; boxed = λ c. inl refl }
 
-on : (g : Ground) (s t u : State) → Leads g s t → Leads g t u → Leads g s u
+on : (g : RunInput) (s t u : State) → Leads g s t → Leads g t u → Leads g s u
 on g s t u p q S =
     let a = p S in
     let b = q (a .sound) in
@@ -69,12 +69,12 @@ on g s t u p q S =
     boxed c (inl e) (inr n) = inr (subst (InBoxOf g c) (sym e) n)
 
 -- an offer leads on, and the cell has then met the triangle
-pub record Seeded (g : Ground) (k c : ℕ) (s t : State) : Type 0 where
+pub record Seeded (g : RunInput) (k c : ℕ) (s t : State) : Type 0 where
   pub seeds : Seeds g s t
   pub met : Met g (t .field) k c
 
-module _ (g : Ground) (F : Fair g) where
-  offered : (k c : ℕ) (s t : State) → k < g .triangles → c < g .cells → InBoxOf g c k → Sound g (s .field) (s .names) → offer g nothingElse k c s ≡ goes t → Seeded g k c s t
+module _ (g : RunInput) (F : Fair g) where
+  offered : (k c : ℕ) (s t : State) → k < g .triangles → c < g .cells → InBoxOf g c k → FieldSound g (s .field) (s .names) → offer g nothingElse k c s ≡ goes t → Seeded g k c s t
   offered k c s t kl cl B S h = go (offer-went g nothingElse k c s t h)
     where
       go : Offer nothingElse k c (g .distance k c) s t → Seeded g k c s t
@@ -113,7 +113,7 @@ module _ (g : Ground) (F : Fair g) where
     abbrev Cell-offer : ℕ → ℕ → ℕ → State → Turn State
     Cell-offer x y z = offer g nothingElse k (g .index x y z)
 
-    offer-seeds : (x y z : ℕ) (s t : State) → OnX x → OnY y → OnZ z → Cell-offer x y z s ≡ goes t → Sound g (s .field) (s .names) → Seeded g k (g .index x y z) s t
+    offer-seeds : (x y z : ℕ) (s t : State) → OnX x → OnY y → OnZ z → Cell-offer x y z s ≡ goes t → FieldSound g (s .field) (s .names) → Seeded g k (g .index x y z) s t
     offer-seeds x y z s t a b c h S =
         offered k (g .index x y z) s t kl (F .boxes-on k x y z kl (a .high) (b .high) (c .high))
         (record { x = x; y = y; z = z; in-box = record { on-x = a; on-y = b; on-z = c }; is = refl })
@@ -149,7 +149,7 @@ module _ (g : Ground) (F : Fair g) where
     module _ (x y z : ℕ) (b : InBox (g .box k) x y z) where
       -- on the way from s to t cell (x, y, z) has met triangle k
       abbrev Meets : State → State → Type 0
-      Meets s t = Sound g (s .field) (s .names) → Met g (t .field) k (g .index x y z)
+      Meets s t = FieldSound g (s .field) (s .names) → Met g (t .field) k (g .index x y z)
 
       -- a turn that met it was made, and what follows leads on
       through-made : (f : ℕ → State → Turn State) (i : ℕ) (s t : State) → Made (Leads g) f i s t → ((u v : State) → f i u ≡ goes v → Leads g u v)
@@ -196,20 +196,20 @@ module _ (g : Ground) (F : Fair g) where
   all-lead : (k : ℕ) (s t : State) → k < g .triangles → seedTriangle g k s ≡ goes t → Leads g s t
   all-lead k s t kl h = triangle-leads k kl s t h
 
-  seeding-leads : (s : State) → seeding g ≡ goes s → Seeds g (bare (g .cells)) s
-  unfolding seeding bare
-  seeding-leads s h = turns-lead (Leads g) (stays g) (on g) (seedTriangle g) (g .triangles) (bare (g .cells)) s (λ i u v l. all-lead i u v l) h (sound-bare g)
+  seeding-leads : (s : State) → seeding g ≡ goes s → Seeds g (atFirst (g .cells)) s
+  unfolding seeding atFirst
+  seeding-leads s h = turns-lead (Leads g) (stays g) (on g) (seedTriangle g) (g .triangles) (atFirst (g .cells)) s (λ i u v l. all-lead i u v l) h (sound-bare g)
 
   pub seeding-empty : (s : State) → seeding g ≡ goes s → s .waiting ≡ []
-  unfolding bare
+  unfolding atFirst
   seeding-empty s h = seeding-leads s h .waiting-same
 
   pub seeding-pops : (s : State) → seeding g ≡ goes s → s .pops ≡ 0
-  unfolding bare
+  unfolding atFirst
   seeding-pops s h = seeding-leads s h .pops-same
 
   pub seeding-good : (s : State) → seeding g ≡ goes s → Good g s
-  unfolding bare
+  unfolding atFirst
   seeding-good s h =
       let p = seeding-leads s h in
       record {
@@ -222,7 +222,7 @@ module _ (g : Ground) (F : Fair g) where
 
   -- a cell names only a triangle whose snapped box it is in
   pub seeding-boxed : (c : ℕ) (s : State) → c < g .cells → named s c < g .triangles → seeding g ≡ goes s → InBoxOf g c (named s c)
-  unfolding bare
+  unfolding atFirst
   seeding-boxed c s l n h = go (seeding-leads s h .boxed c)
     where
       go : (named s c ≡ getD (replicate (g .cells) none) c 0) ⊎ InBoxOf g c (named s c) → InBoxOf g c (named s c)
@@ -231,10 +231,10 @@ module _ (g : Ground) (F : Fair g) where
 
   -- every cell of a snapped box has met the triangle
   pub seeding-meets : (k x y z : ℕ) (s : State) → k < g .triangles → InBox (g .box k) x y z → seeding g ≡ goes s → Met g (s .field) k (g .index x y z)
-  unfolding seeding bare
+  unfolding seeding atFirst
   seeding-meets k x y z s kl b h =
-      through-made k kl x y z b (seedTriangle g) k (bare (g .cells)) s
-      (turns-made (Leads g) (stays g) (on g) (seedTriangle g) k (g .triangles) (bare (g .cells)) s kl (λ i u v l. all-lead i u v l) h)
+      through-made k kl x y z b (seedTriangle g) k (atFirst (g .cells)) s
+      (turns-made (Leads g) (stays g) (on g) (seedTriangle g) k (g .triangles) (atFirst (g .cells)) s kl (λ i u v l. all-lead i u v l) h)
       (λ u v w. triangle-leads k kl u v w)
       (triangle-meets k kl x y z b)
       (sound-bare g)

@@ -9,38 +9,38 @@ use mathlib.Core.List.{List, [], _∷_, List·Memᴰ, List·Memᴰ·cases-cons, 
 use Rattle.lists.specs.Turns.{Turn, goes, turns}
 use Rattle.lists.proofs.Made.{goes-same, turns-lead, turns-rest, turns-made}
 use Rattle.queue.specs.declared.Entry.{Entry}
-use Rattle.run.specs.Run.{Ground, Place, off, at, State, named, taken, spreadTo, spreadAround, spreading}
+use Rattle.run.specs.Run.{RunInput, Place, off, at, State, named, taken, spreadTo, spreadAround, spreading}
 use Rattle.run.specs.Good.{Falls, Waits, Good}
 use Rattle.run.proofs.Values.{Fair, Met, met-on}
 use Rattle.run.proofs.Offers.{Spread, over, pops, spreading-went}
 use Rattle.run.proofs.Waiting.{good-taken, Onward, onward-stays, onward-on, after-offer}
 
 -- the turns of an entry that is taken
-abbrev pub turnOf : Ground → Entry → ℕ → State → Turn State
+abbrev pub turnOf : RunInput → Entry → ℕ → State → Turn State
 turnOf g e j = spreadTo g e (g .around (e .cell) j)
 
 -- a good state leads to a good state
-pub record Led (g : Ground) (s t : State) : Type 0 where
+pub record Led (g : RunInput) (s t : State) : Type 0 where
   pub good : Good g t
   pub onward : Onward g s t
 
-abbrev Leads : Ground → State → State → Type 0
+abbrev Leads : RunInput → State → State → Type 0
 Leads g s t = Good g s → Led g s t
 
-stays : (g : Ground) (s : State) → Leads g s s
+stays : (g : RunInput) (s : State) → Leads g s s
 stays g s G = record { good = G; onward = onward-stays g s }
 
-on : (g : Ground) (s t u : State) → Leads g s t → Leads g t u → Leads g s u
+on : (g : RunInput) (s t u : State) → Leads g s t → Leads g t u → Leads g s u
 on g s t u p q G =
     let a = p G in
     let b = q (a .good) in
     record { good = b .good; onward = onward-on g s t u (a .onward) (b .onward) }
 
 -- every cell around c has met triangle k
-abbrev pub Served : Ground → State → ℕ → ℕ → Type 0
+abbrev pub Served : RunInput → State → ℕ → ℕ → Type 0
 Served g s c k = (j d : ℕ) → j < 27 → g .around c j ≡ at d → Met g (s .field) k d
 
-module _ (g : Ground) (F : Fair g) where
+module _ (g : RunInput) (F : Fair g) where
   pub served-on : (s t : State) (c k : ℕ) → c < g .cells → Falls g (s .field) (t .field) → Served g s c k → Served g t c k
   served-on s t c k l f p j d m e = met-on g (s .field) (t .field) k d (F .steps-on c j d l e) f (p j d m e)
 

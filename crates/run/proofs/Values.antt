@@ -16,11 +16,11 @@ use Rattle.float.specs.Arith.{_≺_, fMax}
 use Rattle.float.specs.Distance.{Distance}
 use Rattle.float.proofs.Order.{bits-distance, bits-lt, distance-lt}
 use Rattle.lists.proofs.Table.{stored-at}
-use Rattle.run.specs.Run.{Ground, at, none}
-use Rattle.run.specs.Good.{bits, Holds, isBare, has, Sound, Falls}
+use Rattle.run.specs.Run.{RunInput, at, none}
+use Rattle.run.specs.Good.{bits, CellHolds, isBare, has, FieldSound, Falls}
 
 -- what the laws of a run ask of what it is told
-pub record Fair (g : Ground) : Type 0 where
+pub record Fair (g : RunInput) : Type 0 where
   -- no triangle has the name of none
   pub few : g .triangles ≤ none
   -- a distance that is no NaN has no sign bit
@@ -29,26 +29,26 @@ pub record Fair (g : Ground) : Type 0 where
   pub steps-on : (c j d : ℕ) → c < g .cells → g .around c j ≡ at d → d < g .cells
   pub boxes-on : (k x y z : ℕ) → k < g .triangles → x ≤ g .box k .high .x → y ≤ g .box k .high .y → z ≤ g .box k .high .z → g .index x y z < g .cells
 
-pub falls-on : (g : Ground) (a b c : List Float) → Falls g a b → Falls g b c → Falls g a c
+pub falls-on : (g : RunInput) (a b c : List Float) → Falls g a b → Falls g b c → Falls g a c
 falls-on g a b c p q i l = omega (arith, p i l, q i l)
 
 -- triangle k was met at cell c: its distance is a number, and the cell holds no more
-pub record Met (g : Ground) (field : List Float) (k c : ℕ) : Type 0 where
+pub record Met (g : RunInput) (field : List Float) (k c : ℕ) : Type 0 where
   pub number : isNan (g .distance k c) ≡ false
   pub least : bits (getD field c nan) ≤ bits (g .distance k c)
 
-pub met-on : (g : Ground) (a b : List Float) (k c : ℕ) → c < g .cells → Falls g a b → Met g a k c → Met g b k c
+pub met-on : (g : RunInput) (a b : List Float) (k c : ℕ) → c < g .cells → Falls g a b → Met g a k c → Met g b k c
 met-on g a b k c l p m = record { number = m .number; least = omega (arith, p c l, m .least) }
 
 -- triangle k, whose distance is a number, is nearer to cell c than what the cell holds
-pub record Nearer (g : Ground) (field : List Float) (k c : ℕ) : Type 0 where
+pub record Nearer (g : RunInput) (field : List Float) (k c : ℕ) : Type 0 where
   pub number : isNan (g .distance k c) ≡ false
   pub less : (g .distance k c ≺ getD field c nan) ≡ true
 
 -- cell c takes triangle k, in place of what it holds: it holds less, and the other cells' names are kept
-pub record Took (g : Ground) (field : List Float) (names : List ℕ) (k c : ℕ) : Type 0 where
+pub record Took (g : RunInput) (field : List Float) (names : List ℕ) (k c : ℕ) : Type 0 where
   pub less : bits (g .distance k c) < bits (getD field c nan)
-  pub sound : Sound g (set field c (g .distance k c)) (set names c k)
+  pub sound : FieldSound g (set field c (g .distance k c)) (set names c k)
   pub falls : Falls g field (set field c (g .distance k c))
   pub met : Met g (set field c (g .distance k c)) k c
   pub name : (i : ℕ) → i ≡ c → getD (set names c k) i 0 ≡ k
@@ -64,7 +64,7 @@ max-not-less = bits-lt 0x7f7f_ffff 0x7f7f_ffff (lit≤ tt) (lit≤ tt) ∙ le-lt
 
 -- ---- a state at the start
 
-pub sound-bare : (g : Ground) → Sound g (replicate (g .cells) fMax) (replicate (g .cells) none)
+pub sound-bare : (g : RunInput) → FieldSound g (replicate (g .cells) fMax) (replicate (g .cells) none)
 sound-bare g =
     record {
       field-long = length-replicate (g .cells) fMax;
@@ -74,8 +74,8 @@ sound-bare g =
 
 -- ---- what a sound state says of a cell
 
-module _ (g : Ground) (F : Fair g) where
-  pub holds-distance : {d : Float} {k c : ℕ} → Holds g d k c → Distance d
+module _ (g : RunInput) (F : Fair g) where
+  pub holds-distance : {d : Float} {k c : ℕ} → CellHolds g d k c → Distance d
   holds-distance (isBare e n) = subst Distance (sym e) max-distance
   holds-distance {k = k} {c = c} (has l e n b) = subst Distance (sym e) (F .distances k c (sym (ap isNan e) ∙ n))
 
@@ -86,38 +86,38 @@ module _ (g : Ground) (F : Fair g) where
   not-less-bits x y p q h = ltb-false (bits x) (bits y) (sym (distance-lt x y p q) ∙ h)
 
   -- no cell holds more than f32::MAX
-  pub holds-at-most-max : {d : Float} {k c : ℕ} → Holds g d k c → bits d ≤ bits fMax
+  pub holds-at-most-max : {d : Float} {k c : ℕ} → CellHolds g d k c → bits d ≤ bits fMax
   holds-at-most-max (isBare e n) = rw e (omega arith)
   holds-at-most-max {d} {k} {c} (has l e n b) = omega (arith, less-bits d fMax (holds-distance {d = d} {k = k} {c = c} (has l e n b)) max-distance b)
 
   -- a cell that names a triangle has it
-  pub has-named : {d : Float} {k c : ℕ} → Holds g d k c → k < g .triangles → (d ≡ g .distance k c) × (isNan d ≡ false) × ((d ≺ fMax) ≡ true)
+  pub has-named : {d : Float} {k c : ℕ} → CellHolds g d k c → k < g .triangles → (d ≡ g .distance k c) × (isNan d ≡ false) × ((d ≺ fMax) ≡ true)
   has-named (isBare e n) l = absurd (omega (arith, F .few))
   has-named (has m e n b) l = (e, n, b)
 
   -- and so does one below f32::MAX
-  pub has-below : {d : Float} {k c : ℕ} → Holds g d k c → (d ≺ fMax) ≡ true → (k < g .triangles) × (d ≡ g .distance k c) × (isNan d ≡ false)
+  pub has-below : {d : Float} {k c : ℕ} → CellHolds g d k c → (d ≺ fMax) ≡ true → (k < g .triangles) × (d ≡ g .distance k c) × (isNan d ≡ false)
   has-below (isBare e n) b = absurd (true≢false (sym b ∙ ap (λ (x : Float). x ≺ fMax) e ∙ max-not-less))
   has-below (has m e n b) h = (m, e, n)
 
   -- ---- a cell takes a triangle
 
   -- what is below a cell's value is below f32::MAX
-  below-max : {v : Float} {n c : ℕ} → Holds g v n c → (d : Float) → Distance d → (d ≺ v) ≡ true → (d ≺ fMax) ≡ true
+  below-max : {v : Float} {n c : ℕ} → CellHolds g v n c → (d : Float) → Distance d → (d ≺ v) ≡ true → (d ≺ fMax) ≡ true
   below-max (isBare e n) d p h = ap (λ (x : Float). d ≺ x) (sym e) ∙ h
   below-max {v} {n} {c} (has l e m b) d p h =
       let q : Distance v = holds-distance {d = v} {k = n} {c = c} (has l e m b) in
       distance-lt d fMax p max-distance
       ∙ lt-ltb (bits d) (bits fMax) (omega (arith, less-bits d v p q h, less-bits v fMax q max-distance b))
 
-  module _ (field : List Float) (names : List ℕ) (k c : ℕ) (S : Sound g field names) (kl : k < g .triangles) (cl : c < g .cells) (N : Nearer g field k c) where
+  module _ (field : List Float) (names : List ℕ) (k c : ℕ) (S : FieldSound g field names) (kl : k < g .triangles) (cl : c < g .cells) (N : Nearer g field k c) where
     takes-less : bits (g .distance k c) < bits (getD field c nan)
     takes-less = less-bits (g .distance k c) (getD field c nan) (F .distances k c (N .number)) (holds-distance (S .each c cl)) (N .less)
 
     stored : (i : ℕ) → i ≡ c → getD (set field c (g .distance k c)) i nan ≡ g .distance k c
     stored i e = stored-at nan field c i (g .distance k c) (omega (arith, S .field-long)) e
 
-    takes-sound : Sound g (set field c (g .distance k c)) (set names c k)
+    takes-sound : FieldSound g (set field c (g .distance k c)) (set names c k)
     takes-sound =
         record {
           field-long = length-set field c (g .distance k c) ∙ S .field-long;
@@ -125,7 +125,7 @@ module _ (g : Ground) (F : Fair g) where
           each = λ i l. at-cell i l (ℕ-discrete i c);
         }
       where
-        at-cell : (i : ℕ) → i < g .cells → Dec (i ≡ c) → Holds g (getD (set field c (g .distance k c)) i nan) (getD (set names c k) i 0) i
+        at-cell : (i : ℕ) → i < g .cells → Dec (i ≡ c) → CellHolds g (getD (set field c (g .distance k c)) i nan) (getD (set names c k) i 0) i
         at-cell i l (yes e) =
             let name = stored-at 0 names c i k (omega (arith, S .names-long)) e in
             rw (stored i e, name, e) (has kl refl (N .number) (below-max (S .each c cl) (g .distance k c) (F .distances k c (N .number)) (N .less)))
@@ -153,7 +153,7 @@ module _ (g : Ground) (F : Fair g) where
         }
 
   -- a cell that does not find a triangle smaller holds no more than its distance
-  pub passes-met : (field : List Float) (names : List ℕ) (k c : ℕ) → Sound g field names → c < g .cells → isNan (g .distance k c) ≡ false
+  pub passes-met : (field : List Float) (names : List ℕ) (k c : ℕ) → FieldSound g field names → c < g .cells → isNan (g .distance k c) ≡ false
       → (g .distance k c ≺ getD field c nan) ≡ false → Met g field k c
   passes-met field names k c S cl n h =
       record { number = n; least = not-less-bits (g .distance k c) (getD field c nan) (F .distances k c n) (holds-distance (S .each c cl)) h }

@@ -15,14 +15,14 @@ use Rattle.lists.specs.Turns.{goes}
 use Rattle.queue.specs.declared.Entry.{Entry}
 use Rattle.queue.specs.InOrder.{insert}
 use Rattle.queue.proofs.Meaning.{length-insert, in-insert, still-in, from-insert}
-use Rattle.run.specs.Run.{Ground, State, named, entry, takes, offer, queued, queue, taken}
+use Rattle.run.specs.Run.{RunInput, State, named, entry, takes, offer, queued, queue, taken}
 use Rattle.run.specs.Good.{bits, Falls, Waits, Differ, Apart, Good}
 use Rattle.run.proofs.Values.{Fair, Met, Nearer, Took, took, passes-met}
 use Rattle.run.proofs.Offers.{Offer, passes, takesIt, offer-went, Queued, queue-went}
 
 -- ---- the entries that wait
 
-pub waits-on : (g : Ground) (a b : List Float) (x : Entry) → Falls g a b → Waits g a x → Waits g b x
+pub waits-on : (g : RunInput) (a b : List Float) (x : Entry) → Falls g a b → Waits g a x → Waits g b x
 waits-on g a b x p w =
     record {
       cell-on = w .cell-on;
@@ -64,7 +64,7 @@ apart-at (x ∷ r) d (suc i) (suc j) a l m = apart-at r d i j (a .1) (le-of-suc-
 -- ---- a good state
 
 -- an entry is queued
-pub good-queued : (g : Ground) (e : Entry) (s : State) → Good g s → Waits g (s .field) e → ((z : Entry) → List·Memᴰ z (s .waiting) → Differ e z)
+pub good-queued : (g : RunInput) (e : Entry) (s : State) → Good g s → Waits g (s .field) e → ((z : Entry) → List·Memᴰ z (s .waiting) → Differ e z)
     → length (s .waiting) < g .room → Good g (queued g e s)
 good-queued g e s G w h l =
     record {
@@ -80,7 +80,7 @@ good-queued g e s G w h l =
     go x (inr m) = G .waits x m
 
 -- the first is taken
-pub good-taken : (g : Ground) (e : Entry) (w : List Entry) (s : State) → Good g s → s .waiting ≡ e ∷ w → Good g (taken w s) × Waits g (s .field) e
+pub good-taken : (g : RunInput) (e : Entry) (w : List Entry) (s : State) → Good g s → s .waiting ≡ e ∷ w → Good g (taken w s) × Waits g (s .field) e
 good-taken g e w s G q = (
   record {
     sound = G .sound;
@@ -102,7 +102,7 @@ pub record WaitsFor (s : State) (c k : ℕ) : Type 0 where
   pub of-triangle : waiting-entry .triangle ≡ k
 
 -- from s to t no cell holds more, what waits goes on waiting, and a cell that names another triangle has queued it
-pub record Onward (g : Ground) (s t : State) : Type 0 where
+pub record Onward (g : RunInput) (s t : State) : Type 0 where
   pub falls : Falls g (s .field) (t .field)
   pub keeps : (x : Entry) → List·Memᴰ x (s .waiting) → List·Memᴰ x (t .waiting)
   pub names : (c : ℕ) → (named t c ≡ named s c) ⊎ WaitsFor t c (named t c)
@@ -112,10 +112,10 @@ pub waits-for-on : {s t : State} {c k : ℕ} → ((x : Entry) → List·Memᴰ x
 waits-for-on f p =
     record { waiting-entry = p .waiting-entry; waits = f (p .waiting-entry) (p .waits); of-cell = p .of-cell; of-triangle = p .of-triangle }
 
-pub onward-stays : (g : Ground) (s : State) → Onward g s s
+pub onward-stays : (g : RunInput) (s : State) → Onward g s s
 onward-stays g s = record { falls = λ c l. omega arith; keeps = λ x m. m; names = λ c. inl refl; pops-same = refl }
 
-pub onward-on : (g : Ground) (s t u : State) → Onward g s t → Onward g t u → Onward g s u
+pub onward-on : (g : RunInput) (s t u : State) → Onward g s t → Onward g t u → Onward g s u
 onward-on g s t u p q =
     record {
       falls = λ c l. omega (arith, p .falls c l, q .falls c l);
@@ -130,14 +130,14 @@ onward-on g s t u p q =
     go c (inl e) (inr w) = inr (waits-for-on {s = t} {t = u} (q .keeps) (subst (WaitsFor t c) (sym e) w))
 
 -- what an offer of triangle k to cell c does
-pub record AfterOffer (g : Ground) (k c : ℕ) (s t : State) : Type 0 where
+pub record AfterOffer (g : RunInput) (k c : ℕ) (s t : State) : Type 0 where
   pub good : Good g t
   pub onward : Onward g s t
   pub met : Met g (t .field) k c
   -- an entry that waits was there, or its cell names its triangle
   pub new : (x : Entry) → List·Memᴰ x (t .waiting) → List·Memᴰ x (s .waiting) ⊎ (named t (x .cell) ≡ x .triangle)
 
-module _ (g : Ground) (F : Fair g) (k c : ℕ) (kl : k < g .triangles) (cl : c < g .cells) (s : State) (G : Good g s) where
+module _ (g : RunInput) (F : Fair g) (k c : ℕ) (kl : k < g .triangles) (cl : c < g .cells) (s : State) (G : Good g s) where
   -- the entry that the cell queues where it takes the triangle, and the state in between
   abbrev new : Entry
   new = entry (g .distance k c) c k

@@ -10,7 +10,7 @@ use lib.ListN.{length, getD}
 use lib.Ieee.{Float, nan, isNan, binary32, toBits}
 use Rattle.float.specs.Arith.{_≺_, fMax}
 use Rattle.queue.specs.declared.Entry.{Entry}
-use Rattle.run.specs.Run.{Ground, State, none}
+use Rattle.run.specs.Run.{RunInput, State, none}
 
 -- the number by which distances are compared, their bit pattern
 abbrev pub bits : Float → ℕ
@@ -19,24 +19,24 @@ bits d = toBits binary32 d
 -- ---- what the cells hold
 
 -- cell c, which holds d and names k, is bare or has triangle k
-pub data Holds (g : Ground) (d : Float) (k c : ℕ) : Type 0 where
-  isBare : d ≡ fMax → k ≡ none → Holds g d k c
-  has : k < g .triangles → d ≡ g .distance k c → isNan d ≡ false → (d ≺ fMax) ≡ true → Holds g d k c
+pub data CellHolds (g : RunInput) (d : Float) (k c : ℕ) : Type 0 where
+  isBare : d ≡ fMax → k ≡ none → CellHolds g d k c
+  has : k < g .triangles → d ≡ g .distance k c → isNan d ≡ false → (d ≺ fMax) ≡ true → CellHolds g d k c
 
 -- so it is of every cell
-pub record Sound (g : Ground) (field : List Float) (names : List ℕ) : Type 0 where
+pub record FieldSound (g : RunInput) (field : List Float) (names : List ℕ) : Type 0 where
   pub field-long : length field ≡ g .cells
   pub names-long : length names ≡ g .cells
-  pub each : (c : ℕ) → c < g .cells → Holds g (getD field c nan) (getD names c 0) c
+  pub each : (c : ℕ) → c < g .cells → CellHolds g (getD field c nan) (getD names c 0) c
 
 -- no cell holds more than before
-abbrev pub Falls : Ground → List Float → List Float → Type 0
+abbrev pub Falls : RunInput → List Float → List Float → Type 0
 Falls g before after = (c : ℕ) → c < g .cells → bits (getD after c nan) ≤ bits (getD before c nan)
 
 -- ---- what waits
 
 -- an entry that waits: of a cell and a triangle of the job, at its distance, and the cell holds no more
-pub record Waits (g : Ground) (field : List Float) (x : Entry) : Type 0 where
+pub record Waits (g : RunInput) (field : List Float) (x : Entry) : Type 0 where
   pub cell-on : x .cell < g .cells
   pub triangle-is : x .triangle < g .triangles
   pub number : isNan (g .distance (x .triangle) (x .cell)) ≡ false
@@ -54,8 +54,8 @@ Apart (x ∷ l) = ((y : Entry) → List·Memᴰ y l → Differ x y) × Apart l
 
 -- ---- a state
 
-pub record Good (g : Ground) (s : State) : Type 0 where
-  pub sound : Sound g (s .field) (s .names)
+pub record Good (g : RunInput) (s : State) : Type 0 where
+  pub sound : FieldSound g (s .field) (s .names)
   pub waits : (x : Entry) → List·Memᴰ x (s .waiting) → Waits g (s .field) x
   pub apart : Apart (s .waiting)
   pub in-peak : length (s .waiting) ≤ s .peak

@@ -11,7 +11,7 @@ use Rattle.point.specs.declared.Axis.the-variants.{X, Y, Z}
 use Rattle.point.specs.Point.{coordinate}
 use Rattle.grid.specs.declared.Grid.{Grid}
 use Rattle.grid.specs.declared.Cell.{Cell}
-use Rattle.grid.specs.Axes.{countOn, firstOn, sizeOn, cellOn, cell, cellBy}
+use Rattle.grid.specs.Axes.{countOn, firstOn, sizeOn, cellOn, cellNumbered, cellBy}
 use Rattle.grid.specs.Index.{indexOf, cellAt, total}
 use Rattle.grid_axis.specs.OnAxis.{centreOn}
 use Rattle.grid.specs.Place.{centreOf, snapCell}
@@ -21,7 +21,7 @@ use Rattle.squares.specs.Distance.{distance}
 use Rattle.mesh.specs.declared.Corners.{Corners}
 use Rattle.mesh.specs.Mesh.{Mesh, vertexCount, trianglesIn, cornersAt}
 use Rattle.queue.specs.Order.{orderOf}
-use Rattle.run.specs.Run.{Box, Ground}
+use Rattle.run.specs.Run.{Box, RunInput}
 use Rattle.run.specs.Steps.{aroundCell}
 
 -- ---- the snapped box of a triangle
@@ -39,14 +39,14 @@ abbrev pub raised : Axis → Grid → Point → ℕ → ℕ
 raised a g high i = if ltb i (countOn a g - 1) && (centreAt a g i ≺ coordinate a high) then i + 1 else i
 
 -- "Snap both box corners"
-unfoldable pub firstOf : Grid → Point → Cell
-firstOf g low = cellBy (λ a. lowered a g low (cellOn a (snapCell g low)))
+unfoldable pub seedFirst : Grid → Point → Cell
+seedFirst g low = cellBy (λ a. lowered a g low (cellOn a (snapCell g low)))
 
-unfoldable pub lastOf : Grid → Point → Cell
-lastOf g high = cellBy (λ a. raised a g high (cellOn a (snapCell g high)))
+unfoldable pub seedLast : Grid → Point → Cell
+seedLast g high = cellBy (λ a. raised a g high (cellOn a (snapCell g high)))
 
-unfoldable pub boxOf : Grid → Corners → Box
-boxOf g t = let b = Triangle.boxOf (t .a) (t .b) (t .c) in record { low = firstOf g (b .low); high = lastOf g (b .high) }
+unfoldable pub snappedBox : Grid → Corners → Box
+snappedBox g t = let b = Triangle.paddedBox (t .a) (t .b) (t .c) in record { low = seedFirst g (b .low); high = seedLast g (b .high) }
 
 -- ---- the distance of a triangle from a cell
 
@@ -55,13 +55,13 @@ distanceFrom g t c = distance (centreOf g c) (t .a) (t .b) (t .c)
 
 -- ---- all of it
 
-unfoldable pub groundOf : Grid → Mesh → ℕ → ℕ → Ground
-groundOf g m room limit =
+unfoldable pub runInput : Grid → Mesh → ℕ → ℕ → RunInput
+runInput g m room limit =
     record {
       cells = total g;
       triangles = length (trianglesIn m);
-      index = λ x y z. indexOf g (cell x y z);
-      box = λ k. boxOf g (cornersAt m k);
+      index = λ x y z. indexOf g (cellNumbered x y z);
+      box = λ k. snappedBox g (cornersAt m k);
       distance = λ k c. distanceFrom g (cornersAt m k) (cellAt g c);
       around = aroundCell g;
       goesFirst = orderOf (m .topology) (m .given) (m .indices) (vertexCount (m .vertices));

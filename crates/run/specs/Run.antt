@@ -24,7 +24,7 @@ pub record Box : Type 0 where
   pub high : Cell
 
 -- what the run is told
-pub record Ground : Type 0 where
+pub record RunInput : Type 0 where
   -- how many cells and how many triangles there are
   pub cells : ℕ
   pub triangles : ℕ
@@ -56,8 +56,8 @@ abbrev pub none : ℕ
 none = 0xffff_ffff
 
 -- "f32::MAX at first"
-unfoldable pub bare : ℕ → State
-bare cells = record { field = replicate cells fMax; names = replicate cells none; waiting = []; pops = 0; peak = 0 }
+unfoldable pub atFirst : ℕ → State
+atFirst cells = record { field = replicate cells fMax; names = replicate cells none; waiting = []; pops = 0; peak = 0 }
 
 -- what cell c holds, and which triangle it names
 abbrev pub held : State → ℕ → Float
@@ -80,7 +80,7 @@ takes c k d s = record { field = set (s .field) c d; names = set (s .names) c k;
 unfoldable pub offerAt : (Entry → State → Turn State) → ℕ → ℕ → Float → State → Turn State
 offerAt also k c d s = if isNan d then refuses 6 else if d ≺ held s c then also (entry d c k) (takes c k d s) else goes s
 
-unfoldable pub offer : Ground → (Entry → State → Turn State) → ℕ → ℕ → State → Turn State
+unfoldable pub offer : RunInput → (Entry → State → Turn State) → ℕ → ℕ → State → Turn State
 offer g also k c s = offerAt also k c (g .distance k c) s
 
 -- ---- 1. Seeding
@@ -90,22 +90,22 @@ abbrev pub nothingElse : Entry → State → Turn State
 nothingElse e s = goes s
 
 -- "The cells from first to last, ends included": along z, along y and z, and along all three axes
-unfoldable pub seedLine : Ground → ℕ → ℕ → ℕ → State → Turn State
+unfoldable pub seedLine : RunInput → ℕ → ℕ → ℕ → State → Turn State
 seedLine g k x y s = through (λ z. offer g nothingElse k (g .index x y z)) (g .box k .low .z) (g .box k .high .z) s
 
-unfoldable pub seedPlane : Ground → ℕ → ℕ → State → Turn State
+unfoldable pub seedPlane : RunInput → ℕ → ℕ → State → Turn State
 seedPlane g k x s = through (λ y. seedLine g k x y) (g .box k .low .y) (g .box k .high .y) s
 
-unfoldable pub seedTriangle : Ground → ℕ → State → Turn State
+unfoldable pub seedTriangle : RunInput → ℕ → State → Turn State
 seedTriangle g k s = through (λ x. seedPlane g k x) (g .box k .low .x) (g .box k .high .x) s
 
 -- "Triangles in order"
-unfoldable pub seeding : Ground → Turn State
-seeding g = turns (seedTriangle g) (g .triangles) (bare (g .cells))
+unfoldable pub seeding : RunInput → Turn State
+seeding g = turns (seedTriangle g) (g .triangles) (atFirst (g .cells))
 
 -- ---- 2. Queueing
 
-abbrev pub queued : Ground → Entry → State → State
+abbrev pub queued : RunInput → Entry → State → State
 queued g e s =
     record {
       field = s .field;
@@ -116,26 +116,26 @@ queued g e s =
     }
 
 -- refusal 7, "an entry must be queued and the queue room is full", is tested at each queueing
-unfoldable pub queue : Ground → Entry → State → Turn State
+unfoldable pub queue : RunInput → Entry → State → Turn State
 queue g e s = if ltb (length (s .waiting)) (g .room) then goes (queued g e s) else refuses 7
 
 -- "each cell below f32::MAX is one entry"
-unfoldable pub queueCell : Ground → ℕ → State → Turn State
+unfoldable pub queueCell : RunInput → ℕ → State → Turn State
 queueCell g c s = if held s c ≺ fMax then queue g (entry (held s c) c (named s c)) s else goes s
 
 -- "by cell index"
-unfoldable pub queueing : Ground → State → Turn State
+unfoldable pub queueing : RunInput → State → Turn State
 queueing g s = turns (queueCell g) (g .cells) s
 
 -- ---- 3. Spreading
 
 -- "A cell that finds it smaller takes it and queues an entry"
-unfoldable pub spreadTo : Ground → Entry → Place → State → Turn State
+unfoldable pub spreadTo : RunInput → Entry → Place → State → Turn State
 spreadTo g e off s = goes s
 spreadTo g e (at c) s = offer g (queue g) (e .triangle) c s
 
 -- "Its triangle is offered to the cells around, itself included, by a fixed table of 27 steps"
-unfoldable pub spreadAround : Ground → Entry → State → Turn State
+unfoldable pub spreadAround : RunInput → Entry → State → Turn State
 spreadAround g e s = turns (λ j. spreadTo g e (g .around (e .cell) j)) 27 s
 
 -- an entry is taken, and w are left
@@ -144,20 +144,20 @@ taken w s = record { field = s .field; names = s .names; waiting = w; pops = s .
 
 -- The first of the waiting entries is taken and spreads, and `on` follows; with none waiting the run is over. Refusal 8, "entries wait
 -- and the pops taken equal the limit", is tested before each pop.
-unfoldable pub takeFirst : Ground → (State → Turn State) → List Entry → State → Turn State
+unfoldable pub takeFirst : RunInput → (State → Turn State) → List Entry → State → Turn State
 takeFirst g on [] s = goes s
 takeFirst g on (e ∷ w) s = andThen (spreadAround g e (taken w s)) on
 
-unfoldable pub mayStop : List Entry → State → Turn State
-mayStop [] s = goes s
-mayStop (e ∷ w) s = refuses 8
+unfoldable pub limitReached : List Entry → State → Turn State
+limitReached [] s = goes s
+limitReached (e ∷ w) s = refuses 8
 
 -- with so many pops left
-unfoldable pub spreading : Ground → ℕ → State → Turn State
-spreading g zero s = mayStop (s .waiting) s
+unfoldable pub spreading : RunInput → ℕ → State → Turn State
+spreading g zero s = limitReached (s .waiting) s
 spreading g (suc left) s = takeFirst g (spreading g left) (s .waiting) s
 
 -- ---- the whole run
 
-unfoldable pub run : Ground → Turn State
+unfoldable pub run : RunInput → Turn State
 run g = andThen (seeding g) (λ s. andThen (queueing g s) (spreading g (g .limit)))

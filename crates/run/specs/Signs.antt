@@ -17,7 +17,7 @@ use Rattle.point.specs.declared.Axis.{Axis}
 use Rattle.point.specs.declared.Axis.the-variants.{X, Y, Z}
 use Rattle.grid.specs.declared.Grid.{Grid}
 use Rattle.grid.specs.declared.Cell.{Cell}
-use Rattle.grid.specs.Axes.{sizeOn, cellOn, cell}
+use Rattle.grid.specs.Axes.{sizeOn, cellOn, cellNumbered}
 use Rattle.grid.specs.Index.{cellAt, total}
 use Rattle.grid.specs.Layers.{layers, layerOf}
 use Rattle.grid.specs.Place.{centreOf}
@@ -29,9 +29,9 @@ use Rattle.mesh.specs.Mesh.{Mesh, trianglesIn, cornersAt}
 
 -- the starting cell of the line through c along the axis
 abbrev pub startOf : Axis → Cell → Cell
-startOf X c = cell 0 (c .y) (c .z)
-startOf Y c = cell (c .x) 0 (c .z)
-startOf Z c = cell (c .x) (c .y) 0
+startOf X c = cellNumbered 0 (c .y) (c .z)
+startOf Y c = cellNumbered (c .x) 0 (c .z)
+startOf Z c = cellNumbered (c .x) (c .y) 0
 
 -- the ray from there against triangle k
 unfoldable pub rayFrom : Grid → Mesh → Axis → Cell → ℕ → RayHit
@@ -93,8 +93,8 @@ abbrev pub counted : Float → Bool
 counted d = d ≺ f0
 
 -- with what weight a cell's distance is added to its row
-abbrev pub weight : Float → ℕ
-weight d = if counted d then 1 else 0
+abbrev pub rowWeight : Float → ℕ
+rowWeight d = if counted d then 1 else 0
 
 -- the weights of the cells of layer n, of those below c in the order of their index
 unfoldable pub rowBelow : (Float → ℕ) → Grid → List Float → ℕ → ℕ → ℕ
@@ -104,4 +104,4 @@ unfoldable pub rowsBy : (Float → ℕ) → Grid → List Float → List ℕ
 rowsBy w g field = table (λ n. rowBelow w g field n (total g)) (layers g)
 
 abbrev pub rows : Grid → List Float → List ℕ
-rows g field = rowsBy weight g field
+rows g field = rowsBy rowWeight g field

@@ -16,8 +16,8 @@ use Rattle.mesh.specs.Mesh.{Mesh, trianglesIn}
 use Rattle.queue.specs.declared.Entry.{Entry}
 use Rattle.queue.specs.Queue.{waiting}
 use Rattle.queue.proofs.Uses.{none-waits, how-many}
-use Rattle.run.specs.Run.{Ground, State, none, bare, seeding, queueing, spreading, run}
-use Rattle.run.specs.Ground.{groundOf}
+use Rattle.run.specs.Run.{RunInput, State, none, atFirst, seeding, queueing, spreading, run}
+use Rattle.run.specs.Ground.{runInput}
 use Rattle.run.proofs.Values.{Fair, has-below}
 use Rattle.run.proofs.Offers.{Spread, over, pops, spreading-went, run-went}
 use Rattle.run.proofs.Grounds.{fair-ground}
@@ -32,7 +32,7 @@ use Rattle.running.specs.Running.{Leaves, Fresh, seeded}
 -- ---- of any ground
 
 -- spreading ends only where nothing waits
-spreading-ends : (g : Ground) (left : ℕ) (s t : State) → spreading g left s ≡ goes t → t .waiting ≡ []
+spreading-ends : (g : RunInput) (left : ℕ) (s t : State) → spreading g left s ≡ goes t → t .waiting ≡ []
 spreading-ends g zero s t h = go (spreading-went g 0 s t h)
   where
     go : Spread g 0 s t → t .waiting ≡ []
@@ -44,7 +44,7 @@ spreading-ends g (suc left) s t h = go (λ u. spreading-ends g left u t) (spread
     go later (over q e) = ap (λ (x : State). x .waiting) e ∙ q
     go later (pops e w n u q l a b) = let same : n ≡ left = omega arith in later u (subst (λ (i : ℕ). spreading g i u ≡ goes t) same b)
 
-run-ends : (g : Ground) (t : State) → run g ≡ goes t → t .waiting ≡ []
+run-ends : (g : RunInput) (t : State) → run g ≡ goes t → t .waiting ≡ []
 run-ends g t h = let r = run-went g t h in spreading-ends g (g .limit) (r .queued-all) t (r .by-spreading)
 
 -- ---- of a job's
@@ -60,7 +60,7 @@ begun m field names ds cs ts =
 
 -- what queueing and then spreading come to, from s
 abbrev pub rest : Grid → Mesh → ℕ → ℕ → State → ℕ → Turn State
-rest g m room limit s any = andThen (queueing (groundOf g m room any) s) (spreading (groundOf g m room any) limit)
+rest g m room limit s any = andThen (queueing (runInput g m room any) s) (spreading (runInput g m room any) limit)
 
 module _ {g : Grid} {m : Mesh} where
   pub fresh-field : {field : List Float} {names ds cs ts : List ℕ} → Fresh g m field names ds cs ts → length field ≡ total g
@@ -70,51 +70,51 @@ module _ {g : Grid} {m : Mesh} where
   fresh-names f = ap length (f .names-bare) ∙ length-replicate (total g) none
 
   -- what spreading's functions tell, as a part of the run over a ground with any limit
-  pub as-left : {turn : Ground → State → Turn State} {field field′ : List Float} {names ds cs ts names′ ds′ cs′ ts′ : List ℕ} {at r : Progress}
+  pub as-left : {turn : RunInput → State → Turn State} {field field′ : List Float} {names ds cs ts names′ ds′ cs′ ts′ : List ℕ} {at r : Progress}
       → Told g m turn field names ds cs ts at field′ names′ ds′ cs′ ts′ r
-      → Leaves g m (λ any. turn (groundOf g m (length ds) any) (stateOf (orderIn m) field names ds cs ts at)) field′ names′ ds′ cs′ ts′ r
+      → Leaves g m (λ any. turn (runInput g m (length ds) any) (stateOf (orderIn m) field names ds cs ts at)) field′ names′ ds′ cs′ ts′ r
   as-left h = record { holds = h .holds; is = h .is }
 
   -- ---- queueing, then spreading
-  module _ (s : State) (room limit : ℕ) {field : List Float} {names ds cs ts : List ℕ} {p : Progress} (h : Leaves g m (λ any. queueing (groundOf g m room any) s) field names ds cs ts p) where
+  module _ (s : State) (room limit : ℕ) {field : List Float} {names ds cs ts : List ℕ} {p : Progress} (h : Leaves g m (λ any. queueing (runInput g m room any) s) field names ds cs ts p) where
     pub rest-stops : (p .number ≡ 0 → ⊥) → Leaves g m (rest g m room limit s) field names ds cs ts p
     rest-stops z =
         record {
           holds = h .holds;
-          is = λ any. then-refuses (spreading (groundOf g m room any) limit) (h .is any ∙ told-refuses (p .number) _ z) ∙ sym (told-refuses (p .number) _ z);
+          is = λ any. then-refuses (spreading (runInput g m room any) limit) (h .is any ∙ told-refuses (p .number) _ z) ∙ sym (told-refuses (p .number) _ z);
         }
 
     pub rest-begins : p .number ≡ 0 → s .pops ≡ 0 → p .pops ≡ 0
-    rest-begins z e = queueing-counts (groundOf g m room 0) s _ (h .is 0 ∙ told-goes (p .number) _ z) ∙ e
+    rest-begins z e = queueing-counts (runInput g m room 0) s _ (h .is 0 ∙ told-goes (p .number) _ z) ∙ e
 
     pub rest-goes-on : {field′ : List Float} {names′ ds′ cs′ ts′ : List ℕ} {r : Progress} → p .number ≡ 0 → length ds ≡ room
-        → Leaves g m (λ any. spreading (groundOf g m (length ds) any) limit (stateOf (orderIn m) field names ds cs ts p)) field′ names′ ds′ cs′ ts′ r
+        → Leaves g m (λ any. spreading (runInput g m (length ds) any) limit (stateOf (orderIn m) field names ds cs ts p)) field′ names′ ds′ cs′ ts′ r
         → Leaves g m (rest g m room limit s) field′ names′ ds′ cs′ ts′ r
     rest-goes-on {r = r} z e w =
         record {
           holds = w .holds;
           is = λ any.
-              then-goes (spreading (groundOf g m room any) limit) (h .is any ∙ told-goes (p .number) _ z)
-              ∙ ap (λ (k : ℕ). spreading (groundOf g m k any) limit (stateOf (orderIn m) field names ds cs ts p)) (sym e)
+              then-goes (spreading (runInput g m room any) limit) (h .is any ∙ told-goes (p .number) _ z)
+              ∙ ap (λ (k : ℕ). spreading (runInput g m k any) limit (stateOf (orderIn m) field names ds cs ts p)) (sym e)
               ∙ w .is any;
         }
 
   -- ---- seeding before them
   module _ {field : List Float} {names ds cs ts : List ℕ} (fit : Fit g m) (fresh : Fresh g m field names ds cs ts) where
-    fair : (room limit : ℕ) → Fair (groundOf g m room limit)
+    fair : (room limit : ℕ) → Fair (runInput g m room limit)
     fair room limit = fair-ground g m room limit (λ a. on-axis (bounds-of g (fit .ready .bounded)) a .some) (omega (arith, fit .few))
 
     module _ (field′ : List Float) (names′ : List ℕ) (n : ℕ)
         (h : turns (overTriangle g m) (length (trianglesIn m)) (seedState field names) ≡ told n (seedState field′ names′)) where
-      seeding-told : (room limit : ℕ) → seeding (groundOf g m room limit) ≡ told n (seedState field′ names′)
-      unfolding bare
+      seeding-told : (room limit : ℕ) → seeding (runInput g m room limit) ≡ told n (seedState field′ names′)
+      unfolding atFirst
       seeding-told room limit =
           sym (seeding-is g m room limit)
           ∙ sym (λ i. turns (overTriangle g m) (length (trianglesIn m)) (seedState (fresh .field-bare i) (fresh .names-bare i)))
           ∙ h
 
       pub seeding-stops : (room limit : ℕ) → length field′ ≡ length field → length names′ ≡ length names → (n ≡ 0 → ⊥)
-          → Leaves g m (λ any. run (groundOf g m room limit)) field′ names′ ds cs ts (record { number = n; waiting = 0; pops = 0; peak = 0 })
+          → Leaves g m (λ any. run (runInput g m room limit)) field′ names′ ds cs ts (record { number = n; waiting = 0; pops = 0; peak = 0 })
       unfolding run
       seeding-stops room limit e k z =
           record {
@@ -129,25 +129,25 @@ module _ {g : Grid} {m : Mesh} where
           }
 
       module _ (z : n ≡ 0) where
-        went : (room limit : ℕ) → seeding (groundOf g m room limit) ≡ goes (seedState field′ names′)
+        went : (room limit : ℕ) → seeding (runInput g m room limit) ≡ goes (seedState field′ names′)
         went room limit = seeding-told room limit ∙ told-goes n _ z
 
         pub seeding-holds : Holds g m field′ names′ ds cs ts 0
-        unfolding groundOf
+        unfolding runInput
         seeding-holds =
-            let s = seeding-good (groundOf g m 0 0) (fair 0 0) (seedState field′ names′) (went 0 0) .sound in
+            let s = seeding-good (runInput g m 0 0) (fair 0 0) (seedState field′ names′) (went 0 0) .sound in
             record { field-long = s .field-long; names-long = s .names-long; held = fresh .empty; known = none-known g m ds cs ts }
 
         pub seeding-names : Named g m field′ names′
-        unfolding groundOf
+        unfolding runInput
         seeding-names c l b =
-            let s = seeding-good (groundOf g m 0 0) (fair 0 0) (seedState field′ names′) (went 0 0) .sound in
-            has-below (groundOf g m 0 0) (fair 0 0) (s .each c l) b .0
+            let s = seeding-good (runInput g m 0 0) (fair 0 0) (seedState field′ names′) (went 0 0) .sound in
+            has-below (runInput g m 0 0) (fair 0 0) (s .each c l) b .0
 
         pub seeding-goes-on : {field″ : List Float} {names″ ds″ cs″ ts″ : List ℕ} {r : Progress} (room limit : ℕ)
             → Leaves g m (rest g m room limit (seeded m field′ names′ ds cs ts)) field″ names″ ds″ cs″ ts″ r
-            → Leaves g m (λ any. run (groundOf g m room limit)) field″ names″ ds″ cs″ ts″ r
-        unfolding run groundOf
+            → Leaves g m (λ any. run (runInput g m room limit)) field″ names″ ds″ cs″ ts″ r
+        unfolding run runInput
         seeding-goes-on room limit w =
             record {
               holds = w .holds;
@@ -155,11 +155,11 @@ module _ {g : Grid} {m : Mesh} where
             }
 
   -- ---- at the end
-  pub run-over : {field : List Float} {names ds cs ts : List ℕ} {p : Progress} (room limit : ℕ) → Leaves g m (λ any. run (groundOf g m room limit)) field names ds cs ts p → Ran g m field names ds cs ts p
+  pub run-over : {field : List Float} {names ds cs ts : List ℕ} {p : Progress} (room limit : ℕ) → Leaves g m (λ any. run (runInput g m room limit)) field names ds cs ts p → Ran g m field names ds cs ts p
   run-over {field} {names} {ds} {cs} {ts} {p} room limit h =
       record {
         holds = h .holds;
         over = λ z.
             sym (how-many ds cs ts (p .waiting) (h .holds .held))
-            ∙ ap length (run-ends (groundOf g m room limit) (stateOf (orderIn m) field names ds cs ts p) (h .is 0 ∙ told-goes (p .number) _ z));
+            ∙ ap length (run-ends (runInput g m room limit) (stateOf (orderIn m) field names ds cs ts p) (h .is 0 ∙ told-goes (p .number) _ z));
       }

@@ -8,7 +8,7 @@ ghost use lib.ListN.{length};
 ghost use Rattle.lists.specs.Turns.{andThen};
 ghost use Rattle.mesh.specs.Mesh.{meshOf};
 ghost use Rattle.run.specs.Run.{queueing, spreading, run};
-ghost use Rattle.run.specs.Ground.{groundOf};
+ghost use Rattle.run.specs.Ground.{runInput};
 ghost use Rattle.told.specs.Told.{Ready, Fit, Holds, Named};
 ghost use Rattle.running.specs.Running.{Leaves, Fresh, seeded};
 
@@ -29,7 +29,7 @@ fn spread_seeds(
     requires { ⌜ Ready grid (meshOf (now vertices) topology given (now indices)) ⌝ }
     requires { ⌜ Holds grid (meshOf (now vertices) topology given (now indices)) (now field) (now names) (now distances) (now cells) (now triangles) 0 ⌝ }
     requires { ⌜ Named grid (meshOf (now vertices) topology given (now indices)) (now field) (now names) ⌝ }
-    ensures { λ r. ⌜ Leaves grid (meshOf (now (vertices .entry)) topology given (now (indices .entry))) (λ any. andThen (queueing (groundOf grid (meshOf (now (vertices .entry)) topology given (now (indices .entry))) (length (now (distances .entry))) any) (seeded (meshOf (now (vertices .entry)) topology given (now (indices .entry))) (now (field .entry)) (now (names .entry)) (now (distances .entry)) (now (cells .entry)) (now (triangles .entry)))) (spreading (groundOf grid (meshOf (now (vertices .entry)) topology given (now (indices .entry))) (length (now (distances .entry))) any) limit)) (now (field .exit)) (now (names .exit)) (now (distances .exit)) (now (cells .exit)) (now (triangles .exit)) r ⌝ }
+    ensures { λ r. ⌜ Leaves grid (meshOf (now (vertices .entry)) topology given (now (indices .entry))) (λ any. andThen (queueing (runInput grid (meshOf (now (vertices .entry)) topology given (now (indices .entry))) (length (now (distances .entry))) any) (seeded (meshOf (now (vertices .entry)) topology given (now (indices .entry))) (now (field .entry)) (now (names .entry)) (now (distances .entry)) (now (cells .entry)) (now (triangles .entry)))) (spreading (runInput grid (meshOf (now (vertices .entry)) topology given (now (indices .entry))) (length (now (distances .entry))) any) limit)) (now (field .exit)) (now (names .exit)) (now (distances .exit)) (now (cells .exit)) (now (triangles .exit)) r ⌝ }
 {
     let begun = Progress {
         number: 0,
@@ -85,7 +85,7 @@ pub fn run_field(
 ) -> Progress
     requires { ⌜ Fit grid (meshOf (now vertices) topology given (now indices)) ⌝ }
     requires { ⌜ Fresh grid (meshOf (now vertices) topology given (now indices)) (now field) (now names) (now distances) (now cells) (now triangles) ⌝ }
-    ensures { λ r. ⌜ Leaves grid (meshOf (now (vertices .entry)) topology given (now (indices .entry))) (λ any. run (groundOf grid (meshOf (now (vertices .entry)) topology given (now (indices .entry))) (length (now (distances .entry))) limit)) (now (field .exit)) (now (names .exit)) (now (distances .exit)) (now (cells .exit)) (now (triangles .exit)) r ⌝ }
+    ensures { λ r. ⌜ Leaves grid (meshOf (now (vertices .entry)) topology given (now (indices .entry))) (λ any. run (runInput grid (meshOf (now (vertices .entry)) topology given (now (indices .entry))) (length (now (distances .entry))) limit)) (now (field .exit)) (now (names .exit)) (now (distances .exit)) (now (cells .exit)) (now (triangles .exit)) r ⌝ }
 {
     let number = seeding::seed(field, names, grid, vertices, topology, given, indices);
     if number != 0 {

@@ -9,9 +9,9 @@ ghost use mathlib.Core.Path.{_≡_};
 ghost use lib.ListN.{length};
 ghost use Rattle.mesh.specs.Mesh.{meshOf};
 ghost use Rattle.run.specs.Run.{run};
-ghost use Rattle.run.specs.Ground.{groundOf};
+ghost use Rattle.run.specs.Ground.{runInput};
 ghost use Rattle.told.specs.Told.{Fit};
-ghost use Rattle.entries.specs.Row.{distances, cells, triangles};
+ghost use Rattle.entries.specs.Row.{rowDistances, rowCells, rowTriangles};
 ghost use Rattle.running.specs.Running.{Leaves};
 ghost use Rattle.running_row.specs.Seeded.{begunBy, Seeded};
 
@@ -42,7 +42,7 @@ pub fn run_row(
     limit: u32,
 ) -> Progress
     requires { ⌜ Fit grid (meshOf (now vertices) topology given (now indices)) × Seeded grid (meshOf (now vertices) topology given (now indices)) number (now field) (now names) (now row) ⌝ }
-    ensures { λ r. ⌜ Leaves grid (meshOf (now (vertices .entry)) topology given (now (indices .entry))) (λ any. run (groundOf grid (meshOf (now (vertices .entry)) topology given (now (indices .entry))) (length (now (row .entry))) limit)) (now (field .exit)) (now (names .exit)) (distances (now (row .exit))) (cells (now (row .exit))) (triangles (now (row .exit))) r ⌝ }
+    ensures { λ r. ⌜ Leaves grid (meshOf (now (vertices .entry)) topology given (now (indices .entry))) (λ any. run (runInput grid (meshOf (now (vertices .entry)) topology given (now (indices .entry))) (length (now (row .entry))) limit)) (now (field .exit)) (now (names .exit)) (rowDistances (now (row .exit))) (rowCells (now (row .exit))) (rowTriangles (now (row .exit))) r ⌝ }
 {
     let at = begun(number);
     if at.number != 0 {

@@ -21,7 +21,7 @@ use point::Axis;
 use point::Point;
 ghost use mathlib.Core.Path.{_≡_};
 ghost use Rattle.float.specs.RootOf.{IsRoot, rootBits};
-ghost use Rattle.distances.specs.Asked.{Answered};
+ghost use Rattle.distances.specs.Asked.{Compared};
 ghost use Rattle.grid.specs.Axes.{countsOf};
 ghost use Rattle.grid.specs.Index.{indexOf, cellAt, total};
 ghost use Rattle.grid.specs.Place as Place;
@@ -43,7 +43,7 @@ pub fn sqrt_bits(b: u32) -> u32
 }
 
 pub fn compare(a: f32, b: f32) -> Comparison
-    ensures { λ r. ⌜ Answered a b r ⌝ }
+    ensures { λ r. ⌜ Compared a b r ⌝ }
 {
     distances::compare(a, b)
 }
@@ -51,67 +51,67 @@ pub fn compare(a: f32, b: f32) -> Comparison
 // ---- the grid
 
 pub fn get_first_cell(grid: Grid) -> GridPointAnswer
-    ensures { λ r. ⌜ Reply.point r ≡ Reply.ofGrid grid (grid .«first_cell») ⌝ }
+    ensures { λ r. ⌜ Reply.pointReply r ≡ Reply.ofGrid grid (grid .«first_cell») ⌝ }
 {
     grid.get_first_cell()
 }
 
 pub fn get_last_cell(grid: Grid) -> GridPointAnswer
-    ensures { λ r. ⌜ Reply.point r ≡ Reply.ofGrid grid (Place.lastCell grid) ⌝ }
+    ensures { λ r. ⌜ Reply.pointReply r ≡ Reply.ofGrid grid (Place.lastCell grid) ⌝ }
 {
     grid.get_last_cell()
 }
 
 pub fn get_cell_size(grid: Grid) -> GridPointAnswer
-    ensures { λ r. ⌜ Reply.point r ≡ Reply.ofGrid grid (grid .«cell_size») ⌝ }
+    ensures { λ r. ⌜ Reply.pointReply r ≡ Reply.ofGrid grid (grid .«cell_size») ⌝ }
 {
     grid.get_cell_size()
 }
 
 pub fn get_cell_count(grid: Grid) -> CountsAnswer
-    ensures { λ r. ⌜ Reply.counts r ≡ Reply.ofGrid grid (countsOf grid) ⌝ }
+    ensures { λ r. ⌜ Reply.countsReply r ≡ Reply.ofGrid grid (countsOf grid) ⌝ }
 {
     grid.get_cell_count()
 }
 
 pub fn get_total_cell_count(grid: Grid) -> NumberAnswer
-    ensures { λ r. ⌜ Reply.number r ≡ Reply.ofGrid grid (total grid) ⌝ }
+    ensures { λ r. ⌜ Reply.numberReply r ≡ Reply.ofGrid grid (total grid) ⌝ }
 {
     grid.get_total_cell_count()
 }
 
 pub fn get_bounding_box(grid: Grid) -> GridBoxAnswer
-    ensures { λ r. ⌜ Reply.box r ≡ Reply.ofGrid grid (Place.boxOf grid) ⌝ }
+    ensures { λ r. ⌜ Reply.boxReply r ≡ Reply.ofGrid grid (Place.gridBox grid) ⌝ }
 {
     grid.get_bounding_box()
 }
 
 pub fn get_cell_idx(grid: Grid, cell: Cell) -> NumberAnswer
-    ensures { λ r. ⌜ Reply.number r ≡ Reply.ofCell grid cell (indexOf grid cell) ⌝ }
+    ensures { λ r. ⌜ Reply.numberReply r ≡ Reply.ofCell grid cell (indexOf grid cell) ⌝ }
 {
     grid.get_cell_idx(cell)
 }
 
 pub fn get_cell_integer_coordinates(grid: Grid, cell_idx: u32) -> CellAnswer
-    ensures { λ r. ⌜ Reply.cell r ≡ Reply.ofIndex grid «cell_idx» (cellAt grid «cell_idx») ⌝ }
+    ensures { λ r. ⌜ Reply.cellReply r ≡ Reply.ofIndex grid «cell_idx» (cellAt grid «cell_idx») ⌝ }
 {
     grid.get_cell_integer_coordinates(cell_idx)
 }
 
 pub fn get_cell_center(grid: Grid, cell: Cell) -> GridPointAnswer
-    ensures { λ r. ⌜ Reply.point r ≡ Reply.ofCell grid cell (Place.centreOf grid cell) ⌝ }
+    ensures { λ r. ⌜ Reply.pointReply r ≡ Reply.ofCell grid cell (Place.centreOf grid cell) ⌝ }
 {
     grid.get_cell_center(cell)
 }
 
 pub fn snap_point_to_grid(grid: Grid, point: Point) -> SnapAnswer
-    ensures { λ r. ⌜ Reply.snapped r ≡ Reply.ofGrid grid (Place.snap grid point) ⌝ }
+    ensures { λ r. ⌜ Reply.snapReply r ≡ Reply.ofGrid grid (Place.snap grid point) ⌝ }
 {
     grid.snap_point_to_grid(point)
 }
 
 pub fn from_bounding_box(bbox_min: Point, bbox_max: Point, cell_count: Counts) -> GridAnswer
-    ensures { λ r. ⌜ Reply.grid r ≡ Reply.made (Place.fromBox «bbox_min» «bbox_max» «cell_count») ⌝ }
+    ensures { λ r. ⌜ Reply.gridReply r ≡ Reply.made (Place.fromBox «bbox_min» «bbox_max» «cell_count») ⌝ }
 {
     Grid::from_bounding_box(bbox_min, bbox_max, cell_count)
 }

@@ -27,21 +27,21 @@ pub extern "C" fn sdf_sqrt_bits(b: u32) -> u32
 
 #[no_mangle]
 pub extern "C" fn sdf_compare_distances(a: f32, b: f32) -> SdfOrderAnswer
-    ensures { λ r. ⌜ r ≡ C.compared a b ⌝ }
+    ensures { λ r. ⌜ r ≡ C.comparedForC a b ⌝ }
 {
     c_geo_answers::order_answer(sdf::compare(a, b))
 }
 
 #[no_mangle]
 pub extern "C" fn sdf_triangle_bounding_box(a: SdfPoint, b: SdfPoint, c: SdfPoint) -> SdfBoxAnswer
-    ensures { λ r. ⌜ r ≡ C.triangleBox (askedBox (pointIn a) (pointIn b) (pointIn c)) ⌝ }
+    ensures { λ r. ⌜ r ≡ C.triangleBoxForC (askedBox (pointIn a) (pointIn b) (pointIn c)) ⌝ }
 {
     c_geo_answers::triangle_box_answer(sdf::triangle_bounding_box(a.point(), b.point(), c.point()))
 }
 
 #[no_mangle]
 pub extern "C" fn sdf_closest_point_segment(p: SdfPoint, a: SdfPoint, b: SdfPoint) -> SdfPointAnswer
-    ensures { λ r. ⌜ r ≡ C.closest (askedSegment (pointIn p) (pointIn a) (pointIn b)) ⌝ }
+    ensures { λ r. ⌜ r ≡ C.closestForC (askedSegment (pointIn p) (pointIn a) (pointIn b)) ⌝ }
 {
     c_geo_answers::closest_answer(sdf::closest_point_segment(p.point(), a.point(), b.point()))
 }
@@ -53,7 +53,7 @@ pub extern "C" fn sdf_closest_point_triangle(
     b: SdfPoint,
     c: SdfPoint,
 ) -> SdfPointAnswer
-    ensures { λ r. ⌜ r ≡ C.closest (askedTriangle (pointIn p) (pointIn a) (pointIn b) (pointIn c)) ⌝ }
+    ensures { λ r. ⌜ r ≡ C.closestForC (askedTriangle (pointIn p) (pointIn a) (pointIn b) (pointIn c)) ⌝ }
 {
     c_geo_answers::closest_answer(sdf::closest_point_triangle(
         p.point(),
@@ -70,7 +70,7 @@ pub extern "C" fn sdf_point_triangle_distance(
     b: SdfPoint,
     c: SdfPoint,
 ) -> SdfDistanceAnswer
-    ensures { λ r. ⌜ r ≡ C.distance (askedDistance (pointIn p) (pointIn a) (pointIn b) (pointIn c)) ⌝ }
+    ensures { λ r. ⌜ r ≡ C.distanceForC (askedDistance (pointIn p) (pointIn a) (pointIn b) (pointIn c)) ⌝ }
 {
     c_geo_answers::distance_answer(sdf::point_triangle_distance(
         p.point(),
@@ -89,7 +89,7 @@ pub extern "C" fn sdf_ray_triangle_intersection_aligned(
     v2: SdfPoint,
     axis: u32,
 ) -> SdfRayAnswer
-    ensures { λ r. ⌜ r ≡ C.ray (askedRay (pointIn o) (pointIn v0) (pointIn v1) (pointIn v2) (axisIn axis)) ⌝ }
+    ensures { λ r. ⌜ r ≡ C.rayForC (askedRay (pointIn o) (pointIn v0) (pointIn v1) (pointIn v2) (axisIn axis)) ⌝ }
 {
     c_geo_answers::ray_answer(sdf::ray_triangle_intersection_aligned(
         o.point(),

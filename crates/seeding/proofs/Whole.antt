@@ -6,11 +6,11 @@ use Rattle.lists.specs.Turns.{turns}
 use Rattle.grid.specs.declared.Grid.{Grid}
 use Rattle.grid.specs.Index.{total}
 use Rattle.mesh.specs.Mesh.{Mesh, trianglesIn}
-use Rattle.run.specs.Run.{bare, offer, seedLine, seedPlane, seedTriangle, seeding}
-use Rattle.run.specs.Ground.{distanceFrom, groundOf}
+use Rattle.run.specs.Run.{atFirst, offer, seedLine, seedPlane, seedTriangle, seeding}
+use Rattle.run.specs.Ground.{distanceFrom, runInput}
 use Rattle.placing.specs.Parts.{offerTo, alongLine, alongPlane, alongBox, overBox, overTriangle}
 
 module _ (g : Grid) (m : Mesh) (room limit : ℕ) where
-  pub seeding-is : turns (overTriangle g m) (length (trianglesIn m)) (bare (total g)) ≡ seeding (groundOf g m room limit)
-  unfolding overTriangle overBox alongBox alongPlane alongLine offerTo seedTriangle seedPlane seedLine offer groundOf distanceFrom seeding
+  pub seeding-is : turns (overTriangle g m) (length (trianglesIn m)) (atFirst (total g)) ≡ seeding (runInput g m room limit)
+  unfolding overTriangle overBox alongBox alongPlane alongLine offerTo seedTriangle seedPlane seedLine offer runInput distanceFrom seeding
   seeding-is = refl

@@ -6,7 +6,7 @@ ghost use Prim.Native.Nat.{_+_, _^_, _≤_, _<_};
 ghost use lib.ListN.{length};
 ghost use Rattle.lists.specs.Turns.{told, turns};
 ghost use Rattle.point.specs.declared.Axis.the-variants.{X};
-ghost use Rattle.grid.specs.Axes.{countOn, cell};
+ghost use Rattle.grid.specs.Axes.{countOn, cellNumbered};
 ghost use Rattle.grid.specs.Index.{Inside, total};
 ghost use Rattle.grid.specs.Bounds.{inBounds};
 ghost use Rattle.mesh.specs.Mesh.{Sound, meshOf, trianglesIn};
@@ -38,7 +38,7 @@ fn seed_line(
     lo: u32,
     hi: u32,
 ) -> u32
-    requires { ⌜ (inBounds grid ≡ true) × Inside grid (cell x y hi) ⌝ }
+    requires { ⌜ (inBounds grid ≡ true) × Inside grid (cellNumbered x y hi) ⌝ }
     requires { ⌜ (length (now field) ≡ total grid) × (length (now names) ≡ total grid) ⌝ }
     ensures { λ r. ⌜ alongLine grid f k x y lo hi (seedState (now (field .entry)) (now (names .entry))) ≡ told r (seedState (now (field .exit)) (now (names .exit))) ⌝ }
 {

@@ -11,11 +11,11 @@ use Rattle.grid.specs.declared.Grid.{Grid}
 use Rattle.grid.specs.declared.Cell.{Cell}
 use Rattle.grid.specs.Index.{Inside}
 use Rattle.grid.specs.Bounds.{inBounds}
-use Rattle.grid.specs.Axes.{countOn, cell}
+use Rattle.grid.specs.Axes.{countOn, cellNumbered}
 use Rattle.grid.specs.Place.{centreOf, snapCell}
 use Rattle.grid.proofs.Facts.{bounds-of}
 use Rattle.grid.proofs.Snaps.{snap-within}
-use Rattle.run.specs.Ground.{firstOf, lastOf}
+use Rattle.run.specs.Ground.{seedFirst, seedLast}
 
 abbrev pub Small : Cell → Type 0
 Small c = (c .x < 2 ^ 16) × (c .y < 2 ^ 16) × (c .z < 2 ^ 16)
@@ -34,14 +34,14 @@ pub first-is : (g : Grid) (low : Point) (c : Cell) (m : Point) (x y z : ℕ) →
     → x ≡ (if ltb 0 (c .x) && (low .x ≺ m .x) then c .x - 1 else c .x)
     → y ≡ (if ltb 0 (c .y) && (low .y ≺ m .y) then c .y - 1 else c .y)
     → z ≡ (if ltb 0 (c .z) && (low .z ≺ m .z) then c .z - 1 else c .z)
-    → cell x y z ≡ firstOf g low
-unfolding firstOf centreOf
+    → cellNumbered x y z ≡ seedFirst g low
+unfolding seedFirst centreOf
 first-is g low c m x y z hc hm hx hy hz = rw (hx, hy, hz, hm, hc)
 
 pub last-is : (g : Grid) (high : Point) (c : Cell) (m : Point) (x y z : ℕ) → c ≡ snapCell g high → m ≡ centreOf g c
     → x ≡ (if ltb (c .x) (countOn X g - 1) && (m .x ≺ high .x) then c .x + 1 else c .x)
     → y ≡ (if ltb (c .y) (countOn Y g - 1) && (m .y ≺ high .y) then c .y + 1 else c .y)
     → z ≡ (if ltb (c .z) (countOn Z g - 1) && (m .z ≺ high .z) then c .z + 1 else c .z)
-    → cell x y z ≡ lastOf g high
-unfolding lastOf centreOf
+    → cellNumbered x y z ≡ seedLast g high
+unfolding seedLast centreOf
 last-is g high c m x y z hc hm hx hy hz = rw (hx, hy, hz, hm, hc)

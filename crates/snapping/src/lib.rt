@@ -10,7 +10,7 @@ ghost use lib.Dec.{ltb};
 ghost use Rattle.float.specs.Arith.{_≺_, if_then_else_};
 ghost use Rattle.grid.specs.Bounds.{inBounds};
 ghost use Rattle.grid.specs.Place.{snapCell};
-ghost use Rattle.run.specs.Ground.{firstOf, lastOf};
+ghost use Rattle.run.specs.Ground.{seedFirst, seedLast};
 
 // The number i of the first cell on an axis, one lower if it is above 0 and its centre lies above the
 // box's low side.
@@ -44,7 +44,7 @@ fn snapped(grid: Grid, p: Point) -> Cell
 // The first cell of a snapped box, from the box's low corner.
 pub fn first_of(grid: Grid, low: Point) -> Cell
     requires { ⌜ inBounds grid ≡ true ⌝ }
-    ensures { λ r. ⌜ r ≡ firstOf grid low ⌝ }
+    ensures { λ r. ⌜ r ≡ seedFirst grid low ⌝ }
 {
     let c = snapped(grid, low);
     let m = grid::parts::get_cell_center(grid, c);
@@ -58,7 +58,7 @@ pub fn first_of(grid: Grid, low: Point) -> Cell
 // The last cell of a snapped box, from the box's high corner.
 pub fn last_of(grid: Grid, high: Point) -> Cell
     requires { ⌜ inBounds grid ≡ true ⌝ }
-    ensures { λ r. ⌜ r ≡ lastOf grid high ⌝ }
+    ensures { λ r. ⌜ r ≡ seedLast grid high ⌝ }
 {
     let c = snapped(grid, high);
     let m = grid::parts::get_cell_center(grid, c);

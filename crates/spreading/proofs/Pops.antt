@@ -15,8 +15,8 @@ use Rattle.mesh.specs.Mesh.{Mesh, trianglesIn}
 use Rattle.queue.specs.declared.Entry.{Entry}
 use Rattle.queue.specs.Queue.{Taken, waiting}
 use Rattle.queue.proofs.Uses.{how-many, none-waits}
-use Rattle.run.specs.Run.{Ground, State, taken, spreadAround, takeFirst, mayStop, spreading}
-use Rattle.run.specs.Ground.{groundOf}
+use Rattle.run.specs.Run.{RunInput, State, taken, spreadAround, takeFirst, limitReached, spreading}
+use Rattle.run.specs.Ground.{runInput}
 use Rattle.told.specs.declared.Progress.{Progress}
 use Rattle.told.specs.Told.{refusedBy, orderIn, stateOf, Known, Holds, Told}
 use Rattle.told.proofs.Counts.{pop-counts}
@@ -56,29 +56,29 @@ popped {g} {m} {field} {names = names} {ds} {cs} {ts} {ds₁} {cs₁} {ts₁} {e
     record {
       holds = o .holds;
       is = λ any.
-          ap (λ (v : List Entry). takeFirst (groundOf g m (length ds) any) goes v s) (t .waits)
-          ∙ then-all (spreadAround (groundOf g m (length ds) any) e (taken w s))
-          ∙ ap (λ (k : ℕ). spreadAround (groundOf g m k any) e (taken w s)) (sym l)
+          ap (λ (v : List Entry). takeFirst (runInput g m (length ds) any) goes v s) (t .waits)
+          ∙ then-all (spreadAround (runInput g m (length ds) any) e (taken w s))
+          ∙ ap (λ (k : ℕ). spreadAround (runInput g m k any) e (taken w s)) (sym l)
           ∙ o .is any;
     }
 
 -- ---- the loop of pops
 
 -- a pop, and the pops after it
-next-pop : (g : Ground) (left : ℕ) (w : List Entry) (s : State) → 0 < length w
+next-pop : (g : RunInput) (left : ℕ) (w : List Entry) (s : State) → 0 < length w
     → takeFirst g (spreading g left) w s ≡ andThen (takeFirst g goes w s) (spreading g left)
 unfolding takeFirst
 next-pop g left [] s h = absurd (not-suc-le-zero h)
 next-pop g left (e ∷ w) s h = sym (then-then (spreadAround g e (taken w s)) (spreading g left))
 
-must-stop : (w : List Entry) (s : State) → 0 < length w → mayStop w s ≡ refuses 8
-unfolding mayStop
+must-stop : (w : List Entry) (s : State) → 0 < length w → limitReached w s ≡ refuses 8
+unfolding limitReached
 must-stop [] s h = absurd (not-suc-le-zero h)
 must-stop (e ∷ w) s h = refl
 
-none-left : (g : Ground) (left : ℕ) (s : State) → s .waiting ≡ [] → spreading g left s ≡ goes s
-unfolding spreading mayStop takeFirst
-none-left g zero s h = ap (λ (w : List Entry). mayStop w s) h
+none-left : (g : RunInput) (left : ℕ) (s : State) → s .waiting ≡ [] → spreading g left s ≡ goes s
+unfolding spreading limitReached takeFirst
+none-left g zero s h = ap (λ (w : List Entry). limitReached w s) h
 none-left g (suc left) s h = ap (λ (w : List Entry). takeFirst g (spreading g left) w s) h
 
 -- The slices, which held field₀ to ts₀ and r₀, hold a state after some pops, and what is left to spread comes to all of it. `any` is
@@ -90,8 +90,8 @@ module _ (g : Grid) (m : Mesh) (limit : ℕ) where
     pub within : r .pops ≤ limit
     pub holds : Holds g m field names ds cs ts (r .waiting)
     pub is : (any : ℕ)
-        → spreading (groundOf g m (length ds₀) any) (limit - r .pops) (stateOf (orderIn m) field names ds cs ts r)
-        ≡ spreading (groundOf g m (length ds₀) any) limit (stateOf (orderIn m) field₀ names₀ ds₀ cs₀ ts₀ r₀)
+        → spreading (runInput g m (length ds₀) any) (limit - r .pops) (stateOf (orderIn m) field names ds cs ts r)
+        ≡ spreading (runInput g m (length ds₀) any) limit (stateOf (orderIn m) field₀ names₀ ds₀ cs₀ ts₀ r₀)
 
 -- no pops, at first
 pub spread-begins : {g : Grid} {m : Mesh} {limit : ℕ} {field : List Float} {names ds cs ts : List ℕ} {r : Progress} → r .number ≡ 0 → r .pops ≡ 0
@@ -102,7 +102,7 @@ spread-begins {g} {m} {limit} {field} {names} {ds} {cs} {ts} {r} z p h =
       long = refl;
       within = omega arith;
       holds = h;
-      is = λ any. ap (λ (k : ℕ). spreading (groundOf g m (length ds) any) k (stateOf (orderIn m) field names ds cs ts r)) all;
+      is = λ any. ap (λ (k : ℕ). spreading (runInput g m (length ds) any) k (stateOf (orderIn m) field names ds cs ts r)) all;
     }
   where
     all : limit - r .pops ≡ limit
@@ -119,7 +119,7 @@ module _ {g : Grid} {m : Mesh} {limit : ℕ} {field₀ field : List Float} {name
         holds = a .holds;
         is = λ any.
             sym (a .is any)
-            ∙ none-left (groundOf g m (length ds₀) any) (limit - r .pops) s (ap (waiting (orderIn m) ds cs ts) n ∙ none-waits (orderIn m) ds cs ts)
+            ∙ none-left (runInput g m (length ds₀) any) (limit - r .pops) s (ap (waiting (orderIn m) ds cs ts) n ∙ none-waits (orderIn m) ds cs ts)
             ∙ sym (told-goes (r .number) s (a .fine));
       }
 
@@ -136,7 +136,7 @@ module _ {g : Grid} {m : Mesh} {limit : ℕ} {field₀ field : List Float} {name
       let n : limit - r .pops ≡ 0 = omega arith in
       record {
         holds = a .holds;
-        is = λ any. sym (a .is any) ∙ ap (λ (k : ℕ). spreading (groundOf g m (length ds₀) any) k s) n ∙ must-stop (s .waiting) s (some a l);
+        is = λ any. sym (a .is any) ∙ ap (λ (k : ℕ). spreading (runInput g m (length ds₀) any) k s) n ∙ must-stop (s .waiting) s (some a l);
       }
 
   module _ {field′ : List Float} {names′ ds′ cs′ ts′ : List ℕ} {r′ : Progress}
@@ -147,21 +147,21 @@ module _ {g : Grid} {m : Mesh} {limit : ℕ} {field₀ field : List Float} {name
     counted z =
         let s = stateOf (orderIn m) field names ds cs ts r in
         let s′ = stateOf (orderIn m) field′ names′ ds′ cs′ ts′ r′ in
-        pop-counts (groundOf g m (length ds) 0) (s .waiting) s (some a l) s′ (t .is 0 ∙ told-goes (r′ .number) s′ z)
+        pop-counts (runInput g m (length ds) 0) (s .waiting) s (some a l) s′ (t .is 0 ∙ told-goes (r′ .number) s′ z)
 
     -- one pop, and then the others
     one : (any : ℕ) → r .pops < limit
-        → spreading (groundOf g m (length ds₀) any) limit (stateOf (orderIn m) field₀ names₀ ds₀ cs₀ ts₀ r₀)
-        ≡ andThen (told (r′ .number) (stateOf (orderIn m) field′ names′ ds′ cs′ ts′ r′)) (spreading (groundOf g m (length ds₀) any) (limit - (r .pops + 1)))
+        → spreading (runInput g m (length ds₀) any) limit (stateOf (orderIn m) field₀ names₀ ds₀ cs₀ ts₀ r₀)
+        ≡ andThen (told (r′ .number) (stateOf (orderIn m) field′ names′ ds′ cs′ ts′ r′)) (spreading (runInput g m (length ds₀) any) (limit - (r .pops + 1)))
     unfolding spreading
     one any b =
         let s = stateOf (orderIn m) field names ds cs ts r in
-        let G = groundOf g m (length ds₀) any in
+        let G = runInput g m (length ds₀) any in
         let left : limit - r .pops ≡ suc (limit - (r .pops + 1)) = omega arith in
         sym (a .is any)
         ∙ ap (λ (k : ℕ). spreading G k s) left
         ∙ next-pop G (limit - (r .pops + 1)) (s .waiting) s (some a l)
-        ∙ ap (λ (k : ℕ). andThen (takeFirst (groundOf g m k any) goes (s .waiting) s) (spreading G (limit - (r .pops + 1)))) (sym (a .long))
+        ∙ ap (λ (k : ℕ). andThen (takeFirst (runInput g m k any) goes (s .waiting) s) (spreading G (limit - (r .pops + 1)))) (sym (a .long))
         ∙ ap (λ o. andThen o (spreading G (limit - (r .pops + 1)))) (t .is any)
 
     pub spread-on : r .pops < limit → length ds′ ≡ length ds → r′ .number ≡ 0 → Spreads g m limit field₀ names₀ ds₀ cs₀ ts₀ r₀ field′ names′ ds′ cs′ ts′ r′
@@ -174,8 +174,8 @@ module _ {g : Grid} {m : Mesh} {limit : ℕ} {field₀ field : List Float} {name
           within = omega arith;
           holds = t .holds;
           is = λ any.
-              ap (λ (j : ℕ). spreading (groundOf g m (length ds₀) any) (limit - j) s′) p
-              ∙ sym (one any b ∙ then-goes (spreading (groundOf g m (length ds₀) any) (limit - (r .pops + 1))) (told-goes (r′ .number) s′ z));
+              ap (λ (j : ℕ). spreading (runInput g m (length ds₀) any) (limit - j) s′) p
+              ∙ sym (one any b ∙ then-goes (spreading (runInput g m (length ds₀) any) (limit - (r .pops + 1))) (told-goes (r′ .number) s′ z));
         }
 
     pub spread-stops : r .pops < limit → (r′ .number ≡ 0 → ⊥) → Told g m (λ G. spreading G limit) field₀ names₀ ds₀ cs₀ ts₀ r₀ field′ names′ ds′ cs′ ts′ r′
@@ -185,6 +185,6 @@ module _ {g : Grid} {m : Mesh} {limit : ℕ} {field₀ field : List Float} {name
           holds = t .holds;
           is = λ any.
               one any b
-              ∙ then-refuses (spreading (groundOf g m (length ds₀) any) (limit - (r .pops + 1))) (told-refuses (r′ .number) s′ z)
+              ∙ then-refuses (spreading (runInput g m (length ds₀) any) (limit - (r .pops + 1))) (told-refuses (r′ .number) s′ z)
               ∙ sym (told-refuses (r′ .number) s′ z);
         }

@@ -13,21 +13,21 @@ use Rattle.c_records.specs.declared.SdfBoxAnswer.{SdfBoxAnswer}
 use Rattle.c_records.specs.declared.SdfDistanceAnswer.{SdfDistanceAnswer}
 use Rattle.c_records.specs.declared.SdfRayAnswer.{SdfRayAnswer}
 use Rattle.c_records.specs.declared.SdfOrderAnswer.{SdfOrderAnswer}
-use Rattle.steps.specs.Words.{wordAt, realAt, pointAt, isWord, isReal, isPoint}
+use Rattle.steps.specs.Words.{sampleWord, sampleReal, samplePoint, isSampleWord, isSampleReal, isSamplePoint}
 
 -- ---- an answer that is stored from word k on
 
 abbrev pub isPointAnswer : List ℕ → ℕ → ℕ → SdfPointAnswer → Bool
-isPointAnswer text base k r = isWord text base k (r .number) && isPoint text base (k + 1) (r .point)
+isPointAnswer text base k r = isSampleWord text base k (r .number) && isSamplePoint text base (k + 1) (r .point)
 
 abbrev pub isBoxAnswer : List ℕ → ℕ → ℕ → SdfBoxAnswer → Bool
-isBoxAnswer text base k r = isWord text base k (r .number) && isPoint text base (k + 1) (r .min) && isPoint text base (k + 4) (r .max)
+isBoxAnswer text base k r = isSampleWord text base k (r .number) && isSamplePoint text base (k + 1) (r .min) && isSamplePoint text base (k + 4) (r .max)
 
 abbrev pub isDistanceAnswer : List ℕ → ℕ → ℕ → SdfDistanceAnswer → Bool
-isDistanceAnswer text base k r = isWord text base k (r .number) && isReal text base (k + 1) (r .distance)
+isDistanceAnswer text base k r = isSampleWord text base k (r .number) && isSampleReal text base (k + 1) (r .distance)
 
 abbrev pub isRayAnswer : List ℕ → ℕ → ℕ → SdfRayAnswer → Bool
-isRayAnswer text base k r = isWord text base k (r .number) && isWord text base (k + 1) (r .hit) && isReal text base (k + 2) (r .t)
+isRayAnswer text base k r = isSampleWord text base k (r .number) && isSampleWord text base (k + 1) (r .hit) && isSampleReal text base (k + 2) (r .t)
 
 -- -1, 0 or 1 in 32 bits
 abbrev pub orderWord : ℤ → ℕ
@@ -37,43 +37,43 @@ orderWord (pos (suc (suc n))) = 4294967295
 orderWord (negsuc n) = 4294967295
 
 abbrev pub isOrderAnswer : List ℕ → ℕ → ℕ → SdfOrderAnswer → Bool
-isOrderAnswer text base k r = isWord text base k (r .number) && isWord text base (k + 1) (orderWord (r .order))
+isOrderAnswer text base k r = isSampleWord text base k (r .number) && isSampleWord text base (k + 1) (orderWord (r .order))
 
 -- ---- the steps
 
-abbrev pub sqrt : List ℕ → ℕ → Bool
-sqrt text base = isReal text base 2 (rootOf (realAt text base 1))
+abbrev pub storedRoot : List ℕ → ℕ → Bool
+storedRoot text base = isSampleReal text base 2 (rootOf (sampleReal text base 1))
 
-abbrev pub sqrtBits : List ℕ → ℕ → Bool
-sqrtBits text base = isWord text base 2 (rootBits (wordAt text base 1))
+abbrev pub storedRootBits : List ℕ → ℕ → Bool
+storedRootBits text base = isSampleWord text base 2 (rootBits (sampleWord text base 1))
 
-abbrev pub compare : List ℕ → ℕ → Bool
-compare text base = isOrderAnswer text base 3 (C.compared (realAt text base 1) (realAt text base 2))
+abbrev pub storedOrder : List ℕ → ℕ → Bool
+storedOrder text base = isOrderAnswer text base 3 (C.comparedForC (sampleReal text base 1) (sampleReal text base 2))
 
-abbrev pub triangleBox : List ℕ → ℕ → Bool
-triangleBox text base =
+abbrev pub storedTriangleBox : List ℕ → ℕ → Bool
+storedTriangleBox text base =
     isBoxAnswer text base 10
-    (C.triangleBox (askedBox (pointIn (pointAt text base 1)) (pointIn (pointAt text base 4)) (pointIn (pointAt text base 7))))
+    (C.triangleBoxForC (askedBox (pointIn (samplePoint text base 1)) (pointIn (samplePoint text base 4)) (pointIn (samplePoint text base 7))))
 
-abbrev pub segment : List ℕ → ℕ → Bool
-segment text base =
+abbrev pub storedSegment : List ℕ → ℕ → Bool
+storedSegment text base =
     isPointAnswer text base 10
-    (C.closest (askedSegment (pointIn (pointAt text base 1)) (pointIn (pointAt text base 4)) (pointIn (pointAt text base 7))))
+    (C.closestForC (askedSegment (pointIn (samplePoint text base 1)) (pointIn (samplePoint text base 4)) (pointIn (samplePoint text base 7))))
 
-abbrev pub triangle : List ℕ → ℕ → Bool
-triangle text base =
+abbrev pub storedTriangle : List ℕ → ℕ → Bool
+storedTriangle text base =
     isPointAnswer text base 13
-    (C.closest
-    (askedTriangle (pointIn (pointAt text base 1)) (pointIn (pointAt text base 4)) (pointIn (pointAt text base 7)) (pointIn (pointAt text base 10))))
+    (C.closestForC
+    (askedTriangle (pointIn (samplePoint text base 1)) (pointIn (samplePoint text base 4)) (pointIn (samplePoint text base 7)) (pointIn (samplePoint text base 10))))
 
-abbrev pub distance : List ℕ → ℕ → Bool
-distance text base =
+abbrev pub storedDistance : List ℕ → ℕ → Bool
+storedDistance text base =
     isDistanceAnswer text base 13
-    (C.distance
-    (askedDistance (pointIn (pointAt text base 1)) (pointIn (pointAt text base 4)) (pointIn (pointAt text base 7)) (pointIn (pointAt text base 10))))
+    (C.distanceForC
+    (askedDistance (pointIn (samplePoint text base 1)) (pointIn (samplePoint text base 4)) (pointIn (samplePoint text base 7)) (pointIn (samplePoint text base 10))))
 
-abbrev pub ray : List ℕ → ℕ → Bool
-ray text base =
+abbrev pub storedRay : List ℕ → ℕ → Bool
+storedRay text base =
     isRayAnswer text base 14
-    (C.ray
-    (askedRay (pointIn (pointAt text base 1)) (pointIn (pointAt text base 4)) (pointIn (pointAt text base 7)) (pointIn (pointAt text base 10)) (axisIn (wordAt text base 13))))
+    (C.rayForC
+    (askedRay (pointIn (samplePoint text base 1)) (pointIn (samplePoint text base 4)) (pointIn (samplePoint text base 7)) (pointIn (samplePoint text base 10)) (axisIn (sampleWord text base 13))))

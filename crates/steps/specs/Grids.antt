@@ -15,75 +15,75 @@ use Rattle.c_records.specs.declared.SdfNumberAnswer.{SdfNumberAnswer}
 use Rattle.c_records.specs.declared.SdfCellAnswer.{SdfCellAnswer}
 use Rattle.c_records.specs.declared.SdfSnapAnswer.{SdfSnapAnswer}
 use Rattle.c_records.specs.declared.SdfGridAnswer.{SdfGridAnswer}
-use Rattle.steps.specs.Words.{wordAt, pointAt, cellAt, gridAt, isWord, isPoint, isCell}
+use Rattle.steps.specs.Words.{sampleWord, samplePoint, sampleCell, sampleGrid, isSampleWord, isSamplePoint, isSampleCell}
 use Rattle.steps.specs.Geometry.{isPointAnswer, isBoxAnswer}
 
 -- ---- an answer that is stored from word k on
 
 abbrev pub isNumberAnswer : List ℕ → ℕ → ℕ → SdfNumberAnswer → Bool
-isNumberAnswer text base k r = isWord text base k (r .number) && isWord text base (k + 1) (r .value)
+isNumberAnswer text base k r = isSampleWord text base k (r .number) && isSampleWord text base (k + 1) (r .value)
 
 abbrev pub isCellAnswer : List ℕ → ℕ → ℕ → SdfCellAnswer → Bool
-isCellAnswer text base k r = isWord text base k (r .number) && isCell text base (k + 1) (r .cell)
+isCellAnswer text base k r = isSampleWord text base k (r .number) && isSampleCell text base (k + 1) (r .cell)
 
 abbrev pub isSnapAnswer : List ℕ → ℕ → ℕ → SdfSnapAnswer → Bool
-isSnapAnswer text base k r = isWord text base k (r .number) && isWord text base (k + 1) (r .inside) && isCell text base (k + 2) (r .cell)
+isSnapAnswer text base k r = isSampleWord text base k (r .number) && isSampleWord text base (k + 1) (r .inside) && isSampleCell text base (k + 2) (r .cell)
 
 abbrev pub isGridAnswer : List ℕ → ℕ → ℕ → SdfGridAnswer → Bool
 isGridAnswer text base k r =
-    isWord text base k (r .number)
-    && isPoint text base (k + 1) (r .grid .first)
-    && isPoint text base (k + 4) (r .grid .size)
-    && isCell text base (k + 7) (r .grid .count)
+    isSampleWord text base k (r .number)
+    && isSamplePoint text base (k + 1) (r .grid .first)
+    && isSamplePoint text base (k + 4) (r .grid .size)
+    && isSampleCell text base (k + 7) (r .grid .count)
 
 -- ---- the steps
 
 -- the grid that a case asks about
-abbrev pub asked : List ℕ → ℕ → Grid
-asked text base = gridIn (gridAt text base)
+abbrev pub sampleAsked : List ℕ → ℕ → Grid
+sampleAsked text base = gridIn (sampleGrid text base)
 
-abbrev pub first : List ℕ → ℕ → Bool
-first text base = let g = asked text base in isPointAnswer text base 10 (C.point (ofGrid g (g .«first_cell»)))
+abbrev pub storedFirst : List ℕ → ℕ → Bool
+storedFirst text base = let g = sampleAsked text base in isPointAnswer text base 10 (C.pointForC (ofGrid g (g .«first_cell»)))
 
-abbrev pub last : List ℕ → ℕ → Bool
-last text base = let g = asked text base in isPointAnswer text base 10 (C.point (ofGrid g (Place.lastCell g)))
+abbrev pub storedLast : List ℕ → ℕ → Bool
+storedLast text base = let g = sampleAsked text base in isPointAnswer text base 10 (C.pointForC (ofGrid g (Place.lastCell g)))
 
-abbrev pub size : List ℕ → ℕ → Bool
-size text base = let g = asked text base in isPointAnswer text base 10 (C.point (ofGrid g (g .«cell_size»)))
+abbrev pub storedSize : List ℕ → ℕ → Bool
+storedSize text base = let g = sampleAsked text base in isPointAnswer text base 10 (C.pointForC (ofGrid g (g .«cell_size»)))
 
-abbrev pub counts : List ℕ → ℕ → Bool
-counts text base = let g = asked text base in isCellAnswer text base 10 (C.counts (ofGrid g (countsOf g)))
+abbrev pub storedCounts : List ℕ → ℕ → Bool
+storedCounts text base = let g = sampleAsked text base in isCellAnswer text base 10 (C.countsForC (ofGrid g (countsOf g)))
 
-abbrev pub total : List ℕ → ℕ → Bool
-total text base = let g = asked text base in isNumberAnswer text base 10 (C.number (ofGrid g (Index.total g)))
+abbrev pub storedTotal : List ℕ → ℕ → Bool
+storedTotal text base = let g = sampleAsked text base in isNumberAnswer text base 10 (C.numberForC (ofGrid g (Index.total g)))
 
-abbrev pub boundingBox : List ℕ → ℕ → Bool
-boundingBox text base = let g = asked text base in isBoxAnswer text base 10 (C.box (ofGrid g (Place.boxOf g)))
+abbrev pub storedBox : List ℕ → ℕ → Bool
+storedBox text base = let g = sampleAsked text base in isBoxAnswer text base 10 (C.boxForC (ofGrid g (Place.gridBox g)))
 
-abbrev pub index : List ℕ → ℕ → Bool
-index text base =
-    let g = asked text base in
-    let c = cellIn (cellAt text base 10) in
-    isNumberAnswer text base 13 (C.number (ofCell g c (Index.indexOf g c)))
+abbrev pub storedIndex : List ℕ → ℕ → Bool
+storedIndex text base =
+    let g = sampleAsked text base in
+    let c = cellIn (sampleCell text base 10) in
+    isNumberAnswer text base 13 (C.numberForC (ofCell g c (Index.indexOf g c)))
 
-abbrev pub coordinates : List ℕ → ℕ → Bool
-coordinates text base =
-    let g = asked text base in
-    let i = wordAt text base 10 in
-    isCellAnswer text base 11 (C.cell (ofIndex g i (Index.cellAt g i)))
+abbrev pub storedCoordinates : List ℕ → ℕ → Bool
+storedCoordinates text base =
+    let g = sampleAsked text base in
+    let i = sampleWord text base 10 in
+    isCellAnswer text base 11 (C.cellForC (ofIndex g i (Index.cellAt g i)))
 
-abbrev pub centre : List ℕ → ℕ → Bool
-centre text base =
-    let g = asked text base in
-    let c = cellIn (cellAt text base 10) in
-    isPointAnswer text base 13 (C.point (ofCell g c (Place.centreOf g c)))
+abbrev pub storedCentre : List ℕ → ℕ → Bool
+storedCentre text base =
+    let g = sampleAsked text base in
+    let c = cellIn (sampleCell text base 10) in
+    isPointAnswer text base 13 (C.pointForC (ofCell g c (Place.centreOf g c)))
 
-abbrev pub snap : List ℕ → ℕ → Bool
-snap text base =
-    let g = asked text base in
-    isSnapAnswer text base 13 (C.snap (ofGrid g (Place.snap g (pointIn (pointAt text base 10)))))
+abbrev pub storedSnap : List ℕ → ℕ → Bool
+storedSnap text base =
+    let g = sampleAsked text base in
+    isSnapAnswer text base 13 (C.snapForC (ofGrid g (Place.snap g (pointIn (samplePoint text base 10)))))
 
-abbrev pub fromBox : List ℕ → ℕ → Bool
-fromBox text base =
+abbrev pub storedFromBox : List ℕ → ℕ → Bool
+storedFromBox text base =
     isGridAnswer text base 10
-    (C.grid (made (Place.fromBox (pointIn (pointAt text base 1)) (pointIn (pointAt text base 4)) (countsIn (cellAt text base 7)))))
+    (C.gridForC (made (Place.fromBox (pointIn (samplePoint text base 1)) (pointIn (samplePoint text base 4)) (countsIn (sampleCell text base 7)))))

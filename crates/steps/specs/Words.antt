@@ -12,8 +12,8 @@ use Rattle.c_records.specs.declared.SdfCell.{SdfCell}
 use Rattle.c_records.specs.declared.SdfGrid.{SdfGrid}
 
 -- the value of a hex digit, 0 to 9 and then a to f, and 0 of any other byte
-unfoldable pub digitOf : ℕ → ℕ
-digitOf b =
+unfoldable pub sampleDigit : ℕ → ℕ
+sampleDigit b =
     if ltb b 48 then 0
     else if ltb b 58 then b - 48
     else if ltb b 97 then 0
@@ -21,40 +21,40 @@ digitOf b =
     else 0
 
 -- two digits
-unfoldable pub byteAt : List ℕ → ℕ → ℕ
-byteAt text at = digitOf (getD text at 0) * 16 + digitOf (getD text (at + 1) 0)
+unfoldable pub sampleByte : List ℕ → ℕ → ℕ
+sampleByte text at = sampleDigit (getD text at 0) * 16 + sampleDigit (getD text (at + 1) 0)
 
 -- four bytes, the highest first
-unfoldable pub bytesAt : List ℕ → ℕ → ℕ
-bytesAt text at = ((byteAt text at * 256 + byteAt text (at + 2)) * 256 + byteAt text (at + 4)) * 256 + byteAt text (at + 6)
+unfoldable pub sampleBytes : List ℕ → ℕ → ℕ
+sampleBytes text at = ((sampleByte text at * 256 + sampleByte text (at + 2)) * 256 + sampleByte text (at + 4)) * 256 + sampleByte text (at + 6)
 
 -- word k of the case that begins with word `base`, and 0 past the end of the text
-unfoldable pub wordAt : List ℕ → ℕ → ℕ → ℕ
-wordAt text base k = if leb (length text / 9) (base + k) then 0 else bytesAt text ((base + k) * 9)
+unfoldable pub sampleWord : List ℕ → ℕ → ℕ → ℕ
+sampleWord text base k = if leb (length text / 9) (base + k) then 0 else sampleBytes text ((base + k) * 9)
 
 -- the values that begin at word k of a case. Every NaN's pattern is the one NaN.
-abbrev pub realAt : List ℕ → ℕ → ℕ → Float
-realAt text base k = ofBits binary32 (wordAt text base k)
+abbrev pub sampleReal : List ℕ → ℕ → ℕ → Float
+sampleReal text base k = ofBits binary32 (sampleWord text base k)
 
-abbrev pub pointAt : List ℕ → ℕ → ℕ → SdfPoint
-pointAt text base k = record { x = realAt text base k; y = realAt text base (k + 1); z = realAt text base (k + 2) }
+abbrev pub samplePoint : List ℕ → ℕ → ℕ → SdfPoint
+samplePoint text base k = record { x = sampleReal text base k; y = sampleReal text base (k + 1); z = sampleReal text base (k + 2) }
 
-abbrev pub cellAt : List ℕ → ℕ → ℕ → SdfCell
-cellAt text base k = record { x = wordAt text base k; y = wordAt text base (k + 1); z = wordAt text base (k + 2) }
+abbrev pub sampleCell : List ℕ → ℕ → ℕ → SdfCell
+sampleCell text base k = record { x = sampleWord text base k; y = sampleWord text base (k + 1); z = sampleWord text base (k + 2) }
 
 -- a grid is the first that goes into a step
-abbrev pub gridAt : List ℕ → ℕ → SdfGrid
-gridAt text base = record { first = pointAt text base 1; size = pointAt text base 4; count = cellAt text base 7 }
+abbrev pub sampleGrid : List ℕ → ℕ → SdfGrid
+sampleGrid text base = record { first = samplePoint text base 1; size = samplePoint text base 4; count = sampleCell text base 7 }
 
 -- whether the value that begins at word k of a case is the given one, bit for bit. The NaN is written as 7fc00000.
-abbrev pub isWord : List ℕ → ℕ → ℕ → ℕ → Bool
-isWord text base k w = eqb (wordAt text base k) w
+abbrev pub isSampleWord : List ℕ → ℕ → ℕ → ℕ → Bool
+isSampleWord text base k w = eqb (sampleWord text base k) w
 
-abbrev pub isReal : List ℕ → ℕ → ℕ → Float → Bool
-isReal text base k x = eqb (wordAt text base k) (toBits binary32 x)
+abbrev pub isSampleReal : List ℕ → ℕ → ℕ → Float → Bool
+isSampleReal text base k x = eqb (sampleWord text base k) (toBits binary32 x)
 
-abbrev pub isPoint : List ℕ → ℕ → ℕ → SdfPoint → Bool
-isPoint text base k p = isReal text base k (p .x) && isReal text base (k + 1) (p .y) && isReal text base (k + 2) (p .z)
+abbrev pub isSamplePoint : List ℕ → ℕ → ℕ → SdfPoint → Bool
+isSamplePoint text base k p = isSampleReal text base k (p .x) && isSampleReal text base (k + 1) (p .y) && isSampleReal text base (k + 2) (p .z)
 
-abbrev pub isCell : List ℕ → ℕ → ℕ → SdfCell → Bool
-isCell text base k c = isWord text base k (c .x) && isWord text base (k + 1) (c .y) && isWord text base (k + 2) (c .z)
+abbrev pub isSampleCell : List ℕ → ℕ → ℕ → SdfCell → Bool
+isSampleCell text base k c = isSampleWord text base k (c .x) && isSampleWord text base (k + 1) (c .y) && isSampleWord text base (k + 2) (c .z)

@@ -11,14 +11,14 @@ ghost use mathlib.Core.Path.{_≡_};
 ghost use Rattle.steps.specs.Geometry as Geometry;
 
 pub fn sqrt(text: &[u8], base: usize) -> bool
-    ensures { λ r. ⌜ r ≡ Geometry.sqrt (now (text .entry)) base ⌝ }
+    ensures { λ r. ⌜ r ≡ Geometry.storedRoot (now (text .entry)) base ⌝ }
 {
     let x = real(text, base, 1);
     is_real(text, base, 2, c_geometry::sdf_sqrt(x))
 }
 
 pub fn sqrt_bits(text: &[u8], base: usize) -> bool
-    ensures { λ r. ⌜ r ≡ Geometry.sqrtBits (now (text .entry)) base ⌝ }
+    ensures { λ r. ⌜ r ≡ Geometry.storedRootBits (now (text .entry)) base ⌝ }
 {
     let b = word(text, base, 1);
     is_word(text, base, 2, c_geometry::sdf_sqrt_bits(b))
@@ -38,7 +38,7 @@ fn order_word(order: i32) -> u32
 }
 
 pub fn compare(text: &[u8], base: usize) -> bool
-    ensures { λ r. ⌜ r ≡ Geometry.compare (now (text .entry)) base ⌝ }
+    ensures { λ r. ⌜ r ≡ Geometry.storedOrder (now (text .entry)) base ⌝ }
 {
     let a = real(text, base, 1);
     let b = real(text, base, 2);
@@ -48,7 +48,7 @@ pub fn compare(text: &[u8], base: usize) -> bool
 }
 
 pub fn triangle_box(text: &[u8], base: usize) -> bool
-    ensures { λ r. ⌜ r ≡ Geometry.triangleBox (now (text .entry)) base ⌝ }
+    ensures { λ r. ⌜ r ≡ Geometry.storedTriangleBox (now (text .entry)) base ⌝ }
 {
     let a = point(text, base, 1);
     let b = point(text, base, 4);
@@ -60,7 +60,7 @@ pub fn triangle_box(text: &[u8], base: usize) -> bool
 }
 
 pub fn segment(text: &[u8], base: usize) -> bool
-    ensures { λ r. ⌜ r ≡ Geometry.segment (now (text .entry)) base ⌝ }
+    ensures { λ r. ⌜ r ≡ Geometry.storedSegment (now (text .entry)) base ⌝ }
 {
     let p = point(text, base, 1);
     let a = point(text, base, 4);
@@ -70,7 +70,7 @@ pub fn segment(text: &[u8], base: usize) -> bool
 }
 
 pub fn triangle(text: &[u8], base: usize) -> bool
-    ensures { λ r. ⌜ r ≡ Geometry.triangle (now (text .entry)) base ⌝ }
+    ensures { λ r. ⌜ r ≡ Geometry.storedTriangle (now (text .entry)) base ⌝ }
 {
     let p = point(text, base, 1);
     let a = point(text, base, 4);
@@ -81,7 +81,7 @@ pub fn triangle(text: &[u8], base: usize) -> bool
 }
 
 pub fn distance(text: &[u8], base: usize) -> bool
-    ensures { λ r. ⌜ r ≡ Geometry.distance (now (text .entry)) base ⌝ }
+    ensures { λ r. ⌜ r ≡ Geometry.storedDistance (now (text .entry)) base ⌝ }
 {
     let p = point(text, base, 1);
     let a = point(text, base, 4);
@@ -92,7 +92,7 @@ pub fn distance(text: &[u8], base: usize) -> bool
 }
 
 pub fn ray(text: &[u8], base: usize) -> bool
-    ensures { λ r. ⌜ r ≡ Geometry.ray (now (text .entry)) base ⌝ }
+    ensures { λ r. ⌜ r ≡ Geometry.storedRay (now (text .entry)) base ⌝ }
 {
     let o = point(text, base, 1);
     let a = point(text, base, 4);

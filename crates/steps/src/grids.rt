@@ -12,42 +12,42 @@ ghost use mathlib.Core.Path.{_≡_};
 ghost use Rattle.steps.specs.Grids as Grids;
 
 pub fn first(text: &[u8], base: usize) -> bool
-    ensures { λ r. ⌜ r ≡ Grids.first (now (text .entry)) base ⌝ }
+    ensures { λ r. ⌜ r ≡ Grids.storedFirst (now (text .entry)) base ⌝ }
 {
     let r = c_grid::sdf_grid_first(grid(text, base));
     is_word(text, base, 10, r.number) & is_point(text, base, 11, r.point)
 }
 
 pub fn last(text: &[u8], base: usize) -> bool
-    ensures { λ r. ⌜ r ≡ Grids.last (now (text .entry)) base ⌝ }
+    ensures { λ r. ⌜ r ≡ Grids.storedLast (now (text .entry)) base ⌝ }
 {
     let r = c_grid::sdf_grid_last(grid(text, base));
     is_word(text, base, 10, r.number) & is_point(text, base, 11, r.point)
 }
 
 pub fn size(text: &[u8], base: usize) -> bool
-    ensures { λ r. ⌜ r ≡ Grids.size (now (text .entry)) base ⌝ }
+    ensures { λ r. ⌜ r ≡ Grids.storedSize (now (text .entry)) base ⌝ }
 {
     let r = c_grid::sdf_grid_size(grid(text, base));
     is_word(text, base, 10, r.number) & is_point(text, base, 11, r.point)
 }
 
 pub fn counts(text: &[u8], base: usize) -> bool
-    ensures { λ r. ⌜ r ≡ Grids.counts (now (text .entry)) base ⌝ }
+    ensures { λ r. ⌜ r ≡ Grids.storedCounts (now (text .entry)) base ⌝ }
 {
     let r = c_grid::sdf_grid_counts(grid(text, base));
     is_word(text, base, 10, r.number) & is_cell(text, base, 11, r.cell)
 }
 
 pub fn total(text: &[u8], base: usize) -> bool
-    ensures { λ r. ⌜ r ≡ Grids.total (now (text .entry)) base ⌝ }
+    ensures { λ r. ⌜ r ≡ Grids.storedTotal (now (text .entry)) base ⌝ }
 {
     let r = c_grid::sdf_grid_total(grid(text, base));
     is_word(text, base, 10, r.number) & is_word(text, base, 11, r.value)
 }
 
 pub fn bounding_box(text: &[u8], base: usize) -> bool
-    ensures { λ r. ⌜ r ≡ Grids.boundingBox (now (text .entry)) base ⌝ }
+    ensures { λ r. ⌜ r ≡ Grids.storedBox (now (text .entry)) base ⌝ }
 {
     let r = c_grid::sdf_grid_box(grid(text, base));
     is_word(text, base, 10, r.number)
@@ -56,28 +56,28 @@ pub fn bounding_box(text: &[u8], base: usize) -> bool
 }
 
 pub fn index(text: &[u8], base: usize) -> bool
-    ensures { λ r. ⌜ r ≡ Grids.index (now (text .entry)) base ⌝ }
+    ensures { λ r. ⌜ r ≡ Grids.storedIndex (now (text .entry)) base ⌝ }
 {
     let r = c_grid::sdf_grid_index(grid(text, base), cell(text, base, 10));
     is_word(text, base, 13, r.number) & is_word(text, base, 14, r.value)
 }
 
 pub fn coordinates(text: &[u8], base: usize) -> bool
-    ensures { λ r. ⌜ r ≡ Grids.coordinates (now (text .entry)) base ⌝ }
+    ensures { λ r. ⌜ r ≡ Grids.storedCoordinates (now (text .entry)) base ⌝ }
 {
     let r = c_grid::sdf_grid_coordinates(grid(text, base), word(text, base, 10));
     is_word(text, base, 11, r.number) & is_cell(text, base, 12, r.cell)
 }
 
 pub fn centre(text: &[u8], base: usize) -> bool
-    ensures { λ r. ⌜ r ≡ Grids.centre (now (text .entry)) base ⌝ }
+    ensures { λ r. ⌜ r ≡ Grids.storedCentre (now (text .entry)) base ⌝ }
 {
     let r = c_grid::sdf_grid_centre(grid(text, base), cell(text, base, 10));
     is_word(text, base, 13, r.number) & is_point(text, base, 14, r.point)
 }
 
 pub fn snap(text: &[u8], base: usize) -> bool
-    ensures { λ r. ⌜ r ≡ Grids.snap (now (text .entry)) base ⌝ }
+    ensures { λ r. ⌜ r ≡ Grids.storedSnap (now (text .entry)) base ⌝ }
 {
     let r = c_grid::sdf_grid_snap(grid(text, base), point(text, base, 10));
     is_word(text, base, 13, r.number)
@@ -86,7 +86,7 @@ pub fn snap(text: &[u8], base: usize) -> bool
 }
 
 pub fn from_box(text: &[u8], base: usize) -> bool
-    ensures { λ r. ⌜ r ≡ Grids.fromBox (now (text .entry)) base ⌝ }
+    ensures { λ r. ⌜ r ≡ Grids.storedFromBox (now (text .entry)) base ⌝ }
 {
     let low = point(text, base, 1);
     let high = point(text, base, 4);

@@ -5,7 +5,7 @@ use mathlib.Core.Bool.{Bool, true, false, cond}
 use mathlib.Core.List.{List}
 use borrow.Author.Tests.{leb-true}
 use Rattle.text.specs.Words.{space, lf}
-use Rattle.text.specs.Reader.{Got, took, nothing, follow, kept, orElse, three, threeAt, numberLine}
+use Rattle.text.specs.Reader.{Got, took, nothing, follow, kept, orTry, three, threeNumbers, numberLine}
 use Rattle.text.proofs.Formats.{kept-took}
 
 module _ {A B : Type 0} (f : A → List ℕ → Got B) where
@@ -31,32 +31,32 @@ module _ {A : Type 0} (t : A → Bool) {x : Got A} where
   kept-not e = ap (kept t) e
 
 module _ {A : Type 0} {x : Got A} where
-  pub the-first : (y : Got A) {a : A} {s : List ℕ} → took a s ≡ x → took a s ≡ orElse x y
-  unfolding orElse
-  the-first y e = ap (λ (g : Got A). orElse g y) e
+  pub the-first : (y : Got A) {a : A} {s : List ℕ} → took a s ≡ x → took a s ≡ orTry x y
+  unfolding orTry
+  the-first y e = ap (λ (g : Got A). orTry g y) e
 
-  pub the-second : {y z : Got A} → nothing ≡ x → z ≡ y → z ≡ orElse x y
-  unfolding orElse
-  the-second {y = y} e h = h ∙ ap (λ (g : Got A). orElse g y) e
+  pub the-second : {y z : Got A} → nothing ≡ x → z ≡ y → z ≡ orTry x y
+  unfolding orTry
+  the-second {y = y} e h = h ∙ ap (λ (g : Got A). orTry g y) e
 
 -- three numbers, each by the reader p
 module _ (p : ℕ → List ℕ → Got ℕ) {s : List ℕ} where
-  pub three-not : nothing ≡ p space s → nothing ≡ threeAt p s
-  unfolding threeAt
+  pub three-not : nothing ≡ p space s → nothing ≡ threeNumbers p s
+  unfolding threeNumbers
   three-not e = stopped _ e
 
   module _ {x : ℕ} {t : List ℕ} (first : took x t ≡ p space s) where
-    pub three-not-2 : nothing ≡ p space t → nothing ≡ threeAt p s
-    unfolding threeAt
+    pub three-not-2 : nothing ≡ p space t → nothing ≡ threeNumbers p s
+    unfolding threeNumbers
     three-not-2 e = stopped _ e ∙ onward _ first
 
     module _ {y : ℕ} {u : List ℕ} (second : took y u ≡ p space t) where
-      pub three-not-3 : nothing ≡ p lf u → nothing ≡ threeAt p s
-      unfolding threeAt
+      pub three-not-3 : nothing ≡ p lf u → nothing ≡ threeNumbers p s
+      unfolding threeNumbers
       three-not-3 e = stopped _ e ∙ onward _ second ∙ onward _ first
 
-      pub three-are : {z : ℕ} {v : List ℕ} → took z v ≡ p lf u → took (three x y z) v ≡ threeAt p s
-      unfolding threeAt
+      pub three-are : {z : ℕ} {v : List ℕ} → took z v ≡ p lf u → took (three x y z) v ≡ threeNumbers p s
+      unfolding threeNumbers
       three-are e = onward _ e ∙ onward _ second ∙ onward _ first
 
 -- a number that was taken is at most as large as its line allows

@@ -8,7 +8,7 @@ use mathlib.Core.Bool.{Bool, true, false, cond, true≢false}
 use mathlib.Core.Logic.{_⊎_, inl, inr, ⊎-elim}
 use mathlib.Core.List.{List, [], _∷_, _++_, append-assoc, append-nil}
 use borrow.Author.Tests.{eqb-true, eq-eqb}
-use Rattle.text.specs.Reader.{Got, took, nothing, follow, kept, orElse, wordAt}
+use Rattle.text.specs.Reader.{Got, took, nothing, follow, kept, orTry, wordAt}
 
 -- of the values that are `In`
 pub record Reads {A : Type 0} (In : A → Type 0) (f : A → List ℕ) (p : List ℕ → Got A) : Type 0 where
@@ -33,8 +33,8 @@ module _ {A : Type 0} where
   chosen true x y a r e = inl (refl, e)
   chosen false x y a r e = inr (refl, e)
 
-  pub either-took : (x y : Got A) (a : A) (r : List ℕ) → orElse x y ≡ took a r → (x ≡ took a r) ⊎ (y ≡ took a r)
-  unfolding orElse
+  pub either-took : (x y : Got A) (a : A) (r : List ℕ) → orTry x y ≡ took a r → (x ≡ took a r) ⊎ (y ≡ took a r)
+  unfolding orTry
   either-took (took b s) y a r e = inl e
   either-took nothing y a r e = inr e
 
@@ -140,8 +140,8 @@ pub either-reads : {A : Type 0} {In₁ In₂ : A → Type 0} {f : A → List ℕ
     → Reads In₁ f p
     → Reads In₂ f q
     → ((a : A) (r : List ℕ) → In₂ a → p (f a ++ r) ≡ nothing)
-    → Reads (λ a. In₁ a ⊎ In₂ a) f (λ s. orElse (p s) (q s))
-unfolding orElse
+    → Reads (λ a. In₁ a ⊎ In₂ a) f (λ s. orTry (p s) (q s))
+unfolding orTry
 either-reads {f = f} {p = p} {q = q} one two apart =
     record {
       sound =
@@ -150,8 +150,8 @@ either-reads {f = f} {p = p} {q = q} one two apart =
           (either-took (p s) (q s) a r e);
       complete =
           λ a r i.
-          ⊎-elim (λ h. ap (λ g. orElse g (q (f a ++ r))) (one .complete a r h))
-          (λ h. ap (λ g. orElse g (q (f a ++ r))) (apart a r h) ∙ two .complete a r h)
+          ⊎-elim (λ h. ap (λ g. orTry g (q (f a ++ r))) (one .complete a r h))
+          (λ h. ap (λ g. orTry g (q (f a ++ r))) (apart a r h) ∙ two .complete a r h)
           i;
     }
 

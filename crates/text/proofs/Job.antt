@@ -18,7 +18,7 @@ use Rattle.text.specs.declared.Tail.{Tail}
 use Rattle.text.specs.Words.{bytes, space, lf, decimal, hex8, digits, spaced, line, lines}
 use Rattle.text.specs.TextJob.{
   TextJob,
-  Listed,
+  TextIndices,
   none,
   these,
   numbers,
@@ -43,7 +43,7 @@ use Rattle.text.specs.Reader.{
   numberAt,
   bitsAt,
   three,
-  threeAt,
+  threeNumbers,
   numberLine,
   floatsLine,
   fewCells,
@@ -52,7 +52,7 @@ use Rattle.text.specs.Reader.{
   linesAt,
   head,
   headAt,
-  vertexAt,
+  vertexLineAt,
   verticesAt,
   indexAt,
   indicesAt,
@@ -79,8 +79,8 @@ line-reads f key reads =
 
 three-reads : {p : ℕ → List ℕ → Got ℕ} (f : ℕ → List ℕ)
     → ((stop : ℕ) → stop < 48 → Reads Word (λ n. f n ++ stop ∷ []) (p stop))
-    → Reads Words (λ t. spaced (f (t .x)) (f (t .y)) (f (t .z)) ++ lf ∷ []) (threeAt p)
-unfolding threeAt
+    → Reads Words (λ t. spaced (f (t .x)) (f (t .y)) (f (t .z)) ++ lf ∷ []) (threeNumbers p)
+unfolding threeNumbers
 three-reads {p = p} f reads =
     reshaped
     (chain {g = λ t. (f (t .y) ++ space ∷ []) ++ ((f (t .z) ++ lf ∷ []) ++ [])} (λ (t : Three). t .x) _ (reads space (omega arith)) (λ t w. w .x-fits)
@@ -152,7 +152,7 @@ vertices-read =
     (λ vs h. refl))
 
 -- indices that are given
-Many : Listed → Type 0
+Many : TextIndices → Type 0
 Many none = ⊥
 Many (these is) = (length is ≤ 768) × All Word is
 
@@ -160,7 +160,7 @@ given-read : Reads Many indicesText (λ s. follow (numberLine (bytes "indices=")
 unfolding Many indicesText
 given-read =
     reshaped
-    (chain {g = λ l. lines indexLine (indexList l) ++ []} (λ (l : Listed). length (indexList l)) _ (number-line "indices=" 768 (omega arith)) (λ l h. few l h)
+    (chain {g = λ l. lines indexLine (indexList l) ++ []} (λ (l : TextIndices). length (indexList l)) _ (number-line "indices=" 768 (omega arith)) (λ l h. few l h)
     (λ n i.
     chain indexList _ (lines-reads index n) (λ l h. (h .1, fit l (h .0)))
     (λ is k. finished (these is) (((subst (λ (m : ℕ). m ≤ 768) (sym (k .0)) i, k .1), k .0), refl) (λ l h. same l is (h .0 .0) (h .1)))))
@@ -171,19 +171,19 @@ given-read =
     index : Reads Word indexLine indexAt
     index = reshaped (number-line "i=" 4294967295 (omega arith)) (λ n h. omega arith) (λ n h. omega arith) (λ n h. refl)
 
-    few : (l : Listed) → Many l → length (indexList l) ≤ 768
+    few : (l : TextIndices) → Many l → length (indexList l) ≤ 768
     few none h = absurd h
     few (these is) h = h .0
 
-    fit : (l : Listed) → Many l → All Word (indexList l)
+    fit : (l : TextIndices) → Many l → All Word (indexList l)
     fit none h = absurd h
     fit (these is) h = h .1
 
-    same : (l : Listed) (is : List ℕ) → Many l → indexList l ≡ is → l ≡ these is
+    same : (l : TextIndices) (is : List ℕ) → Many l → indexList l ≡ is → l ≡ these is
     same none is h e = absurd h
     same (these js) is h e = ap these e
 
-    text : (l : Listed) → Many l → line "indices=" (decimal (length (indexList l))) ++ (lines indexLine (indexList l) ++ []) ≡ indicesText l
+    text : (l : TextIndices) → Many l → line "indices=" (decimal (length (indexList l))) ++ (lines indexLine (indexList l) ++ []) ≡ indicesText l
     text none h = absurd h
     text (these is) h = ap (λ (k : List ℕ). line "indices=" (decimal (length is)) ++ k) (append-nil (lines indexLine is))
 
@@ -192,7 +192,7 @@ not-none : (c : ℕ) (s : List ℕ) → c < 58 → wordAt (bytes "indices=none\n
 unfolding wordAt
 not-none c s h = rw (ne-eqb c 110 (λ e. omega arith))
 
-Fitting : Listed → Type 0
+Fitting : TextIndices → Type 0
 Fitting l = (length (indexList l) ≤ 768) × All Word (indexList l)
 
 digits-then : (is : List ℕ) (r : List ℕ)
@@ -200,7 +200,7 @@ digits-then : (is : List ℕ) (r : List ℕ)
 unfolding indicesText line
 digits-then is r = simp append-assoc
 
-apart : (l : Listed) (r : List ℕ) → Many l → follow (wordAt (bytes "indices=none\n") (indicesText l ++ r)) (λ u s. took none s) ≡ nothing
+apart : (l : TextIndices) (r : List ℕ) → Many l → follow (wordAt (bytes "indices=none\n") (indicesText l ++ r)) (λ u s. took none s) ≡ nothing
 unfolding Many
 apart none r h = absurd h
 apart (these is) r h =
@@ -216,12 +216,12 @@ indices-read =
     reshaped (either-reads (constant-reads (bytes "indices=none\n") none refl) given-read apart) (λ l h. fits l h) (λ l h. one l h)
     (λ l h. refl)
   where
-    fits : (l : Listed) → (l ≡ none) ⊎ Many l → Fitting l
+    fits : (l : TextIndices) → (l ≡ none) ⊎ Many l → Fitting l
     fits none h = (omega arith, tt)
     fits (these is) (inl e) = absurd (let z : _≡_ {A = ℕ} 0 1 = cc in omega arith)
     fits (these is) (inr h) = h
 
-    one : (l : Listed) → Fitting l → (l ≡ none) ⊎ Many l
+    one : (l : TextIndices) → Fitting l → (l ≡ none) ⊎ Many l
     one none h = inl refl
     one (these is) h = inr h
 

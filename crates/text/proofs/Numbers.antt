@@ -11,7 +11,7 @@ use lib.Dec.{ltb, eqb}
 use borrow.Author.Tests.{ltb-true, ltb-false, lt-ltb, le-ltb, eqb-true, ne-eqb, eq-eqb}
 use Rattle.text.specs.Words.{digits, decimal, hexDigit, hex, hex8}
 use Rattle.text.specs.TextJob.{Word}
-use Rattle.text.specs.Reader.{Got, took, nothing, digitOf, digitsAt, numberAt, endAt, hexAt, bitsAt}
+use Rattle.text.specs.Reader.{Got, took, nothing, hexValue, digitsAt, numberAt, endAt, hexAt, bitsAt}
 use Rattle.text.proofs.Formats.{Reads, never, passed, chosen}
 use Rattle.text.proofs.Digits.{digit-of, digit-is, hex-of, hex-is}
 
@@ -97,7 +97,7 @@ module _ (stop : ℕ) (stops : stop < 48) where
   unfolding digitsAt
   stays v [] n r w e = never refl e
   stays v (b ∷ s) n r w e =
-      let ih = stays (10 * v + digitOf b) s n r in
+      let ih = stays (10 * v + hexValue b) s n r in
       ⊎-elim (λ h. stopped b s v n r w (h .0) (h .1)) (λ h. further b s v n r ih (h .1)) (chosen (eqb b stop) _ _ n r e)
     where
       stopped : (b : ℕ) (s : List ℕ) (v n : ℕ) (r : List ℕ)
@@ -112,12 +112,12 @@ module _ (stop : ℕ) (stops : stop < 48) where
           (omega arith, cc)
 
       further : (b : ℕ) (s : List ℕ) (v n : ℕ) (r : List ℕ)
-          → (Word (10 * v + digitOf b)
-          → digitsAt stop (10 * v + digitOf b) s ≡ took n r
-          → Word n × (decimal (10 * v + digitOf b) ++ s ≡ decimal n ++ stop ∷ r))
+          → (Word (10 * v + hexValue b)
+          → digitsAt stop (10 * v + hexValue b) s ≡ took n r
+          → Word n × (decimal (10 * v + hexValue b) ++ s ≡ decimal n ++ stop ∷ r))
           → cond (ltb 0 v)
-          (cond (ltb (digitOf b) 10)
-          (cond (ltb (10 * v + digitOf b) (2 ^ 32)) (digitsAt stop (10 * v + digitOf b) s) nothing)
+          (cond (ltb (hexValue b) 10)
+          (cond (ltb (10 * v + hexValue b) (2 ^ 32)) (digitsAt stop (10 * v + hexValue b) s) nothing)
           nothing)
           nothing
           ≡ took n r
@@ -127,13 +127,13 @@ module _ (stop : ℕ) (stops : stop < 48) where
           let q = passed _ _ n r (p .1) in
           let u = passed _ _ n r (q .1) in
           let above : 0 < v = ltb-true _ _ (p .0) in
-          let digit : digitOf b < 10 = ltb-true _ _ (q .0) in
-          let fits : 10 * v + digitOf b < 2 ^ 32 = ltb-true _ _ (u .0) in
+          let digit : hexValue b < 10 = ltb-true _ _ (q .0) in
+          let fits : 10 * v + hexValue b < 2 ^ 32 = ltb-true _ _ (u .0) in
           let done = ih fits (u .1) in (
             done .0,
             ap (λ (c : ℕ). decimal v ++ c ∷ s) (digit-is b digit)
-                ∙ sym (append-assoc (decimal v) ((48 + digitOf b) ∷ []) s)
-                ∙ ap (λ (l : List ℕ). l ++ s) (sym (behind v (digitOf b) above digit fits))
+                ∙ sym (append-assoc (decimal v) ((48 + hexValue b) ∷ []) s)
+                ∙ ap (λ (l : List ℕ). l ++ s) (sym (behind v (hexValue b) above digit fits))
                 ∙ done .1,
           )
 
@@ -142,11 +142,11 @@ module _ (stop : ℕ) (stops : stop < 48) where
   number-sound [] n r e = never refl e
   number-sound (b ∷ s) n r e =
       let p = passed _ _ n r e in
-      let digit : digitOf b < 10 = ltb-true _ _ (p .0) in
-      let done = stays (digitOf b) s n r (omega arith) (p .1) in (
+      let digit : hexValue b < 10 = ltb-true _ _ (p .0) in
+      let done = stays (hexValue b) s n r (omega arith) (p .1) in (
         done .0,
         ap (λ (c : ℕ). c ∷ s) (digit-is b digit)
-            ∙ ap (λ (l : List ℕ). l ++ s) (sym (single (digitOf b) digit))
+            ∙ ap (λ (l : List ℕ). l ++ s) (sym (single (hexValue b) digit))
             ∙ done .1
             ∙ sym (append-assoc (decimal n) (stop ∷ []) r),
       )
@@ -167,12 +167,12 @@ module _ (stop : ℕ) (stops : stop < 48) where
 -- ---- hex numbers
 
 -- one more digit behind v
-hex-behind : (m v b : ℕ) → digitOf b < 16 → hex (suc m) (16 * v + digitOf b) ≡ hex m v ++ b ∷ []
+hex-behind : (m v b : ℕ) → hexValue b < 16 → hex (suc m) (16 * v + hexValue b) ≡ hex m v ++ b ∷ []
 unfolding hex
 hex-behind m v b h =
-    let l = last16 (16 * v + digitOf b) in
-    let q : (16 * v + digitOf b) / 16 ≡ v = omega arith in
-    let d : (16 * v + digitOf b) % 16 ≡ digitOf b = omega arith in
+    let l = last16 (16 * v + hexValue b) in
+    let q : (16 * v + hexValue b) / 16 ≡ v = omega arith in
+    let d : (16 * v + hexValue b) % 16 ≡ hexValue b = omega arith in
     rw (q, d) (ap (λ (c : ℕ). hex m v ++ c ∷ []) (hex-is b h))
 
 module _ (stop : ℕ) where
@@ -212,10 +212,10 @@ module _ (stop : ℕ) where
   hex-stays (suc n) m v [] b r w e = never refl e
   hex-stays (suc n) m v (c ∷ s) b r w e =
       let p = passed _ _ b r e in
-      let digit : digitOf c < 16 = ltb-true _ _ (p .0) in
-      let done = hex-stays n (suc m) (16 * v + digitOf c) s b r (omega arith) (p .1) in
+      let digit : hexValue c < 16 = ltb-true _ _ (p .0) in
+      let done = hex-stays n (suc m) (16 * v + hexValue c) s b r (omega arith) (p .1) in
       let z : suc m + n ≡ m + suc n = omega arith in
-      let d : (b < 16 ^ (m + suc n)) × (hex (suc m) (16 * v + digitOf c) ++ s ≡ hex (m + suc n) b ++ stop ∷ r) = rw z at done in (
+      let d : (b < 16 ^ (m + suc n)) × (hex (suc m) (16 * v + hexValue c) ++ s ≡ hex (m + suc n) b ++ stop ∷ r) = rw z at done in (
         d .0,
         sym (append-assoc (hex m v) (c ∷ []) s) ∙ ap (λ (l : List ℕ). l ++ s) (sym (hex-behind m v c digit)) ∙ d .1,
       )

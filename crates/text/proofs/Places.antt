@@ -7,7 +7,7 @@ use mathlib.Core.List.{List, [], _∷_}
 use lib.ListN.{length, getD, drop, drop-of-length-le}
 use lib.Seq.{drop-cons}
 use borrow.Author.Tests.{lt-ltb, le-ltb, eq-eqb, ne-eqb}
-use Rattle.text.specs.Reader.{took, nothing, digitOf, wordAt, digitsAt, numberAt, endAt, hexAt}
+use Rattle.text.specs.Reader.{took, nothing, hexValue, wordAt, digitsAt, numberAt, endAt, hexAt}
 
 pub here : (t : List ℕ) (k : ℕ) → k < length t → drop k t ≡ getD t k 0 ∷ drop (k + 1) t
 here t k h = drop-cons t k 0 h ∙ ap (λ (n : ℕ). getD t k 0 ∷ drop n t) (sym (add-one k))
@@ -44,11 +44,11 @@ module _ (stop : ℕ) (t : List ℕ) (k : ℕ) where
   unfolding numberAt
   number-past h = rw (past t k h)
 
-  pub number-not : {d : ℕ} → k < length t → d ≡ digitOf (getD t k 0) → 10 ≤ d → numberAt stop (drop k t) ≡ nothing
+  pub number-not : {d : ℕ} → k < length t → d ≡ hexValue (getD t k 0) → 10 ≤ d → numberAt stop (drop k t) ≡ nothing
   unfolding numberAt
   number-not {d = d} h e l = rw (here t k h, ← e, le-ltb d 10 l)
 
-  pub number-first : {d : ℕ} → k < length t → d ≡ digitOf (getD t k 0) → d < 10 → numberAt stop (drop k t) ≡ digitsAt stop d (drop (k + 1) t)
+  pub number-first : {d : ℕ} → k < length t → d ≡ hexValue (getD t k 0) → d < 10 → numberAt stop (drop k t) ≡ digitsAt stop d (drop (k + 1) t)
   unfolding numberAt
   number-first {d = d} h e l = rw (here t k h, ← e, lt-ltb d 10 l)
 
@@ -68,7 +68,7 @@ module _ (stop : ℕ) (t : List ℕ) (k : ℕ) where
       unfolding digitsAt
       digits-zero z = rw (here t k h, ne-eqb (getD t k 0) stop n, le-ltb 0 v (omega arith))
 
-      module _ {d : ℕ} (p : v ≡ 0 → ⊥) (e : d ≡ digitOf (getD t k 0)) where
+      module _ {d : ℕ} (p : v ≡ 0 → ⊥) (e : d ≡ hexValue (getD t k 0)) where
         pub digits-not : 10 ≤ d → digitsAt stop v (drop k t) ≡ nothing
         unfolding digitsAt
         digits-not l = rw (here t k h, ne-eqb (getD t k 0) stop n, lt-ltb 0 v (omega arith), ← e, le-ltb d 10 l)
@@ -90,14 +90,14 @@ module _ (stop : ℕ) (t : List ℕ) (k : ℕ) where
     hex-past zero h = rw (past t k h)
     hex-past (suc n) h = rw (past t k h)
 
-    pub hex-not : {n m d : ℕ} → n ≡ suc m → k < length t → d ≡ digitOf (getD t k 0) → 16 ≤ d → hexAt stop n v (drop k t) ≡ nothing
+    pub hex-not : {n m d : ℕ} → n ≡ suc m → k < length t → d ≡ hexValue (getD t k 0) → 16 ≤ d → hexAt stop n v (drop k t) ≡ nothing
     unfolding hexAt
     hex-not {d = d} q h e l = rw (q, here t k h, ← e, le-ltb d 16 l)
 
     pub hex-next : {n m d : ℕ}
         → n ≡ suc m
         → k < length t
-        → d ≡ digitOf (getD t k 0)
+        → d ≡ hexValue (getD t k 0)
         → d < 16
         → hexAt stop n v (drop k t) ≡ hexAt stop m (16 * v + d) (drop (k + 1) t)
     unfolding hexAt

@@ -10,7 +10,7 @@ use Rattle.text.specs.declared.Three.{Three}
 use Rattle.text.specs.declared.Head.{Head}
 use Rattle.text.specs.declared.Tail.{Tail}
 use Rattle.text.specs.Words.{bytes, space, lf}
-use Rattle.text.specs.TextJob.{TextJob, Listed, none, these}
+use Rattle.text.specs.TextJob.{TextJob, TextIndices, none, these}
 
 -- what stands at the front of a text: a value, and what follows it; or no such value
 pub data Got (A : Type 0) : Type 0 where
@@ -27,9 +27,9 @@ kept t (took a s) = cond (t a) (took a s) nothing
 kept t nothing = nothing
 
 -- the first, or where there is none the second
-unfoldable pub orElse : {A : Type 0} → Got A → Got A → Got A
-orElse (took a s) other = took a s
-orElse nothing other = other
+unfoldable pub orTry : {A : Type 0} → Got A → Got A → Got A
+orTry (took a s) other = took a s
+orTry nothing other = other
 
 -- ---- words and numbers
 
@@ -39,8 +39,8 @@ wordAt (w ∷ ws) [] = nothing
 wordAt (w ∷ ws) (b ∷ s) = cond (eqb b w) (wordAt ws s) nothing
 
 -- the value of a lower-case hex digit, and 16 of any other byte
-unfoldable pub digitOf : ℕ → ℕ
-digitOf b = cond (ltb b 48) 16 (cond (ltb b 58) (b - 48) (cond (ltb b 97) 16 (cond (ltb b 103) (b - 87) 16)))
+unfoldable pub hexValue : ℕ → ℕ
+hexValue b = cond (ltb b 48) 16 (cond (ltb b 58) (b - 48) (cond (ltb b 97) 16 (cond (ltb b 103) (b - 87) 16)))
 
 -- the digits after the first ones, whose value is v, up to the byte `stop`; after a 0 there are none
 unfoldable pub digitsAt : ℕ → ℕ → List ℕ → Got ℕ
@@ -48,15 +48,15 @@ digitsAt stop v [] = nothing
 digitsAt stop v (b ∷ s) =
     cond (eqb b stop) (took v s)
     (cond (ltb 0 v)
-    (cond (ltb (digitOf b) 10)
-    (cond (ltb (10 * v + digitOf b) (2 ^ 32)) (digitsAt stop (10 * v + digitOf b) s) nothing)
+    (cond (ltb (hexValue b) 10)
+    (cond (ltb (10 * v + hexValue b) (2 ^ 32)) (digitsAt stop (10 * v + hexValue b) s) nothing)
     nothing)
     nothing)
 
 -- a decimal number and the byte `stop`
 unfoldable pub numberAt : ℕ → List ℕ → Got ℕ
 numberAt stop [] = nothing
-numberAt stop (b ∷ s) = cond (ltb (digitOf b) 10) (digitsAt stop (digitOf b) s) nothing
+numberAt stop (b ∷ s) = cond (ltb (hexValue b) 10) (digitsAt stop (hexValue b) s) nothing
 
 -- a value that the byte `stop` ends
 unfoldable pub endAt : ℕ → ℕ → List ℕ → Got ℕ
@@ -67,7 +67,7 @@ endAt stop v (b ∷ s) = cond (eqb b stop) (took v s) nothing
 unfoldable pub hexAt : ℕ → ℕ → ℕ → List ℕ → Got ℕ
 hexAt stop zero v s = endAt stop v s
 hexAt stop (suc n) v [] = nothing
-hexAt stop (suc n) v (b ∷ s) = cond (ltb (digitOf b) 16) (hexAt stop n (16 * v + digitOf b) s) nothing
+hexAt stop (suc n) v (b ∷ s) = cond (ltb (hexValue b) 16) (hexAt stop n (16 * v + hexValue b) s) nothing
 
 -- eight hex digits and the byte `stop`
 abbrev pub bitsAt : ℕ → List ℕ → Got ℕ
@@ -79,8 +79,8 @@ abbrev pub three : ℕ → ℕ → ℕ → Three
 three x y z = record { x = x; y = y; z = z }
 
 -- three numbers to the end of the line, each by the reader p
-unfoldable pub threeAt : (ℕ → List ℕ → Got ℕ) → List ℕ → Got Three
-threeAt p s = follow (p space s) (λ x s. follow (p space s) (λ y s. follow (p lf s) (λ z s. took (three x y z) s)))
+unfoldable pub threeNumbers : (ℕ → List ℕ → Got ℕ) → List ℕ → Got Three
+threeNumbers p s = follow (p space s) (λ x s. follow (p space s) (λ y s. follow (p lf s) (λ z s. took (three x y z) s)))
 
 -- a line with a number that is at most `most`
 unfoldable pub numberLine : List ℕ → ℕ → List ℕ → Got ℕ
@@ -88,18 +88,18 @@ numberLine key most s = kept (λ n. leb n most) (follow (wordAt key s) (λ _ s. 
 
 -- a line with three floats
 unfoldable pub floatsLine : List ℕ → List ℕ → Got Three
-floatsLine key s = follow (wordAt key s) (λ _ s. threeAt bitsAt s)
+floatsLine key s = follow (wordAt key s) (λ _ s. threeNumbers bitsAt s)
 
 -- "512 cells"
 abbrev pub fewCells : Three → Bool
 fewCells c = leb (c .x * c .y * c .z) 512
 
 unfoldable pub countLine : List ℕ → Got Three
-countLine s = kept fewCells (follow (wordAt (bytes "count=") s) (λ _ s. threeAt numberAt s))
+countLine s = kept fewCells (follow (wordAt (bytes "count=") s) (λ _ s. threeNumbers numberAt s))
 
 unfoldable pub topologyLine : List ℕ → Got Topology
 topologyLine s =
-    orElse (follow (wordAt (bytes "topology=list\n") s) (λ _ s. took TriangleList s))
+    orTry (follow (wordAt (bytes "topology=list\n") s) (λ _ s. took TriangleList s))
     (follow (wordAt (bytes "topology=strip\n") s) (λ _ s. took TriangleStrip s))
 
 -- n lines, each by the reader p
@@ -121,18 +121,18 @@ headAt s =
     follow (floatsLine (bytes "size=") s)
     (λ size s. follow (topologyLine s) (λ topology s. took (head count first size topology) s))))
 
-abbrev pub vertexAt : List ℕ → Got Three
-vertexAt s = floatsLine (bytes "v=") s
+abbrev pub vertexLineAt : List ℕ → Got Three
+vertexLineAt s = floatsLine (bytes "v=") s
 
 unfoldable pub verticesAt : List ℕ → Got (List Three)
-verticesAt s = follow (numberLine (bytes "vertices=") 256 s) (λ n s. linesAt n vertexAt s)
+verticesAt s = follow (numberLine (bytes "vertices=") 256 s) (λ n s. linesAt n vertexLineAt s)
 
 abbrev pub indexAt : List ℕ → Got ℕ
 indexAt s = numberLine (bytes "i=") 4294967295 s
 
-unfoldable pub indicesAt : List ℕ → Got Listed
+unfoldable pub indicesAt : List ℕ → Got TextIndices
 indicesAt s =
-    orElse (follow (wordAt (bytes "indices=none\n") s) (λ _ s. took none s))
+    orTry (follow (wordAt (bytes "indices=none\n") s) (λ _ s. took none s))
     (follow (numberLine (bytes "indices=") 768 s) (λ n s. follow (linesAt n indexAt s) (λ is s. took (these is) s)))
 
 abbrev pub tail : ℕ → ℕ → Tail
@@ -143,7 +143,7 @@ tailAt s =
     follow (numberLine (bytes "queue=") 2048 s)
     (λ room s. follow (numberLine (bytes "pops=") 4294967295 s) (λ limit s. took (tail room limit) s))
 
-abbrev pub assembled : Head → List Three → Listed → Tail → TextJob
+abbrev pub assembled : Head → List Three → TextIndices → Tail → TextJob
 assembled h vs is t =
     record {
       count = h .count;

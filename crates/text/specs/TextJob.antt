@@ -12,9 +12,9 @@ use Rattle.text.specs.declared.Three.{Three}
 use Rattle.text.specs.Words.{bytes, decimal, hex8, spaced, line, lines}
 
 -- "Indices may be `indices=none` with no `i` lines."
-pub data Listed : Type 0 where
-  none : Listed
-  these : List ℕ → Listed
+pub data TextIndices : Type 0 where
+  none : TextIndices
+  these : List ℕ → TextIndices
 
 pub record TextJob : Type 0 where
   pub count : Three
@@ -24,7 +24,7 @@ pub record TextJob : Type 0 where
   pub topology : Topology
   -- the bits of each vertex
   pub vertices : List Three
-  pub indices : Listed
+  pub indices : TextIndices
   -- the queue room and the pop limit
   pub room : ℕ
   pub limit : ℕ
@@ -46,7 +46,7 @@ vertexLine v = line "v=" (floats v)
 abbrev pub indexLine : ℕ → List ℕ
 indexLine i = line "i=" (decimal i)
 
-unfoldable pub indicesText : Listed → List ℕ
+unfoldable pub indicesText : TextIndices → List ℕ
 indicesText none = line "indices=" (bytes "none")
 indicesText (these is) = line "indices=" (decimal (length is)) ++ lines indexLine is
 
@@ -66,11 +66,11 @@ jobText j =
 -- ---- what it stands for
 
 -- the indices of a text, which are none without them
-abbrev pub indexList : Listed → List ℕ
+abbrev pub indexList : TextIndices → List ℕ
 indexList none = []
 indexList (these is) = is
 
-abbrev pub givenOf : Listed → Indices
+abbrev pub givenOf : TextIndices → Indices
 givenOf none = None
 givenOf (these is) = Given
 

@@ -10,8 +10,8 @@ use Rattle.lists.specs.Turns.{Turn, goes, told, turns}
 use Rattle.lists.proofs.Turns.{told-goes, turns-none, turns-on, turns-stop}
 use Rattle.grid.specs.declared.Grid.{Grid}
 use Rattle.mesh.specs.Mesh.{Mesh}
-use Rattle.run.specs.Run.{Ground, State}
-use Rattle.run.specs.Ground.{groundOf}
+use Rattle.run.specs.Run.{RunInput, State}
+use Rattle.run.specs.Ground.{runInput}
 use Rattle.told.specs.declared.Progress.{Progress}
 use Rattle.told.specs.Told.{orderIn, stateOf, Holds, Told}
 
@@ -37,8 +37,8 @@ alike l h h₀ =
 
 -- ---- what is told of a turn is told of another that is the same over every ground of a job
 
-pub told-as : {g : Grid} {m : Mesh} {f h : Ground → State → Turn State} {field field′ : List Float} {names ds cs ts names′ ds′ cs′ ts′ : List ℕ} {p r : Progress}
-    → ((room any : ℕ) (s : State) → h (groundOf g m room any) s ≡ f (groundOf g m room any) s)
+pub told-as : {g : Grid} {m : Mesh} {f h : RunInput → State → Turn State} {field field′ : List Float} {names ds cs ts names′ ds′ cs′ ts′ : List ℕ} {p r : Progress}
+    → ((room any : ℕ) (s : State) → h (runInput g m room any) s ≡ f (runInput g m room any) s)
     → Told g m f field names ds cs ts p field′ names′ ds′ cs′ ts′ r → Told g m h field names ds cs ts p field′ names′ ds′ cs′ ts′ r
 told-as {m = m} {field = field} {names = names} {ds} {cs} {ts} {p = p} e t =
     record { holds = t .holds; is = λ any. e (length ds) any (stateOf (orderIn m) field names ds cs ts p) ∙ t .is any }
@@ -46,25 +46,25 @@ told-as {m = m} {field = field} {names = names} {ds} {cs} {ts} {p = p} e t =
 -- ---- a loop
 
 -- the slices, which held field₀ to ts₀ and r₀, hold what k turns by `f 0`, `f 1` .. leave
-module _ (g : Grid) (m : Mesh) (f : Ground → ℕ → State → Turn State) where
+module _ (g : Grid) (m : Mesh) (f : RunInput → ℕ → State → Turn State) where
   pub record After (field₀ : List Float) (names₀ ds₀ cs₀ ts₀ : List ℕ) (r₀ : Progress) (k : ℕ) (field : List Float) (names ds cs ts : List ℕ) (r : Progress) : Type 0 where
     pub fine : r .number ≡ 0
     pub long : length ds ≡ length ds₀
     pub holds : Holds g m field names ds cs ts (r .waiting)
-    pub is : (any : ℕ) → turns (f (groundOf g m (length ds₀) any)) k (stateOf (orderIn m) field₀ names₀ ds₀ cs₀ ts₀ r₀) ≡ goes (stateOf (orderIn m) field names ds cs ts r)
+    pub is : (any : ℕ) → turns (f (runInput g m (length ds₀) any)) k (stateOf (orderIn m) field₀ names₀ ds₀ cs₀ ts₀ r₀) ≡ goes (stateOf (orderIn m) field names ds cs ts r)
 
-module _ {g : Grid} {m : Mesh} (f : Ground → ℕ → State → Turn State) where
+module _ {g : Grid} {m : Mesh} (f : RunInput → ℕ → State → Turn State) where
   pub begins : {field : List Float} {names ds cs ts : List ℕ} {r : Progress} → r .number ≡ 0 → Holds g m field names ds cs ts (r .waiting)
       → After g m f field names ds cs ts r 0 field names ds cs ts r
   begins {field} {names} {ds} {cs} {ts} {r} z h =
-      record { fine = z; long = refl; holds = h; is = λ any. turns-none (f (groundOf g m (length ds) any)) (stateOf (orderIn m) field names ds cs ts r) }
+      record { fine = z; long = refl; holds = h; is = λ any. turns-none (f (runInput g m (length ds) any)) (stateOf (orderIn m) field names ds cs ts r) }
 
   module _ {k : ℕ} {field₀ field field′ : List Float} {names₀ ds₀ cs₀ ts₀ names ds cs ts names′ ds′ cs′ ts′ : List ℕ} {r₀ r r′ : Progress} where
     -- a turn, over the room of the loop
     turn : After g m f field₀ names₀ ds₀ cs₀ ts₀ r₀ k field names ds cs ts r → Told g m (λ G. f G k) field names ds cs ts r field′ names′ ds′ cs′ ts′ r′
-        → (any : ℕ) → f (groundOf g m (length ds₀) any) k (stateOf (orderIn m) field names ds cs ts r) ≡ told (r′ .number) (stateOf (orderIn m) field′ names′ ds′ cs′ ts′ r′)
+        → (any : ℕ) → f (runInput g m (length ds₀) any) k (stateOf (orderIn m) field names ds cs ts r) ≡ told (r′ .number) (stateOf (orderIn m) field′ names′ ds′ cs′ ts′ r′)
     turn a t any =
-        subst (λ (n : ℕ). f (groundOf g m n any) k (stateOf (orderIn m) field names ds cs ts r) ≡ told (r′ .number) (stateOf (orderIn m) field′ names′ ds′ cs′ ts′ r′)) (a .long) (t .is any)
+        subst (λ (n : ℕ). f (runInput g m n any) k (stateOf (orderIn m) field names ds cs ts r) ≡ told (r′ .number) (stateOf (orderIn m) field′ names′ ds′ cs′ ts′ r′)) (a .long) (t .is any)
 
     pub goes-on : After g m f field₀ names₀ ds₀ cs₀ ts₀ r₀ k field names ds cs ts r → Told g m (λ G. f G k) field names ds cs ts r field′ names′ ds′ cs′ ts′ r′
         → length ds′ ≡ length ds → r′ .number ≡ 0 → After g m f field₀ names₀ ds₀ cs₀ ts₀ r₀ (k + 1) field′ names′ ds′ cs′ ts′ r′
@@ -74,7 +74,7 @@ module _ {g : Grid} {m : Mesh} (f : Ground → ℕ → State → Turn State) whe
           long = l ∙ a .long;
           holds = t .holds;
           is = λ any.
-              turns-on (f (groundOf g m (length ds₀) any)) k (stateOf (orderIn m) field₀ names₀ ds₀ cs₀ ts₀ r₀)
+              turns-on (f (runInput g m (length ds₀) any)) k (stateOf (orderIn m) field₀ names₀ ds₀ cs₀ ts₀ r₀)
               (stateOf (orderIn m) field names ds cs ts r) (stateOf (orderIn m) field′ names′ ds′ cs′ ts′ r′) (r′ .number) (a .is any) (turn a t any) z;
         }
 
@@ -85,7 +85,7 @@ module _ {g : Grid} {m : Mesh} (f : Ground → ℕ → State → Turn State) whe
         record {
           holds = t .holds;
           is = λ any.
-              turns-stop (f (groundOf g m (length ds₀) any)) k end (stateOf (orderIn m) field₀ names₀ ds₀ cs₀ ts₀ r₀)
+              turns-stop (f (runInput g m (length ds₀) any)) k end (stateOf (orderIn m) field₀ names₀ ds₀ cs₀ ts₀ r₀)
               (stateOf (orderIn m) field names ds cs ts r) u u (r′ .number) (a .is any) (turn a t any) z l;
         }
 
@@ -97,7 +97,7 @@ module _ {g : Grid} {m : Mesh} (f : Ground → ℕ → State → Turn State) whe
       record {
         holds = a .holds;
         is = λ any.
-            subst (λ (n : ℕ). turns (f (groundOf g m (length ds₀) any)) n (stateOf (orderIn m) field₀ names₀ ds₀ cs₀ ts₀ r₀) ≡ goes u) e (a .is any)
+            subst (λ (n : ℕ). turns (f (runInput g m (length ds₀) any)) n (stateOf (orderIn m) field₀ names₀ ds₀ cs₀ ts₀ r₀) ≡ goes u) e (a .is any)
             ∙ sym (told-goes (r .number) u (a .fine));
       }
 

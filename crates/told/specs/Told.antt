@@ -16,8 +16,8 @@ use Rattle.mesh.specs.Mesh.{Mesh, Sound, vertexCount, trianglesIn}
 use Rattle.queue.specs.declared.Entry.{Entry}
 use Rattle.queue.specs.Order.{orderOf}
 use Rattle.queue.specs.Queue.{Held, waiting}
-use Rattle.run.specs.Run.{Ground, State, queue}
-use Rattle.run.specs.Ground.{groundOf}
+use Rattle.run.specs.Run.{RunInput, State, queue}
+use Rattle.run.specs.Ground.{runInput}
 use Rattle.told.specs.declared.Progress.{Progress}
 
 -- the same, refused by a number
@@ -74,14 +74,14 @@ Named g m field names = (c : ℕ) → c < total g → (getD field c nan ≺ fMax
 -- A turn of the run over what is lent: the slices, which held field to ts and the counts at, hold in the end field′ to ts′ and r, which
 -- is what the turn leaves, or it was refused. On a refusal the number alone says what the run came to. The ground's pop limit is any:
 -- no turn asks for it.
-pub record Told (g : Grid) (m : Mesh) (turn : Ground → State → Turn State)
+pub record Told (g : Grid) (m : Mesh) (turn : RunInput → State → Turn State)
     (field : List Float) (names ds cs ts : List ℕ) (at : Progress) (field′ : List Float) (names′ ds′ cs′ ts′ : List ℕ) (r : Progress) : Type 0 where
   pub holds : Holds g m field′ names′ ds′ cs′ ts′ (r .waiting)
-  pub is : (any : ℕ) → turn (groundOf g m (length ds) any) (stateOf (orderIn m) field names ds cs ts at) ≡ told (r .number) (stateOf (orderIn m) field′ names′ ds′ cs′ ts′ r)
+  pub is : (any : ℕ) → turn (runInput g m (length ds) any) (stateOf (orderIn m) field names ds cs ts at) ≡ told (r .number) (stateOf (orderIn m) field′ names′ ds′ cs′ ts′ r)
 
 -- the same of an entry that is queued, whatever the field and the names are
 pub record Queued (le : Entry → Entry → Bool) (e : Entry) (ds cs ts : List ℕ) (at : Progress) (ds′ cs′ ts′ : List ℕ) (r : Progress) : Type 0 where
   pub held : Held le ds′ cs′ ts′ (r .waiting)
   pub from : (x : Entry) → List·Memᴰ x (waiting le ds′ cs′ ts′ (r .waiting)) → (x ≡ e) ⊎ List·Memᴰ x (waiting le ds cs ts (at .waiting))
-  pub is : (g : Ground) (field : List Float) (names : List ℕ) → g .goesFirst ≡ le → g .room ≡ length ds
+  pub is : (g : RunInput) (field : List Float) (names : List ℕ) → g .goesFirst ≡ le → g .room ≡ length ds
       → queue g e (stateOf le field names ds cs ts at) ≡ told (r .number) (stateOf le field names ds′ cs′ ts′ r)

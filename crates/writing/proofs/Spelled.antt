@@ -9,7 +9,7 @@ use lib.Dec.{ltb}
 use lib.ListN.{length, length-append}
 use borrow.Author.Tests.{lt-ltb, le-ltb}
 use Rattle.text.specs.Words.{digits, decimal, hexDigit, hex}
-use Rattle.writing.specs.Digits.{Few}
+use Rattle.writing.specs.Digits.{FewDigits}
 
 back : (k : ℕ) → suc k - 1 ≡ k
 back k = omega arith
@@ -36,18 +36,18 @@ few (suc k) n = go (ltb n 10) (few k (n / 10))
     go true h = omega arith
     go false h = omega (arith, length-append (digits k (n / 10)) ((48 + n % 10) ∷ []))
 
-pub deep : (k n : ℕ) → Few k n → 10 ≤ n → 0 < k
-unfolding Few
+pub deep : (k n : ℕ) → FewDigits k n → 10 ≤ n → 0 < k
+unfolding FewDigits
 deep zero n f h = absurd (omega arith)
 deep (suc k) n f h = omega arith
 
-pub fewer : (k n : ℕ) → 0 < k → Few k n → Few (k - 1) (n / 10)
-unfolding Few
+pub fewer : (k n : ℕ) → 0 < k → FewDigits k n → FewDigits (k - 1) (n / 10)
+unfolding FewDigits
 fewer zero n d f = absurd (omega arith)
-fewer (suc k) n d f = subst (λ (j : ℕ). Few j (n / 10)) (sym (back k)) f
+fewer (suc k) n d f = subst (λ (j : ℕ). FewDigits j (n / 10)) (sym (back k)) f
 
-pub all-few : (n : ℕ) → n < 4294967296 → Few 9 n
-unfolding Few
+pub all-few : (n : ℕ) → n < 4294967296 → FewDigits 9 n
+unfolding FewDigits
 all-few n h = omega arith
 
 pub hex-long : (k b : ℕ) → length (hex k b) ≡ k

@@ -2,6 +2,6 @@
 use Prim.Native.Nat.{ℕ, zero, suc, _/_, _<_}
 
 -- n has at most k digits before its last one
-unfoldable pub Few : ℕ → ℕ → Type 0
-Few zero n = n < 10
-Few (suc k) n = Few k (n / 10)
+unfoldable pub FewDigits : ℕ → ℕ → Type 0
+FewDigits zero n = n < 10
+FewDigits (suc k) n = FewDigits k (n / 10)

@@ -6,12 +6,12 @@ ghost use mathlib.Core.Path.{_≡_};
 ghost use mathlib.Core.List.{[], _∷_, _++_};
 ghost use Rattle.text.specs.Words.{digits, decimal, hexDigit, hex, hex8};
 ghost use Rattle.writing.specs.Put.{Put};
-ghost use Rattle.writing.specs.Digits.{Few};
+ghost use Rattle.writing.specs.Digits.{FewDigits};
 
 // The digits of n, of which at most k stand before the last.
 fn put_digits(out: &mut [u8], at: usize, n: u32, k: usize) -> usize
     requires { ⌜ at + k < length (now out) ⌝ }
-    requires { ⌜ Few k n ⌝ }
+    requires { ⌜ FewDigits k n ⌝ }
     ensures { λ r. ⌜ Put (now (out .entry)) at (digits k n) (now (out .exit)) r ⌝ }
 {
     if n < 10 {

@@ -1,10 +1,10 @@
 -- `bounding::triangle_bounding_box`: the calls in turn. Assumes nothing.
-use Rattle.bounding.specs.Box.{boxOf}
+use Rattle.bounding.specs.Box.{paddedBox}
 use Rattle.bounding.proofs.triangle_bounding_box.Statement.{statement}
 use Rattle.bounding.proofs.triangle_bounding_box.Tie as tie
 
 returns : tie.Need-returns
-unfolding boxOf
+unfolding paddedBox
 returns c =
     rw (
       c .greatest33 .ensures,

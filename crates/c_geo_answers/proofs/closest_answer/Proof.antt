@@ -1,11 +1,11 @@
 -- `closest_answer`: by the answer's case. Assumes nothing.
 use borrow.Author.Needs.{needs}
-use Rattle.c_records.specs.C.{closest}
+use Rattle.c_records.specs.C.{closestForC}
 use Rattle.c_geo_answers.proofs.closest_answer.Statement.{statement}
 use Rattle.c_geo_answers.proofs.closest_answer.Tie as tie
 
 pub closest-answer-spec : {M : Type 1} → statement M
-unfolding closest
+unfolding closestForC
 closest-answer-spec =
     tie.close
     (tie.spec

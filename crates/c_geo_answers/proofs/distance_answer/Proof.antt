@@ -1,11 +1,11 @@
 -- `distance_answer`: by the answer's case. Assumes nothing.
 use borrow.Author.Needs.{needs}
-use Rattle.c_records.specs.C.{distance}
+use Rattle.c_records.specs.C.{distanceForC}
 use Rattle.c_geo_answers.proofs.distance_answer.Statement.{statement}
 use Rattle.c_geo_answers.proofs.distance_answer.Tie as tie
 
 pub distance-answer-spec : {M : Type 1} → statement M
-unfolding distance
+unfolding distanceForC
 distance-answer-spec =
     tie.close
     (tie.spec

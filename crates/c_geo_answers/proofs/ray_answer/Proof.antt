@@ -1,11 +1,11 @@
 -- `ray_answer`: by the answer's case. Assumes nothing.
 use borrow.Author.Needs.{needs}
-use Rattle.c_records.specs.C.{ray}
+use Rattle.c_records.specs.C.{rayForC}
 use Rattle.c_geo_answers.proofs.ray_answer.Statement.{statement}
 use Rattle.c_geo_answers.proofs.ray_answer.Tie as tie
 
 pub ray-answer-spec : {M : Type 1} → statement M
-unfolding ray
+unfolding rayForC
 ray-answer-spec =
     tie.close
     (tie.spec

@@ -1,11 +1,11 @@
 -- `triangle_box_answer`: by the answer's case. Assumes nothing.
 use borrow.Author.Needs.{needs}
-use Rattle.c_records.specs.C.{triangleBox}
+use Rattle.c_records.specs.C.{triangleBoxForC}
 use Rattle.c_geo_answers.proofs.triangle_box_answer.Statement.{statement}
 use Rattle.c_geo_answers.proofs.triangle_box_answer.Tie as tie
 
 pub triangle-box-answer-spec : {M : Type 1} → statement M
-unfolding triangleBox
+unfolding triangleBoxForC
 triangle-box-answer-spec =
     tie.close
     (tie.spec

@@ -1,11 +1,11 @@
 -- `box_answer`: by the answer's case. Assumes nothing.
 use borrow.Author.Needs.{needs}
-use Rattle.c_records.specs.C.{box}
+use Rattle.c_records.specs.C.{boxForC}
 use Rattle.c_grid_answers.proofs.box_answer.Statement.{statement}
 use Rattle.c_grid_answers.proofs.box_answer.Tie as tie
 
 pub box-answer-spec : {M : Type 1} → statement M
-unfolding box
+unfolding boxForC
 box-answer-spec =
     tie.close
     (tie.spec

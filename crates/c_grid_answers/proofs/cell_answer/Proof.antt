@@ -1,11 +1,11 @@
 -- `cell_answer`: by the answer's case. Assumes nothing.
 use borrow.Author.Needs.{needs}
-use Rattle.c_records.specs.C.{cell}
+use Rattle.c_records.specs.C.{cellForC}
 use Rattle.c_grid_answers.proofs.cell_answer.Statement.{statement}
 use Rattle.c_grid_answers.proofs.cell_answer.Tie as tie
 
 pub cell-answer-spec : {M : Type 1} → statement M
-unfolding cell
+unfolding cellForC
 cell-answer-spec =
     tie.close
     (tie.spec

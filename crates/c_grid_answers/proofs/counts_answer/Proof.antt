@@ -1,11 +1,11 @@
 -- `counts_answer`: by the answer's case. Assumes nothing.
 use borrow.Author.Needs.{needs}
-use Rattle.c_records.specs.C.{counts}
+use Rattle.c_records.specs.C.{countsForC}
 use Rattle.c_grid_answers.proofs.counts_answer.Statement.{statement}
 use Rattle.c_grid_answers.proofs.counts_answer.Tie as tie
 
 pub counts-answer-spec : {M : Type 1} → statement M
-unfolding counts
+unfolding countsForC
 counts-answer-spec =
     tie.close
     (tie.spec

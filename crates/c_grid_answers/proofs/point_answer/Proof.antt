@@ -1,11 +1,11 @@
 -- `point_answer`: by the answer's case. Assumes nothing.
 use borrow.Author.Needs.{needs}
-use Rattle.c_records.specs.C.{point}
+use Rattle.c_records.specs.C.{pointForC}
 use Rattle.c_grid_answers.proofs.point_answer.Statement.{statement}
 use Rattle.c_grid_answers.proofs.point_answer.Tie as tie
 
 pub point-answer-spec : {M : Type 1} → statement M
-unfolding point
+unfolding pointForC
 point-answer-spec =
     tie.close
     (tie.spec

@@ -1,11 +1,11 @@
 -- `snap_answer`: by the answer's case. Assumes nothing.
 use borrow.Author.Needs.{needs}
-use Rattle.c_records.specs.C.{snap}
+use Rattle.c_records.specs.C.{snapForC}
 use Rattle.c_grid_answers.proofs.snap_answer.Statement.{statement}
 use Rattle.c_grid_answers.proofs.snap_answer.Tie as tie
 
 pub snap-answer-spec : {M : Type 1} → statement M
-unfolding snap
+unfolding snapForC
 snap-answer-spec =
     tie.close
     (tie.spec

@@ -2,7 +2,7 @@
 use borrow.Author.Tests.{not-false}
 use mathlib.Core.Path.{_≡_, sym, _∙_}
 use native.Mathlib.Omega.{arith}
-use Rattle.lists.specs.Checks.{firstOf}
+use Rattle.lists.specs.Checks.{firstThatApplies}
 use Rattle.lists.proofs.Checks.{none-applies}
 use Rattle.mesh.specs.Mesh.{Mesh, meshOf}
 use Rattle.checks.specs.Refusals.{gridChecks, meshChecks}
@@ -14,10 +14,10 @@ abbrev mesh : tie.Start → Mesh
 mesh s = meshOf (s .args .vertices .now) (s .args .topology) (s .args .given) (s .args .indices .now)
 
 -- the groups that gave 0
-grid-passed : (c : tie.Else1) → firstOf (gridChecks (c .before .before .before .before .args .grid)) ≡ 0
+grid-passed : (c : tie.Else1) → firstThatApplies (gridChecks (c .before .before .before .before .args .grid)) ≡ 0
 grid-passed c = sym (c .before .grid-refusal .ensures) ∙ c .if1 .left
 
-mesh-passed : (c : tie.Else2) → firstOf (meshChecks (mesh (c .before .before .before .before .before .before))) ≡ 0
+mesh-passed : (c : tie.Else2) → firstThatApplies (meshChecks (mesh (c .before .before .before .before .before .before))) ≡ 0
 mesh-passed c = sym (c .before .mesh-refusal .ensures) ∙ c .if2 .left
 
 returns : tie.Need-returns

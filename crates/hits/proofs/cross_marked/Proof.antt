@@ -14,7 +14,7 @@ use Rattle.ray.specs.declared.Three.{Three}
 use Rattle.ray.specs.declared.RayHit.{RayHit}
 use Rattle.ray.specs.Ray.{rayOf}
 use Rattle.lines.specs.Lines.{vOf}
-use Rattle.lines.specs.Pass.{Grown, lineCrossed, rowCrossed, threeAt, ahead, rowHit}
+use Rattle.lines.specs.Pass.{Grown, lineCrossed, rowCrossed, partsAt, ahead, rowHit}
 use Rattle.lines.proofs.Grown.{room-after, row-none, row-more, row-all, line-missed}
 use Rattle.lines.proofs.Hits.{must-miss, hit-ahead}
 use Rattle.hits.proofs.cross_marked.Statement.{statement}
@@ -91,7 +91,7 @@ crossed c =
     let s = entry (p .before) in
     let a = s .args in
     let v = p .loop .v in
-    let zs = threeAt (a .z0 .now) (a .z1 .now) (a .z2 .now) v in
+    let zs = partsAt (a .z0 .now) (a .z1 .now) (a .z2 .now) v in
     ⊎-elim
     (λ w. let e = w .2 .ensures ∙ ap (λ (t : Three). rayOf t (a .ys) (a .xs)) (w .1 .ensures) in rw (w .7) (rw e at (w .4 .ensures)))
     (λ w.

@@ -5,7 +5,7 @@ use native.Mathlib.Omega.{arith}
 use mathlib.Core.Path.{_≡_, ap, _∙_}
 use Rattle.grid.specs.Axes.{countOn, next}
 use Rattle.grid.proofs.Facts.{bounds-of, on-axis}
-use Rattle.lines.specs.Pass.{threeAt, rowHit}
+use Rattle.lines.specs.Pass.{partsAt, rowHit}
 use Rattle.lines.proofs.Grown.{row-missed}
 use Rattle.lines.proofs.Hits.{must-miss}
 use Rattle.hits.proofs.cross_row.Statement.{statement}
@@ -45,7 +45,7 @@ returns-2 c =
     let s = entry (m .before .before) in
     let a = s .args in
     row-missed (a .grid) (a .axis) (a .u) (rowHit (a .z0 .now) (a .z1 .now) (a .z2 .now) (a .ys) (a .xs)) (a .crossings .now)
-    (λ v h. must-miss (threeAt (a .z0 .now) (a .z1 .now) (a .z2 .now) v) (a .ys) (a .xs) (m .mark-row .ensures .1 (c .if1 .left) v (omega (arith, counted (m .before .before)))))
+    (λ v h. must-miss (partsAt (a .z0 .now) (a .z1 .now) (a .z2 .now) v) (a .ys) (a .xs) (m .mark-row .ensures .1 (c .if1 .left) v (omega (arith, counted (m .before .before)))))
 
 pub cross-row-spec : {M : Type 1} → statement M
 cross-row-spec =

@@ -7,14 +7,14 @@ use mathlib.Core.Path.{_≡_, refl, ap, _∙_, subst}
 use mathlib.Core.Bool.{false}
 use lib.ListN.{length, length-set}
 use Rattle.ray.specs.declared.Three.{Three}
-use Rattle.lines.specs.Pass.{threeAt, mayHit, Marked}
+use Rattle.lines.specs.Pass.{partsAt, mayHit, Marked}
 use Rattle.lines.proofs.Marks.{marked-none, marked-more, none-marked}
 use Rattle.marking.proofs.mark_row.Statement.{statement}
 use Rattle.marking.proofs.mark_row.Tie as tie
 
 abbrev Inv-loop : tie.InvT-loop
 Inv-loop z0 z1 z2 ys count flags₀ any₀ v₀ flags any v =
-    (v ≤ count) × (length flags ≡ length flags₀) × Marked z0 z1 z2 ys v flags × (any ≡ false → (i : ℕ) → i < v → mayHit (threeAt z0 z1 z2 i) ys ≡ false)
+    (v ≤ count) × (length flags ≡ length flags₀) × Marked z0 z1 z2 ys v flags × (any ≡ false → (i : ℕ) → i < v → mayHit (partsAt z0 z1 z2 i) ys ≡ false)
 
 abbrev μ-loop : tie.MeasureT-loop
 μ-loop z0 z1 z2 ys count flags₀ any₀ v₀ flags any v = count - v
@@ -22,7 +22,7 @@ abbrev μ-loop : tie.MeasureT-loop
 -- the flag of this turn
 found : (c : tie.After-may-hit Inv-loop μ-loop) →
     let a = c .before .before .before .before .before .before .before .before .args in
-    c .may-hit .result ≡ mayHit (threeAt (a .z0 .now) (a .z1 .now) (a .z2 .now) (c .before .before .before .loop .v)) (a .ys)
+    c .may-hit .result ≡ mayHit (partsAt (a .z0 .now) (a .z1 .now) (a .z2 .now) (c .before .before .before .loop .v)) (a .ys)
 found c =
     let a = c .before .before .before .before .before .before .before .before .args in
     c .may-hit .ensures ∙ ap (λ (zs : Three). mayHit zs (a .ys)) (c .before .three-at .ensures)
@@ -54,7 +54,7 @@ loop-again c =
       omega arith,
       length-set (l .flags) (l .v) (c .may-hit .result) ∙ l .inv .1,
       marked-more (a .z0 .now) (a .z1 .now) (a .z2 .now) (a .ys) (l .v) (l .flags) (c .may-hit .result) (omega arith) (found c) (l .inv .2),
-      none-marked (λ i. mayHit (threeAt (a .z0 .now) (a .z1 .now) (a .z2 .now) i) (a .ys)) (l .any) (c .may-hit .result) (l .v) (found c) (l .inv .3),
+      none-marked (λ i. mayHit (partsAt (a .z0 .now) (a .z1 .now) (a .z2 .now) i) (a .ys)) (l .any) (c .may-hit .result) (l .v) (found c) (l .inv .3),
     )
 
 same-length : tie.Need-same-length Inv-loop μ-loop

@@ -5,7 +5,7 @@ use Rattle.lists.specs.Turns.{Turn}
 use Rattle.grid.specs.declared.Grid.{Grid}
 use Rattle.mesh.specs.Mesh.{meshOf}
 use Rattle.queue.specs.declared.Entry.{Entry}
-use Rattle.run.specs.Run.{Ground, State, spreadTo}
+use Rattle.run.specs.Run.{RunInput, State, spreadTo}
 use Rattle.run.specs.Steps.{aroundCell}
 use Rattle.told.proofs.Loops.{told-as, After, begins, goes-on, stops, ends, alike}
 use Rattle.offering.proofs.Offers.{step-around, all-steps}
@@ -13,7 +13,7 @@ use Rattle.offering.proofs.offer_around.Statement.{statement}
 use Rattle.offering.proofs.offer_around.Tie as tie
 
 -- turn j
-abbrev turn : Grid → Entry → Ground → ℕ → State → Turn State
+abbrev turn : Grid → Entry → RunInput → ℕ → State → Turn State
 turn g e G j = spreadTo G e (aroundCell g (e .cell) j)
 
 abbrev Inv-loop : tie.InvT-loop

@@ -5,7 +5,7 @@ use native.Mathlib.Omega.{arith}
 use mathlib.Core.Path.{_≡_, refl, sym, ap, _∙_}
 use mathlib.Core.List.{List}
 use lib.ListN.{length, drop, length-set}
-use Rattle.text.specs.Reader.{vertexAt, linesAt}
+use Rattle.text.specs.Reader.{vertexLineAt, linesAt}
 use Rattle.text.proofs.Lines.{afterwards, lines-begin, lines-more, lines-not, lines-end}
 use Rattle.reader_parts.specs.Told.{threesIn}
 use Rattle.reader_parts.proofs.Threes.{threes-more}
@@ -14,7 +14,7 @@ use Rattle.reader_parts.proofs.vertex_lines.Tie as tie
 
 abbrev Inv-loop : tie.InvT-loop
 Inv-loop text at n out₀ k₀ i₀ out k i =
-    (i ≤ n) × (length out ≡ length out₀) × (linesAt n vertexAt (drop at text) ≡ afterwards vertexAt (threesIn i out) (n - i) (drop k text))
+    (i ≤ n) × (length out ≡ length out₀) × (linesAt n vertexLineAt (drop at text) ≡ afterwards vertexLineAt (threesIn i out) (n - i) (drop k text))
 
 abbrev μ-loop : tie.MeasureT-loop
 μ-loop text at n out₀ k₀ i₀ out k i = n - i
@@ -25,7 +25,7 @@ reach c = omega arith
 
 loop-holds : tie.Need-loop-holds Inv-loop μ-loop
 unfolding threesIn
-loop-holds c = (omega arith, refl, lines-begin vertexAt _ _)
+loop-holds c = (omega arith, refl, lines-begin vertexLineAt _ _)
 
 returns : tie.Need-returns Inv-loop μ-loop
 returns c =
@@ -33,7 +33,7 @@ returns c =
     let l = o .before .loop in
     sym
     (l .inv .2
-    ∙ lines-not vertexAt (o .before .before .before .before .args .n) (l .i) _ _ (o .loop-test .taken)
+    ∙ lines-not vertexLineAt (o .before .before .before .before .args .n) (l .i) _ _ (o .loop-test .taken)
     (rw (c .enum-told .given .1) at (c .before .before .vertex-line .ensures)))
 
 loop-again : tie.Need-loop-again Inv-loop μ-loop
@@ -46,7 +46,7 @@ loop-again c =
       omega arith,
       simp length-set (l .inv .1),
       l .inv .2
-          ∙ lines-more vertexAt (s .args .n) (l .i) _ _ (o .loop-test .taken) (rw (v .three .given .1) at (v .before .before .vertex-line .ensures))
+          ∙ lines-more vertexLineAt (s .args .n) (l .i) _ _ (o .loop-test .taken) (rw (v .three .given .1) at (v .before .before .vertex-line .ensures))
           (threes-more (l .i) (v .three .given .0 .0) (l .out) (omega arith)),
     )
 
@@ -55,7 +55,7 @@ returns-2 c =
     let l = c .before .loop in
     let n = c .before .before .before .before .args .n in
     let e : n ≡ l .i = omega arith in
-    sym (l .inv .2 ∙ lines-end vertexAt n (l .i) _ _ (c .loop-test .left) (ap (λ (m : ℕ). threesIn m (l .out)) e))
+    sym (l .inv .2 ∙ lines-end vertexLineAt n (l .i) _ _ (c .loop-test .left) (ap (λ (m : ℕ). threesIn m (l .out)) e))
 
 pub vertex-lines-spec : {M : Type 1} → statement M
 vertex-lines-spec =

@@ -5,7 +5,7 @@ use Prim.Native.Nat.{ℕ, _+_, _*_, _-_, _^_, _≤_, _<_}
 use native.Mathlib.Omega.{arith}
 use mathlib.Core.Path.{_≡_, refl, sym, ap, _∙_}
 use lib.ListN.{length, getD, drop}
-use Rattle.text.specs.Reader.{digitOf, numberAt, digitsAt}
+use Rattle.text.specs.Reader.{hexValue, numberAt, digitsAt}
 use Rattle.text.proofs.Places.{
   number-past,
   number-not,

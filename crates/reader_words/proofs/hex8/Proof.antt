@@ -7,7 +7,7 @@ use native.Mathlib.Numerals.{add-one}
 use native.Mathlib.Omega.{arith}
 use mathlib.Core.Path.{_≡_, refl, sym, ap, _∙_}
 use lib.ListN.{length, getD, drop}
-use Rattle.text.specs.Reader.{digitOf, bitsAt, hexAt}
+use Rattle.text.specs.Reader.{hexValue, bitsAt, hexAt}
 use Rattle.text.proofs.Places.{hex-past, hex-not, hex-next, hex-differs, hex-stop}
 use Rattle.reader_words.proofs.hex8.Statement.{statement}
 use Rattle.reader_words.proofs.hex8.Tie as tie

@@ -7,7 +7,7 @@ use Rattle.queue.proofs.Entry as E
 use Rattle.mesh.specs.Mesh.{Mesh, meshOf}
 use Rattle.run.specs.Run.{spreading}
 use Rattle.told.specs.Told.{Ready, orderIn}
-use Rattle.gathering.specs.Gathered.{Offered}
+use Rattle.gathering.specs.Gathered.{PopOffered}
 use Rattle.spreading.proofs.Pops.{spread-begins, spread-ends}
 use Rattle.entries.specs.Row.{TakenRow}
 use Rattle.entries.proofs.ByValue.{a-topology, a-given, an-entry}
@@ -95,7 +95,7 @@ module _ {M : Type 1} (𝓤 : URA M) (H : Heap 𝓤) (A : Atoms 𝓤) (W : Given
           move ! (0 ∷ 3 ∷ 2 ∷ 4 ∷ 5 ∷ 1 ∷ []) $
           -- and offered to the cells around
           lends-on ! refl refl refl tt tt tt tt $ lends-on ! refl refl refl tt tt tt tt $
-          calls ! 𝓣 (to-offers the-field the-names e) (a-batch W) (λ b vs. Offered (grid .it) mesh (e .it) fs ns (vs .0) (vs .1 .0) b)
+          calls ! 𝓣 (to-offers the-field the-names e) (a-batch W) (λ b vs. PopOffered (grid .it) mesh (e .it) fs ns (vs .0) (vs .1 .0) b)
           (asking (to-offers the-field the-names e) _ (pre .0, taken-known (grid .it) mesh fs ns zs (p .it) (facts .1 .holds) (e .it) (us .0) took (lr .0), facts .1 .holds .field-long, facts .1 .holds .names-long) (λ n. met .2 (bound-to (to-offers the-field the-names e) n))) refl refl (tt, refl) (λ b vs lo off.
           -- what they took up is queued
           lends-on ! refl refl refl tt tt tt tt $ move ! (0 ∷ 5 ∷ 2 ∷ []) $

@@ -7,7 +7,7 @@ use lib.ListN.{length}
 use Rattle.lists.specs.Turns.{Turn, goes, between}
 use Rattle.lists.proofs.Turns.{between-none, between-end}
 use Rattle.grid.specs.declared.Grid.{Grid}
-use Rattle.grid.specs.Axes.{cell}
+use Rattle.grid.specs.Axes.{cellNumbered}
 use Rattle.grid.specs.Index.{indexOf}
 use Rattle.grid.proofs.Facts.{bounds-of}
 use Rattle.closest.specs.declared.Facet.{Facet}
@@ -18,7 +18,7 @@ use Rattle.seeding.proofs.seed_line.Statement.{statement}
 use Rattle.seeding.proofs.seed_line.Tie as tie
 
 abbrev step : Grid → Facet → ℕ → ℕ → ℕ → ℕ → State → Turn State
-step g f k x y z = offerTo g f k (indexOf g (cell x y z))
+step g f k x y z = offerTo g f k (indexOf g (cellNumbered x y z))
 
 abbrev Inv-loop : tie.InvT-loop
 Inv-loop field₀ names₀ grid f k x y lo hi z₀ field names z =

@@ -3,7 +3,7 @@ use borrow.Author.Needs.{needs}
 use mathlib.Core.Path.{sym, subst}
 use Rattle.grid.specs.Index.{Inside}
 use Rattle.grid.proofs.Facts.{bounds-of, on-axis}
-use Rattle.run.specs.Ground.{boxOf}
+use Rattle.run.specs.Ground.{snappedBox}
 use Rattle.run.proofs.Grounds.{last-inside}
 use Rattle.placing.specs.Parts.{overBox}
 use Rattle.seeding.proofs.seed_triangle.Statement.{statement}
@@ -19,7 +19,7 @@ seed-box-requires c κs =
     )
 
 returns : tie.Need-returns
-unfolding overBox boxOf
+unfolding overBox snappedBox
 returns c =
     let o = c .before .before .before .before in
     let f = o .before .before .before in

@@ -5,7 +5,7 @@ use Rattle.grid.specs.declared.Cell.{Cell}
 use Rattle.grid.specs.declared.Snap.{Snap}
 use Rattle.grid.specs.declared.SnapResult.{SnapResult}
 use Rattle.grid.specs.declared.SnapResult.the-variants.{Inside, Outside}
-use Rattle.grid.specs.Axes.{cell}
+use Rattle.grid.specs.Axes.{cellNumbered}
 use Rattle.grid.specs.Place.{snap, snapCell, clamped}
 use Rattle.grid.proofs.parts.snap_point_to_grid.Statement.{statement}
 use Rattle.grid.proofs.parts.snap_point_to_grid.Tie as tie
@@ -15,7 +15,7 @@ found r k = record { result = r; cell = k }
 
 snapped : (c : tie.After-snap-on3) →
     let s = c .before .before .before .before .before .args in
-    cell (c .before .before .snap-on .result .index) (c .before .snap-on2 .result .index) (c .snap-on3 .result .index) ≡ snapCell (s .grid) (s .point)
+    cellNumbered (c .before .before .snap-on .result .index) (c .before .snap-on2 .result .index) (c .snap-on3 .result .index) ≡ snapCell (s .grid) (s .point)
 unfolding snapCell
 snapped c = rw (c .before .before .snap-on .ensures .at, c .before .snap-on2 .ensures .at, c .snap-on3 .ensures .at)
 

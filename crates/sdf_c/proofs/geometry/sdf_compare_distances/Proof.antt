@@ -4,7 +4,7 @@ use mathlib.Core.Bool.{Bool, true, false, _||_}
 use mathlib.Core.Option.{Option, none, some}
 use lib.Ieee.{isNan}
 use Rattle.float.specs.Arith.{if_then_else_}
-use Rattle.distances.specs.Asked.{orderOf}
+use Rattle.distances.specs.Asked.{comparedOrder}
 use Rattle.distances.specs.Compare.{order}
 use Rattle.distances.specs.declared.Order.{Order}
 use Rattle.distances.specs.declared.Comparison.{Comparison}
@@ -12,7 +12,7 @@ use Rattle.distances.specs.declared.Comparison.the-variants.{Is, NotANumber}
 use Rattle.sdf_c.proofs.geometry.sdf_compare_distances.Statement.{statement}
 use Rattle.sdf_c.proofs.geometry.sdf_compare_distances.Tie as tie
 
-decided : (r : Comparison) (t : Bool) (o : Order) → orderOf r ≡ (if t then none else some o) → r ≡ (if t then NotANumber else Is o)
+decided : (r : Comparison) (t : Bool) (o : Order) → comparedOrder r ≡ (if t then none else some o) → r ≡ (if t then NotANumber else Is o)
 decided (Is p) true o e = cc
 decided (Is p) false o e = cc
 decided NotANumber true o e = refl

@@ -1,12 +1,12 @@
 -- `words::byte`: its two digits. Assumes nothing.
 use borrow.Author.Needs.{needs}
 use native.Mathlib.Omega.{arith}
-use Rattle.steps.specs.Words.{byteAt}
+use Rattle.steps.specs.Words.{sampleByte}
 use Rattle.steps.proofs.words.byte.Statement.{statement}
 use Rattle.steps.proofs.words.byte.Tie as tie
 
 pub byte-spec : {M : Type 1} → statement M
-unfolding byteAt
+unfolding sampleByte
 byte-spec =
     tie.close
     (tie.spec

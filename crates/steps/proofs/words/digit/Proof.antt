@@ -2,32 +2,32 @@
 use borrow.Author.Needs.{needs}
 use borrow.Author.Tests.{lt-ltb, le-ltb}
 use native.Mathlib.Omega.{arith}
-use Rattle.steps.specs.Words.{digitOf}
+use Rattle.steps.specs.Words.{sampleDigit}
 use Rattle.steps.proofs.words.digit.Statement.{statement}
 use Rattle.steps.proofs.words.digit.Tie as tie
 
 returns : tie.Need-returns
-unfolding digitOf
+unfolding sampleDigit
 returns c = (omega arith, rw (lt-ltb (c .before .args .b) 48 (omega arith)))
 
 returns-2 : tie.Need-returns-2
-unfolding digitOf
+unfolding sampleDigit
 returns-2 c = let b = c .before .before .args .b in (omega arith, rw (le-ltb b 48 (omega arith), lt-ltb b 58 (omega arith)))
 
 returns-3 : tie.Need-returns-3
-unfolding digitOf
+unfolding sampleDigit
 returns-3 c =
     let b = c .before .before .before .args .b in
     (omega arith, rw (le-ltb b 48 (omega arith), le-ltb b 58 (omega arith), lt-ltb b 97 (omega arith)))
 
 returns-4 : tie.Need-returns-4
-unfolding digitOf
+unfolding sampleDigit
 returns-4 c =
     let b = c .before .before .before .before .args .b in
     (omega arith, rw (le-ltb b 48 (omega arith), le-ltb b 58 (omega arith), le-ltb b 97 (omega arith), lt-ltb b 103 (omega arith)))
 
 returns-5 : tie.Need-returns-5
-unfolding digitOf
+unfolding sampleDigit
 returns-5 c =
     let b = c .before .before .before .before .args .b in
     (omega arith, rw (le-ltb b 48 (omega arith), le-ltb b 58 (omega arith), le-ltb b 97 (omega arith), le-ltb b 103 (omega arith)))
