@@ -1,5 +1,5 @@
 #!/usr/bin/env python3
-"""tools/root-check/table.py: prints the rows of crates/root_table/src/lib.rt. Row i is for the roots, from 2^23 to 2^24, of the digits in part i:
+"""tools/root-check/table.py: prints the rows of crates/float_root_table/src/lib.rt. Row i is for the roots, from 2^23 to 2^24, of the digits in part i:
 64 parts for an even exponent, then 64 for an odd one, of which the digits count twice. On a part the root is nearly
 c0 + c1 * u + c2 * u * (1 - u) for u from 0 to 1; c2 is rounded first, then the others are fitted to what is left."""
 import math

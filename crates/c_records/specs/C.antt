@@ -10,11 +10,11 @@ use Rattle.point.specs.declared.Point.{Point}
 use Rattle.point.specs.declared.Axis.{Axis}
 use Rattle.point.specs.declared.Axis.the-variants.{X, Y, Z}
 use Rattle.point.specs.Point.{vec}
-use Rattle.distances.specs.Compare.{order}
-use Rattle.distances.specs.declared.Order.{Order}
-use Rattle.distances.specs.declared.Order.the-variants.{Less, Equal, Greater}
-use Rattle.distances.specs.declared.Comparison.{Comparison}
-use Rattle.distances.specs.declared.Comparison.the-variants.{Is, NotANumber}
+use Rattle.float_order.specs.Compare.{order}
+use Rattle.float_order.specs.declared.Order.{Order}
+use Rattle.float_order.specs.declared.Order.the-variants.{Less, Equal, Greater}
+use Rattle.float_order.specs.declared.Comparison.{Comparison}
+use Rattle.float_order.specs.declared.Comparison.the-variants.{Is, NotANumber}
 use Rattle.grid.specs.declared.Grid.{Grid}
 use Rattle.grid.specs.declared.Cell.{Cell}
 use Rattle.grid.specs.declared.Counts.{Counts}
@@ -23,11 +23,11 @@ use Rattle.grid.specs.declared.Snap.{Snap}
 use Rattle.grid.specs.declared.SnapResult.{SnapResult}
 use Rattle.grid.specs.declared.SnapResult.the-variants.{Inside, Outside}
 use Rattle.grid.specs.Reply.{Reply, refused, given}
-use Rattle.bounding.specs.declared.TriangleBox.{TriangleBox}
-use Rattle.ray.specs.declared.RayHit.{RayHit}
-use Rattle.ray.specs.declared.RayHit.the-variants.{Miss, Hit}
-use Rattle.geo.specs.Asked as Asked
-use Rattle.geo.specs.Asked.{Answer, value}
+use Rattle.geo_box.specs.declared.TriangleBox.{TriangleBox}
+use Rattle.geo_ray.specs.declared.RayHit.{RayHit}
+use Rattle.geo_ray.specs.declared.RayHit.the-variants.{Miss, Hit}
+use Rattle.ask_geo.specs.Asked as Asked
+use Rattle.ask_geo.specs.Asked.{Answer, value}
 use Rattle.c_records.specs.declared.SdfPoint.{SdfPoint}
 use Rattle.c_records.specs.declared.SdfCell.{SdfCell}
 use Rattle.c_records.specs.declared.SdfGrid.{SdfGrid}

@@ -1,6 +1,6 @@
 // What C hands in and gets back: records with C's layout, by value. An answer has document 01's number, 0
-// where a value is given, and the value, all zero where it is refused. The answers are made by `c_grid_answers`
-// and `c_geo_answers`.
+// where a value is given, and the value, all zero where it is refused. The answers are made by `c_grid`
+// and `c_geo`.
 use grid::Cell;
 use grid::Counts;
 use grid::Grid;

@@ -5,8 +5,8 @@ use ghost.Atoms.{Atoms}
 use types.Kit.{Given}
 use Rattle.walking.proofs.Lends.{Kind}
 use Rattle.walking.proofs.ByValue.{a-struct, an-enum}
-use Rattle.topology.proofs.Topology
-use Rattle.topology.proofs.Indices
+use Rattle.mesh_topology.proofs.Topology
+use Rattle.mesh_topology.proofs.Indices
 use Rattle.queue.proofs.Entry
 
 module _ {M : Type 1} {𝓤 : URA M} {H : Heap 𝓤} {A : Atoms 𝓤} (W : Given 𝓤 H A) where

@@ -33,12 +33,12 @@ use Rattle.queue.specs.declared.Entry.{Entry}
 use Rattle.queue.specs.Order.{orderOf}
 use Rattle.queue.proofs.Entry as T
 use Rattle.queue.proofs.Entry.Laws as T′
-use Rattle.topology.specs.declared.Topology.{Topology}
-use Rattle.topology.specs.declared.Indices.{Indices}
-use Rattle.topology.proofs.Topology as P
-use Rattle.topology.proofs.Topology.Laws as P′
-use Rattle.topology.proofs.Indices as I
-use Rattle.topology.proofs.Indices.Laws as I′
+use Rattle.mesh_topology.specs.declared.Topology.{Topology}
+use Rattle.mesh_topology.specs.declared.Indices.{Indices}
+use Rattle.mesh_topology.proofs.Topology as P
+use Rattle.mesh_topology.proofs.Topology.Laws as P′
+use Rattle.mesh_topology.proofs.Indices as I
+use Rattle.mesh_topology.proofs.Indices.Laws as I′
 use Rattle.queue.proofs.goes_first as g
 use Rattle.queue.proofs.goes_first.Symbol.{name as #queue·goes-first}
 use Rattle.entries.proofs.Calls.{calls-met}

@@ -1,6 +1,6 @@
 // The port's own float steps: what Rust's f32 offers as methods and Rattle does not. A part of the
 // public face `sdf`, not called by users on its own. The definitions and laws of the square root stand here; its
-// code is the crate `root`.
+// code is the crate `float_root`.
 ghost use mathlib.Core.Path.{_≡_};
 ghost use mathlib.Core.Bool.{true};
 ghost use Prim.Native.Nat.{_^_, _<_};

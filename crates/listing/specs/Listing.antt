@@ -11,10 +11,10 @@ use Rattle.point.specs.declared.Point.{Point}
 use Rattle.grid.specs.declared.Grid.{Grid}
 use Rattle.grid.specs.Index.{total}
 use Rattle.grid.specs.Layers.{layers}
-use Rattle.outcome.specs.declared.Answer.{Answer}
-use Rattle.outcome.specs.declared.Answer.the-variants.{Refused, Done}
-use Rattle.checks.specs.Job.{Job, Lent, jobOf}
-use Rattle.outcome.specs.Outcome.{Outcome, outcome}
+use Rattle.job_outcome.specs.declared.Answer.{Answer}
+use Rattle.job_outcome.specs.declared.Answer.the-variants.{Refused, Done}
+use Rattle.job_checks.specs.Job.{Job, Lent, jobOf}
+use Rattle.job_outcome.specs.Outcome.{Outcome, outcome}
 use Rattle.text.specs.declared.Three.{Three}
 use Rattle.text.specs.Words.{space, decimal, hex8, spaced, line, linesBelow}
 use Rattle.text.specs.TextJob.{TextJob, Readable, jobText, indexList, givenOf, flat}

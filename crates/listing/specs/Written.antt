@@ -4,10 +4,10 @@ use mathlib.Core.Path.{_≡_}
 use mathlib.Core.List.{List, []}
 use lib.ListN.{length}
 use lib.Ieee.{Float}
-use Rattle.outcome.specs.declared.Answer.{Answer}
-use Rattle.checks.specs.Job.{Lent, lentOf}
-use Rattle.outcome.specs.Outcome.{peakOf}
-use Rattle.writing.specs.Put.{Put}
+use Rattle.job_outcome.specs.declared.Answer.{Answer}
+use Rattle.job_checks.specs.Job.{Lent, lentOf}
+use Rattle.job_outcome.specs.Outcome.{peakOf}
+use Rattle.text_write.specs.Put.{Put}
 use Rattle.listing.specs.declared.Written.{Written}
 use Rattle.listing.specs.declared.Written.the-variants.{Nothing, Bytes}
 use Rattle.listing.specs.Listing.{listed}

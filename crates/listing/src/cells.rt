@@ -1,14 +1,14 @@
 // The lines of the cells and of the layers.
-use writing::put_all;
-use writing::put_decimal_then;
-use writing::put_hex8_then;
+use text_write::put_all;
+use text_write::put_decimal_then;
+use text_write::put_hex8_then;
 ghost use Prim.Native.Nat.{_+_, _*_, _≤_, _<_};
 ghost use lib.ListN.{length};
 ghost use lib.Ieee.{binary32, toBits};
 ghost use mathlib.Core.Path.{_≡_};
 ghost use mathlib.Core.List.{[], _++_, _∷_};
 ghost use Rattle.text.specs.Words.{space, decimal, hex8, spaced, line, linesBelow};
-ghost use Rattle.writing.specs.Put.{Put};
+ghost use Rattle.text_write.specs.Put.{Put};
 ghost use Rattle.listing.specs.Listing.{cellLine, rowLine};
 ghost use Rattle.listing.specs.Written.{shown};
 

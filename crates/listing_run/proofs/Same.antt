@@ -21,19 +21,19 @@ use Rattle.run.specs.Run.{State}
 use Rattle.run.specs.Ground.{runInput}
 use Rattle.run.proofs.Done.{run-done}
 use Rattle.run.proofs.Grounds.{fair-ground}
-use Rattle.outcome.specs.declared.Answer.{Answer}
-use Rattle.outcome.specs.declared.Answer.the-variants.{Refused, Done}
-use Rattle.checks.specs.Job.{Job, Lent, lentOf}
-use Rattle.checks.specs.Refusals.{wrongGrid, refusal, refusalBy, lengthsOf}
-use Rattle.outcome.specs.Outcome.{Outcome, Gives, ended, runOf, unlessRefused, outcome, peakOf}
-use Rattle.checks.proofs.Accepted.{accepted}
-use Rattle.clearing.proofs.Lengths.{lengths-same}
-use Rattle.outcome.proofs.Outcomes.{same-ended, same-run}
+use Rattle.job_outcome.specs.declared.Answer.{Answer}
+use Rattle.job_outcome.specs.declared.Answer.the-variants.{Refused, Done}
+use Rattle.job_checks.specs.Job.{Job, Lent, lentOf}
+use Rattle.job_checks.specs.Refusals.{wrongGrid, refusal, refusalBy, lengthsOf}
+use Rattle.job_outcome.specs.Outcome.{Outcome, Gives, ended, runOf, unlessRefused, outcome, peakOf}
+use Rattle.job_checks.proofs.Accepted.{accepted}
+use Rattle.job_clear.proofs.Lengths.{lengths-same}
+use Rattle.job_outcome.proofs.Outcomes.{same-ended, same-run}
 use Rattle.listing.specs.Listing.{floatsOf, listed}
-use Rattle.writing.specs.Put.{Put}
-use Rattle.writing.proofs.Puts.{said}
+use Rattle.text_write.specs.Put.{Put}
+use Rattle.text_write.proofs.Puts.{said}
 use Rattle.listing.specs.Written.{shown, RoomToList, Listable}
-use Rattle.own_row.specs.Own.{GivesFour}
+use Rattle.entries_own.specs.Own.{GivesFour}
 use Rattle.listing_run.specs.Parts.{listedOf, lentBy}
 
 -- a listing shows no other buffers

@@ -4,8 +4,8 @@ use mathlib.Core.List.{List}
 use lib.ListN.{replicate}
 use Rattle.float.specs.Arith.{f0}
 use Rattle.grid.specs.declared.Grid.{Grid}
-use Rattle.checks.specs.Job.{Job, Lent, lentOf}
-use Rattle.outcome.specs.Outcome.{outcome}
+use Rattle.job_checks.specs.Job.{Job, Lent, lentOf}
+use Rattle.job_outcome.specs.Outcome.{outcome}
 use Rattle.text.specs.declared.Three.{Three}
 use Rattle.listing.specs.Listing.{pointOf, listed}
 

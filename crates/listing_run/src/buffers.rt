@@ -1,25 +1,25 @@
 // A job that was read: run over buffers of its size, and listed.
 use crate::floats::fill;
 use crate::floats::float_of;
-use generate::generate_grid_sdf;
+use job_generate::generate_grid_sdf;
 use grid::Grid;
 use listing::Written;
 use listing_whole::write_listing;
-use outcome::Answer;
-use own_row::run_records;
+use job_outcome::Answer;
+use entries_own::run_records;
 use point::Point;
 use text::Three;
-use topology::Indices;
-use topology::Topology;
+use mesh_topology::Indices;
+use mesh_topology::Topology;
 ghost use Prim.Native.Nat.{_*_, _≤_};
 ghost use lib.ListN.{length};
 ghost use mathlib.Core.Path.{_≡_};
 ghost use Rattle.grid.specs.Layers.{layers};
-ghost use Rattle.checks.specs.Job.{jobOf, lentOf};
-ghost use Rattle.writing.specs.Put.{Put};
+ghost use Rattle.job_checks.specs.Job.{jobOf, lentOf};
+ghost use Rattle.text_write.specs.Put.{Put};
 ghost use Rattle.listing.specs.Listing.{pointOf, floatsOf, listed};
 ghost use Rattle.listing.specs.Written.{RoomToList, Listable, shown};
-ghost use Rattle.own_row.specs.Own.{lentOwn};
+ghost use Rattle.entries_own.specs.Own.{lentOwn};
 ghost use Rattle.listing_run.specs.Parts.{listedOf, gridBy, lentBy};
 
 // Lists an answer and what its job left, which can be written.

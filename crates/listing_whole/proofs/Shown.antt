@@ -4,12 +4,12 @@ use native.Mathlib.Omega.{arith}
 use mathlib.Core.Path.{_≡_, refl, ap, sym, subst}
 use mathlib.Core.List.{List, [], _∷_, _++_}
 use lib.Ieee.{Float}
-use Rattle.outcome.specs.declared.Answer.{Answer}
-use Rattle.outcome.specs.declared.Answer.the-variants.{Refused, Done}
-use Rattle.outcome.specs.declared.Tally.{Tally}
-use Rattle.outcome.specs.Outcome.{peakOf}
+use Rattle.job_outcome.specs.declared.Answer.{Answer}
+use Rattle.job_outcome.specs.declared.Answer.the-variants.{Refused, Done}
+use Rattle.job_outcome.specs.declared.Tally.{Tally}
+use Rattle.job_outcome.specs.Outcome.{peakOf}
 use Rattle.text.specs.Words.{bytes, decimal, lf, line}
-use Rattle.writing.specs.Put.{Put}
+use Rattle.text_write.specs.Put.{Put}
 use Rattle.listing.specs.Listing.{listed}
 use Rattle.listing.specs.Written.{shown, RoomToList, Listable}
 

@@ -2,13 +2,13 @@
 use listing::Written;
 use listing::put_cells;
 use listing::put_rows;
-use outcome::Answer;
-use writing::put_number;
+use job_outcome::Answer;
+use text_write::put_number;
 ghost use Prim.Native.Nat.{_≤_, _<_};
 ghost use lib.ListN.{length};
 ghost use mathlib.Core.Path.{_≡_};
-ghost use Rattle.outcome.specs.declared.Answer.the-variants.{Done};
-ghost use Rattle.writing.specs.Put.{Put};
+ghost use Rattle.job_outcome.specs.declared.Answer.the-variants.{Done};
+ghost use Rattle.text_write.specs.Put.{Put};
 ghost use Rattle.listing.specs.Listing.{listed};
 ghost use Rattle.listing.specs.Written.{shown, RoomToList, WritesListing};
 

@@ -8,11 +8,11 @@ use lib.ListN.{length, getD}
 use lib.Ieee.{Float, nan}
 use Rattle.point.specs.Point.{vec}
 use Rattle.point.specs.declared.Point.{Point}
-use Rattle.topology.specs.declared.Topology.{Topology}
-use Rattle.topology.specs.declared.Indices.{Indices}
-use Rattle.topology.specs.declared.Triangle.{Triangle}
-use Rattle.topology.specs.Topology.{trianglesOf, kth}
-use Rattle.topology.specs.Refusals.{allBelowCount}
+use Rattle.mesh_topology.specs.declared.Topology.{Topology}
+use Rattle.mesh_topology.specs.declared.Indices.{Indices}
+use Rattle.mesh_topology.specs.declared.Triangle.{Triangle}
+use Rattle.mesh_topology.specs.Topology.{trianglesOf, kth}
+use Rattle.mesh_topology.specs.Refusals.{allBelowCount}
 use Rattle.mesh.specs.declared.Corners.{Corners}
 
 pub record Mesh : Type 0 where

@@ -4,13 +4,13 @@ ghost use mathlib.Core.Path.{_≡_};
 ghost use mathlib.Core.Bool.{true};
 ghost use Prim.Native.Nat.{_+_, _*_, _/_, _^_, _<_, _≤_};
 ghost use lib.ListN.{length};
-ghost use Rattle.topology.specs.Topology.{trianglesOf, kth};
-ghost use Rattle.topology.specs.Refusals.{allBelowCount};
+ghost use Rattle.mesh_topology.specs.Topology.{trianglesOf, kth};
+ghost use Rattle.mesh_topology.specs.Refusals.{allBelowCount};
 ghost use Rattle.mesh.specs.Mesh.{Mesh, Sound, meshOf, vertexCount, trianglesIn, vertexAt, cornersOf, cornersAt};
 use point::Point;
-use topology::Indices;
-use topology::Topology;
-use topology::Triangle;
+use mesh_topology::Indices;
+use mesh_topology::Topology;
+use mesh_topology::Triangle;
 
 // The corners of a triangle.
 pub struct Corners {
@@ -51,7 +51,7 @@ pub fn triangle_count(
 ) -> usize
     ensures { λ r. ⌜ r ≡ length (trianglesIn (meshOf (now (vertices .entry)) topology given (now (indices .entry)))) ⌝ }
 {
-    topology::triangle_count(topology, given, indices, vertices.len() / 3)
+    mesh_topology::triangle_count(topology, given, indices, vertices.len() / 3)
 }
 
 // The corners of triangle k.
@@ -66,6 +66,6 @@ pub fn corners_at(
     requires { ⌜ k < length (trianglesIn (meshOf (now vertices) topology given (now indices))) ⌝ }
     ensures { λ r. ⌜ r ≡ cornersAt (meshOf (now (vertices .entry)) topology given (now (indices .entry))) k ⌝ }
 {
-    let t = topology::triangle_at(topology, given, indices, vertices.len() / 3, k);
+    let t = mesh_topology::triangle_at(topology, given, indices, vertices.len() / 3, k);
     corners_of(vertices, t)
 }

@@ -47,7 +47,7 @@ impl Point {
     pub fn length(self) -> f32
         ensures { λ r. ⌜ r ≡ Spec.lengthOf self ⌝ }
     {
-        root::sqrt(self.dot(self))
+        float_root::sqrt(self.dot(self))
     }
 
     pub fn dist(self, other: Point) -> f32

@@ -22,7 +22,7 @@ use Rattle.grid.specs.Axes.{countOn, cellOn, cellNumbered}
 use Rattle.grid.specs.Index.{indexOf, cellAt, total, Inside}
 use Rattle.grid.specs.Place.{snapCell, floorOn}
 use Rattle.grid.proofs.Laws.{index-below}
-use Rattle.squares.specs.Distance.{squaredOn}
+use Rattle.geo_distance.specs.Distance.{squaredOn}
 use Rattle.mesh.specs.declared.Corners.{Corners}
 use Rattle.mesh.specs.Mesh.{Mesh, trianglesIn, cornersAt}
 use Rattle.run.specs.Run.{none}

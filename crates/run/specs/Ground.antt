@@ -15,9 +15,9 @@ use Rattle.grid.specs.Axes.{countOn, firstOn, sizeOn, cellOn, cellNumbered, cel
 use Rattle.grid.specs.Index.{indexOf, cellAt, total}
 use Rattle.grid_axis.specs.OnAxis.{centreOn}
 use Rattle.grid.specs.Place.{centreOf, snapCell}
-use Rattle.bounding.specs.declared.TriangleBox.{TriangleBox}
-use Rattle.bounding.specs.Box as Triangle
-use Rattle.squares.specs.Distance.{distance}
+use Rattle.geo_box.specs.declared.TriangleBox.{TriangleBox}
+use Rattle.geo_box.specs.Box as Triangle
+use Rattle.geo_distance.specs.Distance.{distance}
 use Rattle.mesh.specs.declared.Corners.{Corners}
 use Rattle.mesh.specs.Mesh.{Mesh, vertexCount, trianglesIn, cornersAt}
 use Rattle.queue.specs.Order.{orderOf}

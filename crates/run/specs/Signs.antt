@@ -21,9 +21,9 @@ use Rattle.grid.specs.Axes.{sizeOn, cellOn, cellNumbered}
 use Rattle.grid.specs.Index.{cellAt, total}
 use Rattle.grid.specs.Layers.{layers, layerOf}
 use Rattle.grid.specs.Place.{centreOf}
-use Rattle.ray.specs.declared.RayHit.{RayHit}
-use Rattle.ray.specs.declared.RayHit.the-variants.{Miss, Hit}
-use Rattle.ray.specs.Ray.{rayAligned}
+use Rattle.geo_ray.specs.declared.RayHit.{RayHit}
+use Rattle.geo_ray.specs.declared.RayHit.the-variants.{Miss, Hit}
+use Rattle.geo_ray.specs.Ray.{rayAligned}
 use Rattle.mesh.specs.declared.Corners.{Corners}
 use Rattle.mesh.specs.Mesh.{Mesh, trianglesIn, cornersAt}
 

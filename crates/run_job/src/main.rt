@@ -1,5 +1,5 @@
 // The job program (document 01, "One job, one listing"): standard input is a job's text, and its listing goes
-// to standard output, or `answer=9`. All that it decides is `answering::run_text`.
+// to standard output, or `answer=9`. All that it decides is `text_answer::run_text`.
 ghost use mathlib.Core.Path.{_≡_};
 ghost use lib.ListN.{length};
 
@@ -14,6 +14,6 @@ fn main() {
     let mut text = io::large_buffer();
     let n = io::read_full(0, &mut text);
     let mut out = room();
-    let m = answering::run_text(&text[..n], &mut out);
+    let m = text_answer::run_text(&text[..n], &mut out);
     io::write_all(1, &out[..m]);
 }

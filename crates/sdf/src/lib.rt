@@ -1,8 +1,8 @@
 // The public face of the port: this is what users call. No function of it has a `requires`: what is out
 // of bounds is refused, by a number of document 01. The crates below it are its parts.
 //
-//   generate_grid_sdf          the whole job, over lent buffers (its contract stands in crate `generate`)
-//   generate_grid_sdf_records  the same with the queue as a lent row of records (crate `generate_records`)
+//   generate_grid_sdf          the whole job, over lent buffers (its contract stands in crate `job_generate`)
+//   generate_grid_sdf_records  the same with the queue as a lent row of records (crate `entries_generate`)
 //   the methods of `Grid`      the grid's questions, asked by value (crate `grid`)
 //   questions                  the same as functions; the geometry, the comparison and the root asked by themselves
 //
@@ -11,14 +11,14 @@ mod questions;
 
 // ---- what is asked about, and answered with
 
-pub use distances::Comparison;
-pub use distances::Order;
-pub use geo::RayHit;
-pub use geo::TriangleBox;
-pub use geo::asked::BoxAnswer as TriangleBoxAnswer;
-pub use geo::asked::DistanceAnswer;
-pub use geo::asked::PointAnswer as ClosestPointAnswer;
-pub use geo::asked::RayAnswer;
+pub use float_order::Comparison;
+pub use float_order::Order;
+pub use ask_geo::RayHit;
+pub use ask_geo::TriangleBox;
+pub use ask_geo::asked::BoxAnswer as TriangleBoxAnswer;
+pub use ask_geo::asked::DistanceAnswer;
+pub use ask_geo::asked::PointAnswer as ClosestPointAnswer;
+pub use ask_geo::asked::RayAnswer;
 pub use grid::BoundingBox;
 pub use grid::BoxAnswer as GridBoxAnswer;
 pub use grid::Cell;
@@ -37,13 +37,13 @@ pub use point::Point;
 
 // ---- the whole job
 
-pub use generate::Answer;
-pub use generate::Tally;
-pub use generate::generate_grid_sdf;
-pub use generate_records::generate_grid_sdf_records;
+pub use job_generate::Answer;
+pub use job_generate::Tally;
+pub use job_generate::generate_grid_sdf;
+pub use entries_generate::generate_grid_sdf_records;
 pub use queue::Entry;
-pub use topology::Indices;
-pub use topology::Topology;
+pub use mesh_topology::Indices;
+pub use mesh_topology::Topology;
 
 // ---- the questions
 

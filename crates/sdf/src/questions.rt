@@ -2,11 +2,11 @@
 // `requires`. The grid answers 1 for a grid out of bounds, then 4 for a cell or an index outside the
 // counts; the geometry 2 for a coordinate that is not finite or above 2,097,152 in magnitude, then 6 for
 // a NaN in its result; the comparison 6 for a NaN. The root takes any number.
-use distances::Comparison;
-use geo::asked::BoxAnswer as TriangleBoxAnswer;
-use geo::asked::DistanceAnswer;
-use geo::asked::PointAnswer as ClosestPointAnswer;
-use geo::asked::RayAnswer;
+use float_order::Comparison;
+use ask_geo::asked::BoxAnswer as TriangleBoxAnswer;
+use ask_geo::asked::DistanceAnswer;
+use ask_geo::asked::PointAnswer as ClosestPointAnswer;
+use ask_geo::asked::RayAnswer;
 use grid::BoxAnswer as GridBoxAnswer;
 use grid::Cell;
 use grid::CellAnswer;
@@ -21,31 +21,31 @@ use point::Axis;
 use point::Point;
 ghost use mathlib.Core.Path.{_≡_};
 ghost use Rattle.float.specs.RootOf.{IsRoot, rootBits};
-ghost use Rattle.distances.specs.Asked.{Compared};
+ghost use Rattle.float_order.specs.Asked.{Compared};
 ghost use Rattle.grid.specs.Axes.{countsOf};
 ghost use Rattle.grid.specs.Index.{indexOf, cellAt, total};
 ghost use Rattle.grid.specs.Place as Place;
 ghost use Rattle.grid.specs.Reply as Reply;
-ghost use Rattle.geo.specs.Asked as Asked;
+ghost use Rattle.ask_geo.specs.Asked as Asked;
 
 // ---- the root and the comparison
 
 pub fn sqrt(x: f32) -> f32
     ensures { λ r. ⌜ IsRoot x r ⌝ }
 {
-    root::sqrt(x)
+    float_root::sqrt(x)
 }
 
 pub fn sqrt_bits(b: u32) -> u32
     ensures { λ r. ⌜ r ≡ rootBits b ⌝ }
 {
-    root::sqrt_bits(b)
+    float_root::sqrt_bits(b)
 }
 
 pub fn compare(a: f32, b: f32) -> Comparison
     ensures { λ r. ⌜ Compared a b r ⌝ }
 {
-    distances::compare(a, b)
+    float_order::compare(a, b)
 }
 
 // ---- the grid
@@ -121,25 +121,25 @@ pub fn from_bounding_box(bbox_min: Point, bbox_max: Point, cell_count: Counts) -
 pub fn triangle_bounding_box(a: Point, b: Point, c: Point) -> TriangleBoxAnswer
     ensures { λ r. ⌜ Asked.boxAnswer r ≡ Asked.askedBox a b c ⌝ }
 {
-    geo::asked::triangle_bounding_box(a, b, c)
+    ask_geo::asked::triangle_bounding_box(a, b, c)
 }
 
 pub fn closest_point_segment(p: Point, a: Point, b: Point) -> ClosestPointAnswer
     ensures { λ r. ⌜ Asked.pointAnswer r ≡ Asked.askedSegment p a b ⌝ }
 {
-    geo::asked::closest_point_segment(p, a, b)
+    ask_geo::asked::closest_point_segment(p, a, b)
 }
 
 pub fn closest_point_triangle(p: Point, a: Point, b: Point, c: Point) -> ClosestPointAnswer
     ensures { λ r. ⌜ Asked.pointAnswer r ≡ Asked.askedTriangle p a b c ⌝ }
 {
-    geo::asked::closest_point_triangle(p, a, b, c)
+    ask_geo::asked::closest_point_triangle(p, a, b, c)
 }
 
 pub fn point_triangle_distance(p: Point, a: Point, b: Point, c: Point) -> DistanceAnswer
     ensures { λ r. ⌜ Asked.distanceAnswer r ≡ Asked.askedDistance p a b c ⌝ }
 {
-    geo::asked::point_triangle_distance(p, a, b, c)
+    ask_geo::asked::point_triangle_distance(p, a, b, c)
 }
 
 pub fn ray_triangle_intersection_aligned(
@@ -151,5 +151,5 @@ pub fn ray_triangle_intersection_aligned(
 ) -> RayAnswer
     ensures { λ r. ⌜ Asked.rayAnswer r ≡ Asked.askedRay o v0 v1 v2 axis ⌝ }
 {
-    geo::asked::ray_triangle_intersection_aligned(o, v0, v1, v2, axis)
+    ask_geo::asked::ray_triangle_intersection_aligned(o, v0, v1, v2, axis)
 }

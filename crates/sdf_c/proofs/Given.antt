@@ -4,11 +4,11 @@ use mathlib.Core.Path.{_≡_, ap, _∙_, subst}
 use mathlib.Core.List.{List}
 use lib.Ieee.{Float}
 use Rattle.grid.specs.declared.Grid.{Grid}
-use Rattle.topology.specs.declared.Topology.{Topology}
-use Rattle.topology.specs.declared.Indices.{Indices}
-use Rattle.outcome.specs.declared.Answer.{Answer}
-use Rattle.checks.specs.Job.{Lent, jobOf}
-use Rattle.outcome.specs.Outcome.{Outcome, Gives, outcome}
+use Rattle.mesh_topology.specs.declared.Topology.{Topology}
+use Rattle.mesh_topology.specs.declared.Indices.{Indices}
+use Rattle.job_outcome.specs.declared.Answer.{Answer}
+use Rattle.job_checks.specs.Job.{Lent, jobOf}
+use Rattle.job_outcome.specs.Outcome.{Outcome, Gives, outcome}
 use Rattle.sdf_c.specs.declared.job.SdfJobAnswer.{SdfJobAnswer}
 use Rattle.sdf_c.specs.Job.{answerOut, GivesC}
 

@@ -1,16 +1,16 @@
--- How the whole job reaches C and its answer comes back. The outcome is that of crate `generate`, unchanged. Definitions only.
+-- How the whole job reaches C and its answer comes back. The outcome is that of crate `job_generate`, unchanged. Definitions only.
 use Prim.Native.Nat.{ℕ}
 use mathlib.Core.Path.{_≡_}
 use lib.Dec.{eqb}
 use Rattle.float.specs.Arith.{if_then_else_}
-use Rattle.topology.specs.declared.Topology.{Topology}
-use Rattle.topology.specs.declared.Topology.the-variants.{TriangleList, TriangleStrip}
-use Rattle.topology.specs.declared.Indices.{Indices}
-use Rattle.topology.specs.declared.Indices.the-variants.{Given}
-use Rattle.topology.specs.declared.Indices.the-variants as Indices
-use Rattle.outcome.specs.declared.Answer.{Answer}
-use Rattle.checks.specs.Job.{Lent}
-use Rattle.outcome.specs.Outcome.{Outcome, numberOf, popsOf, peakOf}
+use Rattle.mesh_topology.specs.declared.Topology.{Topology}
+use Rattle.mesh_topology.specs.declared.Topology.the-variants.{TriangleList, TriangleStrip}
+use Rattle.mesh_topology.specs.declared.Indices.{Indices}
+use Rattle.mesh_topology.specs.declared.Indices.the-variants.{Given}
+use Rattle.mesh_topology.specs.declared.Indices.the-variants as Indices
+use Rattle.job_outcome.specs.declared.Answer.{Answer}
+use Rattle.job_checks.specs.Job.{Lent}
+use Rattle.job_outcome.specs.Outcome.{Outcome, numberOf, popsOf, peakOf}
 use Rattle.sdf_c.specs.declared.job.SdfJobAnswer.{SdfJobAnswer}
 
 -- 0 is a list, and any other number a strip

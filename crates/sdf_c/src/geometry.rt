@@ -7,7 +7,7 @@ use c_records::SdfPointAnswer;
 use c_records::SdfRayAnswer;
 ghost use mathlib.Core.Path.{_≡_};
 ghost use Rattle.float.specs.RootOf.{IsRoot, rootBits};
-ghost use Rattle.geo.specs.Asked.{askedBox, askedSegment, askedTriangle, askedDistance, askedRay};
+ghost use Rattle.ask_geo.specs.Asked.{askedBox, askedSegment, askedTriangle, askedDistance, askedRay};
 ghost use Rattle.c_records.specs.C as C;
 ghost use Rattle.c_records.specs.C.{pointIn, axisIn};
 
@@ -29,21 +29,21 @@ pub extern "C" fn sdf_sqrt_bits(b: u32) -> u32
 pub extern "C" fn sdf_compare_distances(a: f32, b: f32) -> SdfOrderAnswer
     ensures { λ r. ⌜ r ≡ C.comparedForC a b ⌝ }
 {
-    c_geo_answers::order_answer(sdf::compare(a, b))
+    c_geo::order_answer(sdf::compare(a, b))
 }
 
 #[no_mangle]
 pub extern "C" fn sdf_triangle_bounding_box(a: SdfPoint, b: SdfPoint, c: SdfPoint) -> SdfBoxAnswer
     ensures { λ r. ⌜ r ≡ C.triangleBoxForC (askedBox (pointIn a) (pointIn b) (pointIn c)) ⌝ }
 {
-    c_geo_answers::triangle_box_answer(sdf::triangle_bounding_box(a.point(), b.point(), c.point()))
+    c_geo::triangle_box_answer(sdf::triangle_bounding_box(a.point(), b.point(), c.point()))
 }
 
 #[no_mangle]
 pub extern "C" fn sdf_closest_point_segment(p: SdfPoint, a: SdfPoint, b: SdfPoint) -> SdfPointAnswer
     ensures { λ r. ⌜ r ≡ C.closestForC (askedSegment (pointIn p) (pointIn a) (pointIn b)) ⌝ }
 {
-    c_geo_answers::closest_answer(sdf::closest_point_segment(p.point(), a.point(), b.point()))
+    c_geo::closest_answer(sdf::closest_point_segment(p.point(), a.point(), b.point()))
 }
 
 #[no_mangle]
@@ -55,7 +55,7 @@ pub extern "C" fn sdf_closest_point_triangle(
 ) -> SdfPointAnswer
     ensures { λ r. ⌜ r ≡ C.closestForC (askedTriangle (pointIn p) (pointIn a) (pointIn b) (pointIn c)) ⌝ }
 {
-    c_geo_answers::closest_answer(sdf::closest_point_triangle(
+    c_geo::closest_answer(sdf::closest_point_triangle(
         p.point(),
         a.point(),
         b.point(),
@@ -72,7 +72,7 @@ pub extern "C" fn sdf_point_triangle_distance(
 ) -> SdfDistanceAnswer
     ensures { λ r. ⌜ r ≡ C.distanceForC (askedDistance (pointIn p) (pointIn a) (pointIn b) (pointIn c)) ⌝ }
 {
-    c_geo_answers::distance_answer(sdf::point_triangle_distance(
+    c_geo::distance_answer(sdf::point_triangle_distance(
         p.point(),
         a.point(),
         b.point(),
@@ -91,7 +91,7 @@ pub extern "C" fn sdf_ray_triangle_intersection_aligned(
 ) -> SdfRayAnswer
     ensures { λ r. ⌜ r ≡ C.rayForC (askedRay (pointIn o) (pointIn v0) (pointIn v1) (pointIn v2) (axisIn axis)) ⌝ }
 {
-    c_geo_answers::ray_answer(sdf::ray_triangle_intersection_aligned(
+    c_geo::ray_answer(sdf::ray_triangle_intersection_aligned(
         o.point(),
         v0.point(),
         v1.point(),

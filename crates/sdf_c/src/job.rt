@@ -7,9 +7,9 @@ use sdf::Indices;
 use sdf::Topology;
 ghost use mathlib.Core.Path.{_≡_};
 ghost use Rattle.c_records.specs.C.{gridIn};
-ghost use Rattle.checks.specs.Job.{jobOf, lentOf};
-ghost use Rattle.outcome.specs.Outcome.{outcome};
-ghost use Rattle.generate_records.specs.LentRow.{lentRow};
+ghost use Rattle.job_checks.specs.Job.{jobOf, lentOf};
+ghost use Rattle.job_outcome.specs.Outcome.{outcome};
+ghost use Rattle.entries_generate.specs.LentRow.{lentRow};
 ghost use Rattle.sdf_c.specs.Job.{topologyIn, indicesIn, answerOut, GivesC};
 
 // Document 01's number, 0 where the job is done, with the entries taken and the most that waited at once;

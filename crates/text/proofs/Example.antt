@@ -2,7 +2,7 @@
 use mathlib.Core.Path.{_≡_, refl}
 use mathlib.Core.List.{[], _∷_, _++_}
 use Prim.Native.Nat.{ℕ}
-use Rattle.topology.specs.declared.Topology.the-variants.{TriangleList}
+use Rattle.mesh_topology.specs.declared.Topology.the-variants.{TriangleList}
 use Rattle.text.specs.declared.Three.{Three}
 use Rattle.text.specs.Words.{bytes, digits, hex, line, lines}
 use Rattle.text.specs.TextJob.{TextJob, these, indicesText, jobText}

@@ -10,8 +10,8 @@ use Prim.Native.String.{String}
 use lib.Dec.{leb, eqb}
 use lib.ListN.{length}
 use borrow.Author.Tests.{leb-true, le-leb, ne-eqb}
-use Rattle.topology.specs.declared.Topology.{Topology}
-use Rattle.topology.specs.declared.Topology.the-variants.{TriangleList, TriangleStrip}
+use Rattle.mesh_topology.specs.declared.Topology.{Topology}
+use Rattle.mesh_topology.specs.declared.Topology.the-variants.{TriangleList, TriangleStrip}
 use Rattle.text.specs.declared.Three.{Three}
 use Rattle.text.specs.declared.Head.{Head}
 use Rattle.text.specs.declared.Tail.{Tail}

@@ -1,11 +1,11 @@
--- A reader of the job's text as functions on lists of bytes, in the order in which the code of crate `job` goes. That it takes the text of every
+-- A reader of the job's text as functions on lists of bytes, in the order in which the code of crate `text_read_job` goes. That it takes the text of every
 -- job within the limits and nothing else is proved (proofs/Job.antt); nobody need believe these. Definitions only.
 use Prim.Native.Nat.{ℕ, zero, suc, _+_, _-_, _*_, _^_}
 use mathlib.Core.Bool.{Bool, cond}
 use mathlib.Core.List.{List, [], _∷_}
 use lib.Dec.{eqb, leb, ltb}
-use Rattle.topology.specs.declared.Topology.{Topology}
-use Rattle.topology.specs.declared.Topology.the-variants.{TriangleList, TriangleStrip}
+use Rattle.mesh_topology.specs.declared.Topology.{Topology}
+use Rattle.mesh_topology.specs.declared.Topology.the-variants.{TriangleList, TriangleStrip}
 use Rattle.text.specs.declared.Three.{Three}
 use Rattle.text.specs.declared.Head.{Head}
 use Rattle.text.specs.declared.Tail.{Tail}

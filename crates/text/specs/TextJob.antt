@@ -4,10 +4,10 @@ use Prim.Native.Nat.{ℕ, _*_, _^_, _<_, _≤_}
 use Prim.Native.String.{String}
 use mathlib.Core.List.{List, [], _∷_, _++_}
 use lib.ListN.{length}
-use Rattle.topology.specs.declared.Topology.{Topology}
-use Rattle.topology.specs.declared.Topology.the-variants.{TriangleList, TriangleStrip}
-use Rattle.topology.specs.declared.Indices.{Indices}
-use Rattle.topology.specs.declared.Indices.the-variants.{Given, None}
+use Rattle.mesh_topology.specs.declared.Topology.{Topology}
+use Rattle.mesh_topology.specs.declared.Topology.the-variants.{TriangleList, TriangleStrip}
+use Rattle.mesh_topology.specs.declared.Indices.{Indices}
+use Rattle.mesh_topology.specs.declared.Indices.the-variants.{Given, None}
 use Rattle.text.specs.declared.Three.{Three}
 use Rattle.text.specs.Words.{bytes, decimal, hex8, spaced, line, lines}
 

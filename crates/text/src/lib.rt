@@ -2,7 +2,7 @@
 // as a function on lists, and the laws by which that reader takes exactly the texts of jobs within the
 // limits. The only code here are the records that are handed over. A part of the port: users run the job
 // program.
-use topology::Topology;
+use mesh_topology::Topology;
 
 // Three numbers of one line: counts, or the bit patterns of three floats.
 pub struct Three {

@@ -2,9 +2,9 @@
 use borrow.Author.Needs.{needs}
 use mathlib.Core.Path.{_≡_, sym, subst}
 use Prim.Native.Nat.{ℕ, _<_}
-use Rattle.topology.specs.Topology.{kth}
-use Rattle.topology.specs.declared.Triangle.{Triangle}
-use Rattle.topology.proofs.Laws.{Vertices, vertices-at}
+use Rattle.mesh_topology.specs.Topology.{kth}
+use Rattle.mesh_topology.specs.declared.Triangle.{Triangle}
+use Rattle.mesh_topology.proofs.Laws.{Vertices, vertices-at}
 use Rattle.mesh.specs.Mesh.{vertexCount, trianglesIn, meshOf, cornersAt}
 use Rattle.mesh.proofs.corners_at.Statement.{statement}
 use Rattle.mesh.proofs.corners_at.Tie as tie

@@ -4,7 +4,7 @@ use mathlib.Core.Path.{sym}
 use denote.Ref.{now}
 use lib.ListN.{List·getD-eq-default}
 use borrow.Author.Needs.{needs}
-use Rattle.topology.specs.Topology.{triangle, trianglesOf}
+use Rattle.mesh_topology.specs.Topology.{triangle, trianglesOf}
 use Rattle.queue.proofs.triple.Statement.{statement}
 use Rattle.queue.proofs.triple.Tie as tie
 

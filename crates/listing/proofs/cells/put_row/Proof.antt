@@ -2,7 +2,7 @@
 use mathlib.Core.Path.{refl}
 use borrow.Author.Needs.{needs}
 use Rattle.text.specs.Words.{bytes, decimal, hex8, line}
-use Rattle.writing.proofs.Puts.{said, andThen, two-words}
+use Rattle.text_write.proofs.Puts.{said, andThen, two-words}
 use Rattle.listing.proofs.cells.put_row.Statement.{statement}
 use Rattle.listing.proofs.cells.put_row.Tie as tie
 

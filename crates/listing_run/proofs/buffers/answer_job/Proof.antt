@@ -7,9 +7,9 @@ use lib.ListN.{length, drop, length-append, length-map}
 use lib.Ieee.{Float, binary32, ofBits}
 use borrow.Author.Needs.{needs}
 use Rattle.grid.specs.declared.Grid.{Grid}
-use Rattle.checks.specs.Job.{Job, jobOf}
+use Rattle.job_checks.specs.Job.{Job, jobOf}
 use Rattle.listing.specs.Listing.{floatsOf}
-use Rattle.writing.proofs.Puts.{said}
+use Rattle.text_write.proofs.Puts.{said}
 use Rattle.listing_run.specs.Parts.{listedOf, gridBy, lentBy}
 use Rattle.listing_run.proofs.Same.{prefix, same-layers, front-of, long-as, wide-product}
 use Rattle.listing_run.proofs.buffers.answer_job.Statement.{statement}

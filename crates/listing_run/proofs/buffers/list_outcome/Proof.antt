@@ -1,8 +1,8 @@
 -- `listing_run::buffers::list_outcome` meets its contract: what the call gives can be listed, since the peak keeps to the room. Assumes nothing.
 use native.Mathlib.Omega.{arith}
 use borrow.Author.Needs.{needs}
-use Rattle.checks.specs.Job.{jobOf, lentOf}
-use Rattle.outcome.specs.Outcome.{outcome}
+use Rattle.job_checks.specs.Job.{jobOf, lentOf}
+use Rattle.job_outcome.specs.Outcome.{outcome}
 use Rattle.listing_run.specs.Parts.{listedOf}
 use Rattle.listing_run.proofs.Same.{peak-low, of-four, given-listed, can-be-listed}
 use Rattle.listing_run.proofs.buffers.list_outcome.Statement.{statement}

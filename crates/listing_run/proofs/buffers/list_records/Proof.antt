@@ -3,9 +3,9 @@ use native.Mathlib.Omega.{arith}
 use Prim.Native.Nat.{ℕ}
 use lib.ListN.{length-replicate}
 use borrow.Author.Needs.{needs}
-use Rattle.checks.specs.Job.{jobOf}
-use Rattle.own_row.specs.Own.{lentOwn}
-use Rattle.outcome.specs.Outcome.{outcome}
+use Rattle.job_checks.specs.Job.{jobOf}
+use Rattle.entries_own.specs.Own.{lentOwn}
+use Rattle.job_outcome.specs.Outcome.{outcome}
 use Rattle.listing_run.specs.Parts.{listedOf}
 use Rattle.listing_run.proofs.Same.{peak-low, given-listed, can-be-listed}
 use Rattle.listing_run.proofs.buffers.list_records.Statement.{statement}

@@ -4,7 +4,7 @@ use native.Mathlib.Omega.{arith}
 use mathlib.Core.Path.{_≡_, sym}
 use lib.ListN.{length, replicate, length-replicate, take}
 use borrow.Author.Needs.{needs}
-use Rattle.checks.specs.Job.{jobOf}
+use Rattle.job_checks.specs.Job.{jobOf}
 use Rattle.listing_run.proofs.Same.{prefix, few-cut, cut-listed}
 use Rattle.listing_run.proofs.buffers.list_run.Statement.{statement}
 use Rattle.listing_run.proofs.buffers.list_run.Tie as tie

@@ -4,11 +4,11 @@ use mathlib.Core.Bool.{Bool, true, false, _||_}
 use mathlib.Core.Option.{Option, none, some}
 use lib.Ieee.{isNan}
 use Rattle.float.specs.Arith.{if_then_else_}
-use Rattle.distances.specs.Asked.{comparedOrder}
-use Rattle.distances.specs.Compare.{order}
-use Rattle.distances.specs.declared.Order.{Order}
-use Rattle.distances.specs.declared.Comparison.{Comparison}
-use Rattle.distances.specs.declared.Comparison.the-variants.{Is, NotANumber}
+use Rattle.float_order.specs.Asked.{comparedOrder}
+use Rattle.float_order.specs.Compare.{order}
+use Rattle.float_order.specs.declared.Order.{Order}
+use Rattle.float_order.specs.declared.Comparison.{Comparison}
+use Rattle.float_order.specs.declared.Comparison.the-variants.{Is, NotANumber}
 use Rattle.sdf_c.proofs.geometry.sdf_compare_distances.Statement.{statement}
 use Rattle.sdf_c.proofs.geometry.sdf_compare_distances.Tie as tie
 

@@ -3,11 +3,11 @@
 use Rattle.walking.proofs.Prelude.{refl, List, [], _∷_, map, URA, Val, SProp, ent, emp, via, fst∗, Memory, Routine, Heap, Env, WpFn, Tables, Atoms, Fun, givenOf, tables, tablesOf, Given, Sq, prop, runs, atRet, _$_, !, by, WpFn-mono, u32, f32, Meets, tripleOf, Triple, entered, cited, walkOf, Walks, ends-at, walked, walk-meets, onEntry}
 use Rattle.walking.proofs.Prelude.{empty, holds, Blocks, envOf, Locals, returns-at, lends-on, enters, Slice, taken, Kind, Valued, Arg, value, shown, lent, slices, Changes, lefts, Long, fitting, after, bound-to, words, asking-nothing, calls, calls-is, own-bound, typed, from-entry, to-exit, a-u32, a-struct, Sort, a-value, to-look, to-write, stays, spells, tells, all-go}
 use Rattle.queue.proofs.Entry as E
-use Rattle.checks.specs.Job.{Job, jobOf, Lent}
-use Rattle.outcome.specs.Outcome.{Gives, outcome}
+use Rattle.job_checks.specs.Job.{Job, jobOf, Lent}
+use Rattle.job_outcome.specs.Outcome.{Gives, outcome}
 use Rattle.entries.proofs.ByValue.{a-topology, a-given}
-use Rattle.generate_records.specs.LentRow.{lentRow}
-use Rattle.generate_records.proofs.ByValue.{a-grid, an-answer}
+use Rattle.entries_generate.specs.LentRow.{lentRow}
+use Rattle.entries_generate.proofs.ByValue.{a-grid, an-answer}
 use Rattle.c_records.specs.C.{gridIn}
 use Rattle.c_records.proofs.SdfGrid as Cg
 use Rattle.sdf_c.specs.Job.{topologyIn, indicesIn, answerOut, GivesC}
@@ -16,7 +16,7 @@ use Rattle.sdf_c.proofs.Given.{gives-c}
 use Rattle.c_records.proofs.SdfGrid.grid as grid-of
 use Rattle.sdf_c.proofs.job.topology_in as topology-in
 use Rattle.sdf_c.proofs.job.indices_in as indices-in
-use Rattle.generate_records.proofs.generate_grid_sdf_records as job
+use Rattle.entries_generate.proofs.generate_grid_sdf_records as job
 use Rattle.sdf_c.proofs.job.answer_out as answer-out
 use Rattle.sdf_c.proofs.job.sdf_generate_grid_sdf_records as f
 

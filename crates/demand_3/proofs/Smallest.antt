@@ -1,0 +1,139 @@
+-- The entry with the smallest distance is taken. What waits is in order in every state before a pop: it starts empty, an entry is put in
+-- at its place, and the first is taken out. So the first goes no later than any other; and waiting entries hold distances without a sign
+-- bit, whose patterns order as the numbers do. Assumes nothing.
+use Prim.Native.Nat.{ℕ, _≤_, _<_}
+use native.Mathlib.Omega.{arith}
+use mathlib.Core.Path.{_≡_, refl, sym, ap, _∙_, subst}
+use mathlib.Core.Bool.{true}
+use mathlib.Core.List.{List, [], _∷_, List·Memᴰ, List·Memᴰ·head, List·Memᴰ·tail}
+use lib.ListN.{length}
+use lib.Ieee.{binary32, ofBits}
+use lib.Ieee.Bits.{ofBits-toBits}
+use borrow.Author.Tests.{le-leb, eqb-true}
+use Rattle.float.specs.Distance.{Distance}
+use Rattle.float.proofs.Order.{bits-le, bits-eq}
+use Rattle.lists.specs.Turns.{goes}
+use Rattle.lists.proofs.Turns.{turns-keep}
+use Rattle.lists.proofs.Made.{goes-same}
+use Rattle.queue.specs.declared.Entry.{Entry}
+use Rattle.queue.specs.InOrder.{Total}
+use Rattle.queue.proofs.Meaning.{Sorted, sorted-insert, after-member}
+use Rattle.queue.proofs.Order.{order-of, nearer-first, larger-cell-first}
+use Rattle.mesh_topology.specs.Topology.{trianglesOf, kth}
+use Rattle.mesh.specs.Mesh.{vertexCount}
+use Rattle.run.specs.Run.{RunInput, Place, off, at, State, taken, queue, queueCell, queueing, spreadTo, spreadAround}
+use Rattle.run.specs.Ground.{runInput}
+use Rattle.run.proofs.Values.{Fair}
+use Rattle.run.proofs.Offers.{Offer, passes, takesIt, offer-went, Queued, queue-went, QueuedCell, notBelow, below, queueCell-went}
+use Rattle.run.specs.Good.{Waits, Good, Apart}
+use Rattle.run.proofs.Grounds.{fair-ground}
+use Rattle.run.proofs.Seeding.{seeding-empty}
+use Rattle.run.proofs.Spreading.{turnOf}
+use Rattle.job_checks.specs.Job.{Job, Lent}
+use Rattle.job_checks.specs.Refusals.{refusal}
+use Rattle.demand_3.specs.States.{BeforePop, afterQueueing, afterPop}
+use Rattle.demand_3.specs.Demand3.{groundFor}
+use Rattle.demand_3.specs.Smallest.{SmallestTaken}
+use Rattle.demand_3.proofs.States.{before-pop-good}
+use Rattle.demand_3.proofs.Theorem.{checks-passed}
+
+-- the order of the entries is that of document 01
+pub record Ordered (g : RunInput) : Type 0 where
+  pub total : Total (g .goesFirst)
+  pub nearer : (x y : Entry) → g .goesFirst x y ≡ true → x .distance ≤ y .distance
+  pub larger-cell : (x y : Entry) → g .goesFirst x y ≡ true → x .distance ≡ y .distance → y .cell ≤ x .cell
+
+module _ (g : RunInput) (F : Fair g) (O : Ordered g) where
+  -- ---- what waits is in order
+
+  abbrev InOrder : State → Type 0
+  InOrder s = Sorted (g .goesFirst) (s .waiting)
+
+  queued-in-order : (e : Entry) (s t : State) → InOrder s → Queued g e s t → InOrder t
+  queued-in-order e s t S Q = subst InOrder (sym (Q .is)) (sorted-insert (O .total) e (s .waiting) S)
+
+  cell-in-order : (c : ℕ) (s t : State) → InOrder s → queueCell g c s ≡ goes t → InOrder t
+  cell-in-order c s t S h = go (queueCell-went g c s t h)
+    where
+      go : QueuedCell g c s t → InOrder t
+      go (notBelow b e) = subst InOrder (sym e) S
+      go (below b Q) = queued-in-order _ s t S Q
+
+  turn-in-order : (e : Entry) (j : ℕ) (s t : State) → InOrder s → turnOf g e j s ≡ goes t → InOrder t
+  unfolding spreadTo
+  turn-in-order e j s t S h = to (g .around (e .cell) j) h
+    where
+      offered : {c : ℕ} → Offer (queue g) (e .triangle) c (g .distance (e .triangle) c) s t → InOrder t
+      offered (passes n l q) = subst InOrder (sym q) S
+      offered (takesIt n l w) = queued-in-order _ _ t S (queue-went g _ _ t w)
+
+      to : (p : Place) → spreadTo g e p s ≡ goes t → InOrder t
+      to off w = subst InOrder (goes-same w) S
+      to (at c) w = offered (offer-went g (queue g) (e .triangle) c s t w)
+
+  pub before-pop-in-order : (s : State) → BeforePop g s → InOrder s
+  unfolding queueing spreadAround
+  before-pop-in-order t (afterQueueing {s} p h) =
+      turns-keep (queueCell g) (λ i u. InOrder u) (g .cells) s t
+      (subst (Sorted (g .goesFirst)) (sym (seeding-empty g F s p)) tt)
+      (λ i u v l. cell-in-order i u v)
+      h
+  before-pop-in-order t (afterPop {s} {e = e} {w = w} B q h) =
+      turns-keep (turnOf g e) (λ i u. InOrder u) 27 (taken w s) t
+      (subst (Sorted (g .goesFirst)) q (before-pop-in-order s B) .1)
+      (λ i u v l. turn-in-order e i u v)
+      h
+
+  -- ---- so the first is at the smallest distance
+
+  -- an entry that waits holds a distance
+  waits-distance : (s : State) (x : Entry) → Waits g (s .field) x → Distance (g .distance (x .triangle) (x .cell))
+  waits-distance s x W = F .distances (x .triangle) (x .cell) (W .number)
+
+  small : (s : State) (x : Entry) → Waits g (s .field) x → x .distance ≤ 0x7f80_0000
+  small s x W = omega (arith, W .far, waits-distance s x W .small)
+
+  pub taken-smallest : SmallestTaken g
+  taken-smallest s e w B q =
+      record {
+        is-distance = ap (ofBits binary32) (first .far) ∙ ofBits-toBits binary32 _ (waits-distance s e first .held);
+        at-most-each = λ x m. bits-le (e .distance) (x .distance) (small s e first) (small s x (other x m)) ∙ le-leb (e .distance) (x .distance) (O .nearer e x (before x m));
+        larger-cell = λ x m t. larger x m (eqb-true (e .distance) (x .distance) (sym (bits-eq (e .distance) (x .distance) (small s e first) (small s x (other x m))) ∙ t));
+      }
+    where
+      G : Good g s
+      G = before-pop-good g F s B
+
+      first : Waits g (s .field) e
+      first = G .waits e (subst (List·Memᴰ e) (sym q) (List·Memᴰ·head refl))
+
+      other : (x : Entry) → List·Memᴰ x w → Waits g (s .field) x
+      other x m = G .waits x (subst (List·Memᴰ x) (sym q) (List·Memᴰ·tail m))
+
+      before : (x : Entry) → List·Memᴰ x w → g .goesFirst e x ≡ true
+      before x m = after-member (O .total) e x w (subst (Sorted (g .goesFirst)) q (before-pop-in-order s B) .0) m
+
+      larger : (x : Entry) → List·Memᴰ x w → e .distance ≡ x .distance → x .cell < e .cell
+      larger x m d =
+          let apart = subst Apart q (G .apart) .0 x m d in
+          let at-most = O .larger-cell e x (before x m) d in
+          omega arith
+
+-- ---- of every job that comes to its run
+
+order-on : (j : Job) (b : Lent) → Ordered (groundFor j b)
+unfolding runInput
+order-on j b =
+    let m = j .mesh in
+    let count = vertexCount (m .vertices) in
+    let corners = kth (trianglesOf (m .topology) (m .given) (m .indices) count) in
+    record {
+      total = order-of (m .topology) (m .given) (m .indices) count;
+      nearer = nearer-first corners;
+      larger-cell = larger-cell-first corners;
+    }
+
+pub smallest-taken : (j : Job) (b : Lent) → refusal j b ≡ 0 → SmallestTaken (groundFor j b)
+smallest-taken j b h =
+    let p = checks-passed j b h in
+    taken-smallest (groundFor j b) (fair-ground (j .grid) (j .mesh) (length (b .distances)) (j .limit) (p .some) (p .few)) (order-on j b)

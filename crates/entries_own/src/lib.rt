@@ -1,0 +1,50 @@
+// A job over a row of records of the function's own, for callers that lend no row (document 01, "Choosing the form by
+// place"): so that the job over records can be held to the stored sample of whole jobs. A part of the port: users call
+// `sdf`, or run the job program.
+use grid::Grid;
+use job_outcome::Answer;
+use queue::Entry;
+use mesh_topology::Indices;
+use mesh_topology::Topology;
+ghost use Prim.Native.Nat.{_≤_};
+ghost use Rattle.job_checks.specs.Job.{jobOf};
+ghost use Rattle.job_outcome.specs.Outcome.{outcome};
+ghost use Rattle.entries_own.specs.Own.{lentOwn, GivesFour};
+
+// The job with room for so many entries, at most 2,048.
+pub fn run_records(
+    grid: Grid,
+    vertices: &[f32],
+    topology: Topology,
+    given: Indices,
+    indices: &[u32],
+    field: &mut [f32],
+    names: &mut [u32],
+    crossings: &mut [u32],
+    rows: &mut [u32],
+    room: usize,
+    limit: u32,
+) -> Answer
+    requires { ⌜ room ≤ 2048 ⌝ }
+    ensures { λ r. ⌜ GivesFour (outcome (jobOf grid (now (vertices .entry)) topology given (now (indices .entry)) limit) (lentOwn (now (field .entry)) (now (names .entry)) (now (crossings .entry)) (now (rows .entry)) room)) r (now (field .exit)) (now (names .exit)) (now (crossings .exit)) (now (rows .exit)) ⌝ }
+{
+    let none = Entry {
+        distance: 0,
+        cell: 0,
+        triangle: 0,
+    };
+    let mut queue = [none; 2048];
+    entries_generate::generate_grid_sdf_records(
+        grid,
+        vertices,
+        topology,
+        given,
+        indices,
+        field,
+        names,
+        crossings,
+        rows,
+        &mut queue[..room],
+        limit,
+    )
+}

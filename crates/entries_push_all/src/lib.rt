@@ -1,0 +1,40 @@
+// A batch of entries queued in a lent row of entry records. A part of the port: users call `sdf`.
+use entries_batch::Batch;
+use queue::Entry;
+use run_state::Progress;
+use mesh_topology::Indices;
+use mesh_topology::Topology;
+ghost use mathlib.Core.Path.{_≡_};
+ghost use Prim.Native.Nat.{_^_, _<_};
+ghost use Rattle.queue.specs.Order.{orderOf};
+ghost use Rattle.entries.specs.Row.{HeldRow};
+ghost use Rattle.entries_state.specs.Records.{QueuedAll};
+
+// Queues the entries of a batch one after another, or refuses by 7 where the room is full; and then refuses by the
+// batch's own number.
+pub fn push_all(
+    row: &mut [Entry],
+    at: Progress,
+    b: Batch,
+    topology: Topology,
+    given: Indices,
+    indices: &[u32],
+    vertices: usize,
+) -> Progress
+    requires { ⌜ (vertices < 2 ^ 32) × HeldRow (orderOf topology given (now indices) vertices) (now row) (at .waiting) × (at .number ≡ 0) × (b .count < 28) ⌝ }
+    ensures { λ r. ⌜ QueuedAll (orderOf topology given (now (indices .entry)) vertices) b (now (row .entry)) at (now (row .exit)) r ⌝ }
+{
+    let mut reached = at;
+    let mut j = 0;
+    while j < b.count {
+        let n = reached.waiting;
+        reached = entries_batch::queued(reached, row.len());
+        if reached.number != 0 {
+            break;
+        }
+        let e = entries_batch::entry_in(b, j);
+        entries_push::push(row, n, e, topology, given, indices, vertices);
+        j += 1;
+    }
+    entries_state::stopped(reached, b.number)
+}

@@ -1,0 +1,45 @@
+// What waits in a lent row of entry records, spread over the field. A part of the port: users call `sdf`.
+use grid::Grid;
+use queue::Entry;
+use run_state::Progress;
+use mesh_topology::Indices;
+use mesh_topology::Topology;
+ghost use mathlib.Core.Path.{_≡_};
+ghost use Rattle.mesh.specs.Mesh.{meshOf};
+ghost use Rattle.run.specs.Run.{spreading};
+ghost use Rattle.run_state.specs.Told.{Ready};
+ghost use Rattle.entries_state.specs.Records.{HoldsRow, ToldRow};
+
+// Step 3 of the run: spreads what waits, until nothing does, with at most `limit` pops.
+pub fn spread(
+    grid: Grid,
+    vertices: &[f32],
+    topology: Topology,
+    given: Indices,
+    indices: &[u32],
+    field: &mut [f32],
+    names: &mut [u32],
+    row: &mut [Entry],
+    at: Progress,
+    limit: u32,
+) -> Progress
+    requires { ⌜ Ready grid (meshOf (now vertices) topology given (now indices)) × HoldsRow grid (meshOf (now vertices) topology given (now indices)) (now field) (now names) (now row) (at .waiting) × (at .number ≡ 0) × (at .pops ≡ 0) ⌝ }
+    ensures { λ r. ⌜ ToldRow grid (meshOf (now (vertices .entry)) topology given (now (indices .entry))) (λ g. spreading g limit) (now (field .entry)) (now (names .entry)) (now (row .entry)) at (now (field .exit)) (now (names .exit)) (now (row .exit)) r ⌝ }
+{
+    let count = vertices.len() / 3;
+    let mut run = at;
+    while 0 < run.waiting {
+        let n = run.waiting;
+        run = entries_state::popped(run, limit);
+        if run.number != 0 {
+            break;
+        }
+        let e = entries_take::take(row, n, topology, given, indices, count);
+        let b = entries_gather::offers(grid, vertices, topology, given, indices, field, names, e);
+        run = entries_push_all::push_all(row, run, b, topology, given, indices, count);
+        if run.number != 0 {
+            break;
+        }
+    }
+    run
+}

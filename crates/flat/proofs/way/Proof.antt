@@ -1,8 +1,0 @@
--- `flat::way`: one pick in another. Assumes nothing.
-use Rattle.flat.specs.Flat.{way}
-use Rattle.flat.proofs.way.Statement.{statement}
-use Rattle.flat.proofs.way.Tie as tie
-
-pub way-spec : {M : Type 1} → statement M
-unfolding way
-way-spec = tie.close (tie.spec (λ c κs. tt) (λ c κs. tt) (λ c. rw (c .before .pick-point .ensures) at (c .pick-point2 .ensures)))

@@ -1,0 +1,103 @@
+// A job that is not refused before its run: it runs over buffers that are cleared first, and is then finished, or
+// cleared again. A part of the port: users call `sdf`.
+use grid::Grid;
+use job_outcome::Answer;
+use mesh_topology::Indices;
+use mesh_topology::Topology;
+ghost use mathlib.Core.Path.{_≡_};
+ghost use Rattle.mesh.specs.Mesh.{meshOf};
+ghost use Rattle.run_state.specs.Told.{Fit};
+ghost use Rattle.job_checks.specs.Job.{jobOf, lentOf};
+ghost use Rattle.job_checks.specs.Refusals.{refusal};
+ghost use Rattle.run_field.specs.Running.{Fresh};
+ghost use Rattle.job_outcome.specs.Outcome.{Gives, ended, runOf};
+ghost use Rattle.job_outcome.specs.Finished.{Long};
+
+// A job over buffers that are cleared.
+fn cleared_job(
+    grid: Grid,
+    vertices: &[f32],
+    topology: Topology,
+    given: Indices,
+    indices: &[u32],
+    field: &mut [f32],
+    names: &mut [u32],
+    crossings: &mut [u32],
+    rows: &mut [u32],
+    distances: &mut [u32],
+    cells: &mut [u32],
+    triangles: &mut [u32],
+    limit: u32,
+) -> Answer
+    requires { ⌜ Fit grid (meshOf (now vertices) topology given (now indices)) ⌝ }
+    requires { ⌜ Fresh grid (meshOf (now vertices) topology given (now indices)) (now field) (now names) (now distances) (now cells) (now triangles) ⌝ }
+    requires { ⌜ Long grid (now crossings) (now rows) ⌝ }
+    ensures { λ r. ⌜ Gives (ended (jobOf grid (now (vertices .entry)) topology given (now (indices .entry)) limit) (lentOf (now (field .entry)) (now (names .entry)) (now (crossings .entry)) (now (rows .entry)) (now (distances .entry)) (now (cells .entry)) (now (triangles .entry))) (runOf (jobOf grid (now (vertices .entry)) topology given (now (indices .entry)) limit) (lentOf (now (field .entry)) (now (names .entry)) (now (crossings .entry)) (now (rows .entry)) (now (distances .entry)) (now (cells .entry)) (now (triangles .entry))))) r (lentOf (now (field .exit)) (now (names .exit)) (now (crossings .exit)) (now (rows .exit)) (now (distances .exit)) (now (cells .exit)) (now (triangles .exit))) ⌝ }
+{
+    let ran = run_field::run_field(
+        grid,
+        vertices,
+        topology,
+        given,
+        indices,
+        field,
+        names,
+        distances,
+        cells,
+        triangles,
+        limit,
+    );
+    job_conclude::conclude(
+        grid,
+        vertices,
+        topology,
+        given,
+        indices,
+        field,
+        names,
+        crossings,
+        rows,
+        distances,
+        cells,
+        triangles,
+        limit,
+        ran,
+    )
+}
+
+// A job that none of the numbers 1 to 5 refuses.
+pub fn accepted_job(
+    grid: Grid,
+    vertices: &[f32],
+    topology: Topology,
+    given: Indices,
+    indices: &[u32],
+    field: &mut [f32],
+    names: &mut [u32],
+    crossings: &mut [u32],
+    rows: &mut [u32],
+    distances: &mut [u32],
+    cells: &mut [u32],
+    triangles: &mut [u32],
+    limit: u32,
+) -> Answer
+    requires { ⌜ refusal (jobOf grid (now vertices) topology given (now indices) limit) (lentOf (now field) (now names) (now crossings) (now rows) (now distances) (now cells) (now triangles)) ≡ 0 ⌝ }
+    ensures { λ r. ⌜ Gives (ended (jobOf grid (now (vertices .entry)) topology given (now (indices .entry)) limit) (lentOf (now (field .entry)) (now (names .entry)) (now (crossings .entry)) (now (rows .entry)) (now (distances .entry)) (now (cells .entry)) (now (triangles .entry))) (runOf (jobOf grid (now (vertices .entry)) topology given (now (indices .entry)) limit) (lentOf (now (field .entry)) (now (names .entry)) (now (crossings .entry)) (now (rows .entry)) (now (distances .entry)) (now (cells .entry)) (now (triangles .entry))))) r (lentOf (now (field .exit)) (now (names .exit)) (now (crossings .exit)) (now (rows .exit)) (now (distances .exit)) (now (cells .exit)) (now (triangles .exit))) ⌝ }
+{
+    job_clear::clear_all(field, names, crossings, rows, distances, cells, triangles);
+    cleared_job(
+        grid,
+        vertices,
+        topology,
+        given,
+        indices,
+        field,
+        names,
+        crossings,
+        rows,
+        distances,
+        cells,
+        triangles,
+        limit,
+    )
+}

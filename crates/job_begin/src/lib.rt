@@ -1,0 +1,54 @@
+// What comes before the queue is filled (document 01, "Reply numbers", 1 to 5, and "The run", 1): the refusals that
+// change nothing, then the field and the names cleared and seeded. A part of the port: users call `sdf`.
+use job_checks::Lengths;
+use grid::Grid;
+use mesh_topology::Indices;
+use mesh_topology::Topology;
+ghost use Rattle.mesh.specs.Mesh.{meshOf};
+ghost use Rattle.job_begin.specs.Begins.{Begins};
+
+// What it came to: the refusal before anything was changed, or 0, and then what seeding told, 0 or 6.
+pub struct Begun {
+    pub refused: u32,
+    pub number: u32,
+}
+
+// Of a queue whose buffers are all `room` long; `crossings` and `rows` are the lengths of those buffers.
+pub fn begin(
+    grid: Grid,
+    vertices: &[f32],
+    topology: Topology,
+    given: Indices,
+    indices: &[u32],
+    field: &mut [f32],
+    names: &mut [u32],
+    crossings: usize,
+    rows: usize,
+    room: usize,
+) -> Begun
+    ensures { λ r. ⌜ Begins grid (meshOf (now (vertices .entry)) topology given (now (indices .entry))) crossings rows room (now (field .entry)) (now (names .entry)) (now (field .exit)) (now (names .exit)) r ⌝ }
+{
+    let lengths = Lengths {
+        field: field.len(),
+        names: names.len(),
+        crossings: crossings,
+        rows: rows,
+        distances: room,
+        cells: room,
+        triangles: room,
+    };
+    let refused = job_checks::first_refusal(grid, vertices, topology, given, indices, lengths);
+    if refused != 0 {
+        return Begun {
+            refused: refused,
+            number: 0,
+        };
+    }
+    job_clear::fill_field(field);
+    job_clear::fill_numbers(names, 4_294_967_295);
+    let number = run_seed::seed(field, names, grid, vertices, topology, given, indices);
+    Begun {
+        refused: 0,
+        number: number,
+    }
+}

@@ -1,0 +1,88 @@
+-- "Reply numbers. Checked in this order; the first that applies is given, and no number is given otherwise." (document 01). The five
+-- that are checked before the run. Definitions only.
+use Prim.Native.Nat.{ℕ, _*_, _%_}
+use mathlib.Core.Bool.{Bool, not, _||_}
+use mathlib.Core.List.{List, [], _∷_, _++_}
+use lib.Dec.{ltb, eqb}
+use lib.ListN.{length}
+use lib.Ieee.{Float}
+use Rattle.lists.specs.Every.{every}
+use Rattle.lists.specs.Checks.{Check, firstThatApplies}
+use Rattle.grid.specs.declared.Grid.{Grid}
+use Rattle.grid.specs.Index.{total}
+use Rattle.grid.specs.Layers.{layers}
+use Rattle.grid_axis.specs.AxisBounds.{isCoordinate}
+use Rattle.grid.specs.Bounds.{inBounds}
+use Rattle.mesh_topology.specs.Refusals.{tooManyTriangles, allBelowCount}
+use Rattle.mesh.specs.Mesh.{Mesh, vertexCount, trianglesIn}
+use Rattle.job_checks.specs.declared.Lengths.{Lengths}
+use Rattle.job_checks.specs.Job.{Job, Lent}
+
+-- "finite, magnitude at most 1,048,576", of every coordinate
+abbrev pub allCoordinates : List Float → Bool
+allCoordinates xs = every isCoordinate xs
+
+-- 1: "grid out of bounds"
+abbrev pub wrongGrid : Grid → Bool
+wrongGrid g = not (inBounds g)
+
+-- 2: "coordinate count not a multiple of three, too many vertices, or a coordinate out of bounds (unused vertices too)"
+abbrev pub wrongVertices : List Float → Bool
+wrongVertices vs = not (eqb (length vs % 3) 0) || ltb 393216 (vertexCount vs) || not (allCoordinates vs)
+
+-- 3: "too many triangles"
+abbrev pub wrongTriangles : Mesh → Bool
+wrongTriangles m = tooManyTriangles (trianglesIn m)
+
+-- 4: "an index used by a triangle is not below the vertex count"
+abbrev pub wrongIndices : Mesh → Bool
+wrongIndices m = not (allBelowCount (vertexCount (m .vertices)) (trianglesIn m))
+
+-- 5: "field, names, crossings or rows not exactly cells, cells, 3 × cells (x, y, z of each cell in turn), z count long; or queue
+-- buffers of unequal length"
+abbrev pub wrongLengths : Grid → Lengths → Bool
+wrongLengths g l =
+    not (eqb (l .field) (total g))
+    || not (eqb (l .names) (total g))
+    || not (eqb (l .crossings) (3 * total g))
+    || not (eqb (l .rows) (layers g))
+    || not (eqb (l .cells) (l .distances))
+    || not (eqb (l .triangles) (l .distances))
+
+-- how long the lent buffers are
+abbrev pub lengthsOf : Lent → Lengths
+lengthsOf b =
+    record {
+      field = length (b .field);
+      names = length (b .names);
+      crossings = length (b .crossings);
+      rows = length (b .rows);
+      distances = length (b .distances);
+      cells = length (b .cells);
+      triangles = length (b .triangles);
+    }
+
+-- the checks of the grid, of the mesh, and of the lent buffers
+abbrev pub gridChecks : Grid → List Check
+gridChecks g = record { applies = wrongGrid g; number = 1 } ∷ []
+
+abbrev pub meshChecks : Mesh → List Check
+meshChecks m =
+    record { applies = wrongVertices (m .vertices); number = 2 } ∷
+    record { applies = wrongTriangles m; number = 3 } ∷
+    record { applies = wrongIndices m; number = 4 } ∷
+    []
+
+abbrev pub lengthChecks : Grid → Lengths → List Check
+lengthChecks g l = record { applies = wrongLengths g l; number = 5 } ∷ []
+
+-- "checked in this order"
+abbrev pub checks : Grid → Mesh → Lengths → List Check
+checks g m l = gridChecks g ++ meshChecks m ++ lengthChecks g l
+
+-- "the first that applies is given", and 0 where none does
+unfoldable pub refusalBy : Grid → Mesh → Lengths → ℕ
+refusalBy g m l = firstThatApplies (checks g m l)
+
+abbrev pub refusal : Job → Lent → ℕ
+refusal j b = refusalBy (j .grid) (j .mesh) (lengthsOf b)

@@ -1,0 +1,71 @@
+// What follows the run (document 01, "The run", 4), but for the queue. A part of the port: users call `sdf`.
+use grid::Grid;
+use job_outcome::Answer;
+use job_outcome::Tally;
+use run_state::Progress;
+use mesh_topology::Indices;
+use mesh_topology::Topology;
+ghost use mathlib.Core.Path.{_≡_};
+ghost use lib.ListN.{length};
+ghost use Rattle.grid.specs.Index.{total};
+ghost use Rattle.mesh.specs.Mesh.{meshOf};
+ghost use Rattle.run_state.specs.Told.{Fit};
+ghost use Rattle.job_outcome.specs.Finished.{Long, Finished, Closed};
+
+// What follows a run that is not refused: the crossings, the signs and the rows.
+fn finish(
+    grid: Grid,
+    vertices: &[f32],
+    topology: Topology,
+    given: Indices,
+    indices: &[u32],
+    field: &mut [f32],
+    crossings: &mut [u32],
+    rows: &mut [u32],
+)
+    requires { ⌜ Fit grid (meshOf (now vertices) topology given (now indices)) ⌝ }
+    requires { ⌜ length (now field) ≡ total grid ⌝ }
+    requires { ⌜ Long grid (now crossings) (now rows) ⌝ }
+    ensures { λ _. ⌜ Finished grid (meshOf (now (vertices .entry)) topology given (now (indices .entry))) (now (field .entry)) (now (field .exit)) (now (crossings .exit)) (now (rows .exit)) ⌝ }
+{
+    run_cross::cross(grid, vertices, topology, given, indices, crossings);
+    run_signs::sign(crossings, field);
+    run_rows::count_rows(grid, field, rows);
+}
+
+// After the run, which came to `ran`: a refusal clears what it left, else the field is signed and counted. The queue
+// is left to the caller.
+pub fn close(
+    grid: Grid,
+    vertices: &[f32],
+    topology: Topology,
+    given: Indices,
+    indices: &[u32],
+    field: &mut [f32],
+    names: &mut [u32],
+    crossings: &mut [u32],
+    rows: &mut [u32],
+    ran: Progress,
+) -> Answer
+    requires { ⌜ Fit grid (meshOf (now vertices) topology given (now indices)) × (length (now field) ≡ total grid) × Long grid (now crossings) (now rows) ⌝ }
+    ensures { λ r. ⌜ Closed grid (meshOf (now (vertices .entry)) topology given (now (indices .entry))) ran (now (field .entry)) (now (names .entry)) (now (crossings .entry)) (now (rows .entry)) (now (field .exit)) (now (names .exit)) (now (crossings .exit)) (now (rows .exit)) r ⌝ }
+{
+    if ran.number != 0 {
+        job_clear::clear_fields(field, names, crossings, rows);
+        return Answer::Refused(ran.number);
+    }
+    finish(
+        grid,
+        vertices,
+        topology,
+        given,
+        indices,
+        field,
+        crossings,
+        rows,
+    );
+    Answer::Done(Tally {
+        pops: ran.pops,
+        peak: ran.peak,
+    })
+}

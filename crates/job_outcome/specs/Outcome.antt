@@ -1,0 +1,83 @@
+-- "One call has one possible outcome: number, pops, peak and each cell of each buffer follow from the input" (document 01, "What the
+-- contracts owe"). It is one function of the job and of the buffers as they are lent. Definitions only.
+use Prim.Native.Nat.{ℕ, zero, suc}
+use mathlib.Core.Path.{_≡_}
+use lib.ListN.{length}
+use Rattle.lists.specs.Turns.{Turn, goes, refuses}
+use Rattle.run.specs.Run.{State, run}
+use Rattle.run.specs.Ground.{runInput}
+use Rattle.run.specs.Signs.{signedField, allCrossings, rows}
+use Rattle.job_checks.specs.Job.{Job, Lent}
+use Rattle.job_checks.specs.Refusals.{refusal}
+use Rattle.job_clear.specs.Cleared.{zeros, cleared}
+use Rattle.job_outcome.specs.declared.Answer.{Answer}
+use Rattle.job_outcome.specs.declared.Answer.the-variants.{Refused, Done}
+use Rattle.job_outcome.specs.declared.Tally.{Tally}
+
+pub record Outcome : Type 0 where
+  pub answer : Answer
+  -- what each lent buffer then holds
+  pub left : Lent
+
+-- "Numbers 1 to 5 change no lent buffer."
+abbrev pub unchanged : ℕ → Lent → Outcome
+unchanged n b = record { answer = Refused n; left = b }
+
+-- 0: the signed field, the names, the counts and the rows, and the queue all zero
+abbrev pub filled : Job → State → Lent → Lent
+filled j s b =
+    let field = signedField (j .grid) (j .mesh) (s .field) in
+    record {
+      field = field;
+      names = s .names;
+      crossings = allCrossings (j .grid) (j .mesh);
+      rows = rows (j .grid) field;
+      distances = zeros (b .distances);
+      cells = zeros (b .cells);
+      triangles = zeros (b .triangles);
+    }
+
+-- what is counted of a run: the entries taken, and the most that waited at once
+abbrev pub tallyOf : State → Tally
+tallyOf s = record { pops = s .pops; peak = s .peak }
+
+-- what a run that has ended gives
+unfoldable pub ended : Job → Lent → Turn State → Outcome
+ended j b (goes s) = record { answer = Done (tallyOf s); left = filled j s b }
+ended j b (refuses n) = record { answer = Refused n; left = cleared b }
+
+-- the run of a job over the lent queue, whose room is its length
+abbrev pub runOf : Job → Lent → Turn State
+runOf j b = run (runInput (j .grid) (j .mesh) (length (b .distances)) (j .limit))
+
+unfoldable pub unlessRefused : ℕ → Lent → Outcome → Outcome
+unlessRefused zero b o = o
+unlessRefused (suc n) b o = unchanged (suc n) b
+
+unfoldable pub outcome : Job → Lent → Outcome
+outcome j b = unlessRefused (refusal j b) b (ended j b (runOf j b))
+
+-- ---- document 01's number and values for each case of the answer
+
+abbrev pub numberOf : Answer → ℕ
+numberOf (Refused n) = n
+numberOf (Done t) = 0
+
+-- "Refusals return pops and peak as 0."
+abbrev pub popsOf : Answer → ℕ
+popsOf (Refused n) = 0
+popsOf (Done t) = t .pops
+
+abbrev pub peakOf : Answer → ℕ
+peakOf (Refused n) = 0
+peakOf (Done t) = t .peak
+
+-- ---- what a call promises
+
+-- its answer, by number, pops and peak, and what it leaves in each lent buffer are those of the outcome
+pub record Gives (o : Outcome) (answer : Answer) (left : Lent) : Type 0 where
+  pub answers : answer ≡ o .answer
+  pub number : numberOf answer ≡ numberOf (o .answer)
+  pub pops : popsOf answer ≡ popsOf (o .answer)
+  pub peak : peakOf answer ≡ peakOf (o .answer)
+  pub leaves : left ≡ o .left

@@ -1,0 +1,40 @@
+-- `replay_jobs::is_owed` meets its contract: a text has one answer. Assumes nothing.
+use mathlib.Core.Path.{sym, _∙_, subst}
+use borrow.Author.Needs.{needs}
+use Rattle.listing.specs.Listing.{Prints}
+use Rattle.text_answer.proofs.Read.{one-output}
+use Rattle.replay_jobs.proofs.is_owed.Statement.{statement}
+use Rattle.replay_jobs.proofs.is_owed.Tie as tie
+
+run-text-by-requires : tie.Need-run-text-by-requires
+run-text-by-requires c κs = search needs
+
+slice-reshare-prefix-same : tie.Need-slice-reshare-prefix-same
+slice-reshare-prefix-same c = search needs
+
+slice-aggregate-same : tie.Need-slice-aggregate-same
+slice-aggregate-same c = search needs
+
+same-requires : tie.Need-same-requires
+same-requires c κs = search needs
+
+same-length : tie.Need-same-length
+same-length c = search needs
+
+returns : tie.Need-returns
+returns c =
+    let s = c .before .before .before .before .before .before .before .before .before in
+    let A = c .before .before .before .before .run-text-by .ensures .1 .0 (s .pre) in
+    let e = c .same .ensures in
+    ((λ h. subst (Prints (s .args .text .now)) (sym (A .put .front) ∙ e .0 h) (A .prints)), (λ P. e .1 (A .put .front ∙ one-output (A .output) (s .args .owed .now) (A .prints) P)))
+
+pub is-owed-spec : {M : Type 1} → statement M
+is-owed-spec =
+    tie.close
+    (tie.spec
+    run-text-by-requires
+    slice-reshare-prefix-same
+    slice-aggregate-same
+    same-requires
+    same-length
+    returns)

@@ -1,0 +1,62 @@
+-- `run_cross::cross_along`: the parts that are worked out make up the ray test of document 01 (`crates/run_cross_lines/proofs/Hits.antt`). Assumes nothing.
+use borrow.Author.Needs.{needs}
+use native.Mathlib.Omega.{arith}
+use Rattle.geo_ray.specs.Ray.{castOf}
+use Rattle.run_cross_lines.specs.Pass.{hitOn, castHit}
+use Rattle.run_cross_lines.proofs.Grown.{axis-as}
+use Rattle.run_cross_lines.proofs.Hits.{cast-hits}
+use Rattle.run_cross.proofs.cross_along.Statement.{statement}
+use Rattle.run_cross.proofs.cross_along.Tie as tie
+
+-- the function's entry
+abbrev entry : tie.After-second → tie.Start
+entry c = c .before .before .before .before .before .before .before
+
+fill-across-requires : tie.Need-fill-across-requires
+fill-across-requires c κs =
+    let s = entry (c .before .before .before) in
+    (s .pre .0, (s .pre .1 .0 .0, s .pre .1 .0 .1, s .pre .1 .0 .2))
+
+cross-rows-requires : tie.Need-cross-rows-requires
+cross-rows-requires c κs =
+    let f = c .before .before .before .before .before .before .before .before .before .before .before in
+    let s = entry (f .before .before .before .before) in
+    let long = s .pre .1 .0 in (
+      s .pre .0,
+      (
+        omega (arith, f .fill-across .kept),
+        (s .pre .1 .1 .0, s .pre .1 .1 .1),
+      ),
+    )
+
+returns : tie.Need-returns
+returns c =
+    let r = c .before .before .before .before in
+    let f = r .before .before .before .before .before .before .before .before .before .before .before .before in
+    let q = f .before .before .before .before in
+    let s = entry q in
+    let g = s .args .grid in
+    let t = s .args .t in
+    let axis = s .args .axis in
+    let cast = q .before .cast-of .ensures in
+    let z0 = f .fill-across .last .1 .1 .1 .0 in
+    let z1 = f .fill-across .last .1 .1 .1 .1 .0 in
+    let z2 = f .fill-across .last .1 .1 .1 .1 .1 .0 in
+    axis-as g axis (castHit g axis (castOf axis (t .a) (t .b) (t .c)) z0 z1 z2) (hitOn g t axis)
+    (cast-hits g t axis z0 z1 z2 (rw (q .second .ensures, cast) at (f .fill-across .ensures)))
+    (rw cast at (r .cross-rows .ensures))
+
+pub cross-along-spec : {M : Type 1} → statement M
+cross-along-spec =
+    tie.close
+    (tie.spec
+    (λ c κs. search needs)
+    (λ c κs. search needs)
+    fill-across-requires
+    cross-rows-requires
+    (λ c. search needs)
+    (λ c. search needs)
+    (λ c. search needs)
+    (λ c. search needs)
+    (λ c. search needs)
+    returns)

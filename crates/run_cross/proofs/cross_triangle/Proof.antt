@@ -1,0 +1,78 @@
+-- `run_cross::cross_triangle`: three growths, each of its own axis's entries (`crates/run_cross_lines/proofs/Grown.antt`). Assumes nothing.
+use borrow.Author.Needs.{needs}
+use native.Mathlib.Omega.{arith}
+use mathlib.Core.Path.{refl, _∙_}
+use Rattle.run_cross_lines.proofs.Grown.{room-less, room-after, triangle-grown}
+use Rattle.run_cross.proofs.cross_triangle.Statement.{statement}
+use Rattle.run_cross.proofs.cross_triangle.Tie as tie
+
+-- the function's entry, and the call before the last
+abbrev entry : tie.After-cross-along → tie.Start
+entry c = c .before .before .before .before .before .before .before .before .before .before .before
+
+abbrev along-x : tie.After-cross-along-arg10 → tie.After-cross-along
+along-x c = c .before .before .before .before .before .before .before .before .before .before .before .before .before .before .before
+
+abbrev along-y : tie.After-cross-along-arg15 → tie.After-cross-along2
+along-y c = c .before .before .before .before .before .before .before .before .before .before .before .before .before .before .before
+
+cross-along-requires : tie.Need-cross-along-requires
+cross-along-requires c κs =
+    let s = c .before .before .before .before .before .before .before .before .before .before in
+    (s .pre .0, (s .pre .1 .0, (s .pre .1 .1 .0, room-less 3 5 (s .args .crossings .now) (omega arith) (s .pre .1 .1 .1))))
+
+cross-along-requires-2 : tie.Need-cross-along-requires-2
+cross-along-requires-2 c κs =
+    let x = along-x c in
+    let s = entry x in
+    let grown = x .cross-along .ensures in (
+      s .pre .0,
+      (
+        omega (arith, x .cross-along .kept, s .pre .1 .0),
+        (grown .long ∙ s .pre .1 .1 .0, room-less 3 4 (x .cross-along .last .1 .1 .1 .1 .1 .1 .1 .0) (omega arith) (room-after 4 5 refl (s .pre .1 .1 .0) (s .pre .1 .1 .1) grown)),
+      ),
+    )
+
+cross-along-requires-3 : tie.Need-cross-along-requires-3
+cross-along-requires-3 c κs =
+    let y = along-y c in
+    let x = along-x (y .before) in
+    let s = entry x in
+    let grown = x .cross-along .ensures in
+    let long = grown .long ∙ s .pre .1 .1 .0 in (
+      s .pre .0,
+      (
+        omega (arith, y .cross-along2 .kept, x .cross-along .kept, s .pre .1 .0),
+        (y .cross-along2 .ensures .long ∙ long, room-after 3 4 refl long (room-after 4 5 refl (s .pre .1 .1 .0) (s .pre .1 .1 .1) grown) (y .cross-along2 .ensures)),
+      ),
+    )
+
+same-length : tie.Need-same-length
+same-length c =
+    let z = c .before .before .before .before .before .before .before .before .before .before in
+    let y = along-y (z .before) in
+    let x = along-x (y .before) in
+    omega (arith, z .cross-along3 .kept, y .cross-along2 .kept, x .cross-along .kept)
+
+-- the three growths
+returns : tie.Need-returns
+returns c =
+    let z = c .before .before .before .before .before .before .before .before .before .before in
+    let y = along-y (z .before) in
+    let x = along-x (y .before) in
+    let s = entry x in
+    triangle-grown (s .args .grid) (s .args .t) (x .cross-along .ensures) (y .cross-along2 .ensures) (z .cross-along3 .ensures)
+
+pub cross-triangle-spec : {M : Type 1} → statement M
+cross-triangle-spec =
+    tie.close
+    (tie.spec
+    cross-along-requires
+    cross-along-requires-2
+    cross-along-requires-3
+    same-length
+    (λ c. search needs)
+    (λ c. search needs)
+    (λ c. search needs)
+    (λ c. search needs)
+    returns)

@@ -1,0 +1,155 @@
+// The crossing counts: for each cell and axis the number of triangles whose hit reaches the cell (document 01, "The
+// run", 4). The triangle is outside and the lines are inside, so that what depends on the triangle alone, or on the
+// triangle and one of a line's two numbers, is worked out once. A part of the port: users call `sdf`. `run_cross_lines` says
+// which cells a line along an axis has, `run_cross_marks` which lines of a row may be hit, and `run_cross_hits` counts them.
+use grid::Grid;
+use mesh::Corners;
+use point::Axis;
+use geo_ray::Cast;
+use mesh_topology::Indices;
+use mesh_topology::Topology;
+ghost use mathlib.Core.Path.{_≡_};
+ghost use mathlib.Core.Bool.{true};
+ghost use Prim.Native.Nat.{_*_, _≤_};
+ghost use lib.ListN.{length, replicate};
+ghost use Rattle.grid.specs.Index.{total};
+ghost use Rattle.grid.specs.Bounds.{inBounds};
+ghost use Rattle.mesh.specs.Mesh.{meshOf, trianglesIn, Sound};
+ghost use Rattle.run.specs.Signs.{allCrossings};
+ghost use Rattle.slices.specs.Counts.{Room};
+ghost use Rattle.run_cross_lines.specs.Pass.{Grown, axisCrossed, hitOn, crossedBy, castHit};
+
+// The rows of lines along the axis, against a triangle that is made ready for them.
+fn cross_rows(
+    grid: Grid,
+    axis: Axis,
+    cast: Cast,
+    z0: &[f32],
+    z1: &[f32],
+    z2: &[f32],
+    flags: &mut [bool],
+    crossings: &mut [u32],
+)
+    requires { ⌜ inBounds grid ≡ true ⌝ }
+    requires { ⌜ (1024 ≤ length (now z0)) × (1024 ≤ length (now z1)) × (1024 ≤ length (now z2)) × (1024 ≤ length (now flags)) ⌝ }
+    requires { ⌜ length (now crossings) ≡ 3 * total grid ⌝ }
+    requires { ⌜ Room 3 (now crossings) ⌝ }
+    ensures { λ _. ⌜ Grown grid (axisCrossed grid axis (castHit grid axis cast (now (z0 .entry)) (now (z1 .entry)) (now (z2 .entry)))) (now (crossings .entry)) (now (crossings .exit)) ⌝ }
+{
+    let xs = geo_ray::along_x(cast, run_cross_lines::centre(grid, axis, 0));
+    let across = run_cross_lines::next(axis);
+    let count = grid::parts::count_on(grid, across);
+    let mut u: u32 = 0;
+    while u < count {
+        let ys = geo_ray::across_y(cast, run_cross_lines::centre(grid, across, u));
+        run_cross_hits::cross_row(grid, axis, u, z0, z1, z2, ys, xs, flags, crossings);
+        u += 1;
+    }
+}
+
+// The lines along the axis, against a triangle.
+fn cross_along(
+    grid: Grid,
+    axis: Axis,
+    t: Corners,
+    z0: &mut [f32],
+    z1: &mut [f32],
+    z2: &mut [f32],
+    flags: &mut [bool],
+    crossings: &mut [u32],
+)
+    requires { ⌜ inBounds grid ≡ true ⌝ }
+    requires { ⌜ (1024 ≤ length (now z0)) × (1024 ≤ length (now z1)) × (1024 ≤ length (now z2)) × (1024 ≤ length (now flags)) ⌝ }
+    requires { ⌜ length (now crossings) ≡ 3 * total grid ⌝ }
+    requires { ⌜ Room 3 (now crossings) ⌝ }
+    ensures { λ _. ⌜ Grown grid (axisCrossed grid axis (hitOn grid t axis)) (now (crossings .entry)) (now (crossings .exit)) ⌝ }
+{
+    let cast = geo_ray::cast_of(axis, t.a, t.b, t.c);
+    run_cross_marks::fill_across(grid, run_cross_lines::second(axis), cast, z0, z1, z2);
+    cross_rows(grid, axis, cast, z0, z1, z2, flags, crossings);
+}
+
+// The lines along all three axes.
+fn cross_triangle(
+    grid: Grid,
+    t: Corners,
+    z0: &mut [f32],
+    z1: &mut [f32],
+    z2: &mut [f32],
+    flags: &mut [bool],
+    crossings: &mut [u32],
+)
+    requires { ⌜ inBounds grid ≡ true ⌝ }
+    requires { ⌜ (1024 ≤ length (now z0)) × (1024 ≤ length (now z1)) × (1024 ≤ length (now z2)) × (1024 ≤ length (now flags)) ⌝ }
+    requires { ⌜ length (now crossings) ≡ 3 * total grid ⌝ }
+    requires { ⌜ Room 5 (now crossings) ⌝ }
+    ensures { λ _. ⌜ Grown grid (crossedBy grid t) (now (crossings .entry)) (now (crossings .exit)) ⌝ }
+{
+    cross_along(grid, Axis::X, t, z0, z1, z2, flags, crossings);
+    cross_along(grid, Axis::Y, t, z0, z1, z2, flags, crossings);
+    cross_along(grid, Axis::Z, t, z0, z1, z2, flags, crossings);
+}
+
+// All triangles, one after the other.
+fn cross_all(
+    grid: Grid,
+    vertices: &[f32],
+    topology: Topology,
+    given: Indices,
+    indices: &[u32],
+    z0: &mut [f32],
+    z1: &mut [f32],
+    z2: &mut [f32],
+    flags: &mut [bool],
+    crossings: &mut [u32],
+)
+    requires { ⌜ inBounds grid ≡ true ⌝ }
+    requires { ⌜ Sound (meshOf (now vertices) topology given (now indices)) ⌝ }
+    requires { ⌜ length (trianglesIn (meshOf (now vertices) topology given (now indices))) ≤ 131072 ⌝ }
+    requires { ⌜ (1024 ≤ length (now z0)) × (1024 ≤ length (now z1)) × (1024 ≤ length (now z2)) × (1024 ≤ length (now flags)) ⌝ }
+    requires { ⌜ now crossings ≡ replicate (3 * total grid) 0 ⌝ }
+    ensures { λ _. ⌜ now (crossings .exit) ≡ allCrossings grid (meshOf (now (vertices .entry)) topology given (now (indices .entry))) ⌝ }
+{
+    let n = mesh::triangle_count(vertices, topology, given, indices);
+    let mut k = 0;
+    while k < n {
+        let t = mesh::corners_at(vertices, topology, given, indices, k);
+        cross_triangle(grid, t, z0, z1, z2, flags, crossings);
+        k += 1;
+    }
+}
+
+// The whole pass. The crossings may hold anything before. The room for a row of lines is made here, once,
+// and lent down.
+pub fn cross(
+    grid: Grid,
+    vertices: &[f32],
+    topology: Topology,
+    given: Indices,
+    indices: &[u32],
+    crossings: &mut [u32],
+)
+    requires { ⌜ inBounds grid ≡ true ⌝ }
+    requires { ⌜ Sound (meshOf (now vertices) topology given (now indices)) ⌝ }
+    requires { ⌜ length (trianglesIn (meshOf (now vertices) topology given (now indices))) ≤ 131072 ⌝ }
+    requires { ⌜ length (now crossings) ≡ 3 * total grid ⌝ }
+    ensures { λ _. ⌜ now (crossings .exit) ≡ allCrossings grid (meshOf (now (vertices .entry)) topology given (now (indices .entry))) ⌝ }
+{
+    slices::clear(crossings);
+    let mut z0 = [0.0f32; 1024];
+    let mut z1 = [0.0f32; 1024];
+    let mut z2 = [0.0f32; 1024];
+    let mut flags = [false; 1024];
+    cross_all(
+        grid,
+        vertices,
+        topology,
+        given,
+        indices,
+        &mut z0,
+        &mut z1,
+        &mut z2,
+        &mut flags,
+        crossings,
+    );
+}

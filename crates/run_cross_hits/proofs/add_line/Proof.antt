@@ -1,0 +1,71 @@
+-- `run_cross_hits::add_line`: the line's cells have their entries a step apart (`crates/run_cross_lines/proofs/Grown.antt`). Assumes nothing.
+use borrow.Author.Needs.{needs}
+use native.Mathlib.Nat.{mul-pos}
+use native.Mathlib.Omega.{arith}
+use mathlib.Core.Path.{_≡_, ap, _∙_}
+use lib.Dec.{lit<}
+use Rattle.grid.specs.Axes.{cellFrom}
+use Rattle.run_cross_lines.specs.Lines.{entryOf}
+use Rattle.run_cross_lines.proofs.Entries.{inside-line, stride-pos}
+use Rattle.run_cross_lines.proofs.Grown.{line-within, line-grown}
+use Rattle.run_cross_hits.proofs.add_line.Statement.{statement}
+use Rattle.run_cross_hits.proofs.add_line.Tie as tie
+
+-- where the line begins
+started : (c : tie.After-entry) →
+    let a = c .before .before .before .args in
+    c .entry .result ≡ entryOf (a .grid) (a .axis) (cellFrom (a .axis) 0 (a .u) (a .v))
+started c =
+    let a = c .before .before .before .args in
+    c .entry .ensures ∙ ap (entryOf (a .grid) (a .axis)) (c .before .cell-on .ensures)
+
+cell-on-requires : tie.Need-cell-on-requires
+cell-on-requires c κs = search needs
+
+entry-requires : tie.Need-entry-requires
+entry-requires c κs =
+    let s = c .before .before in
+    let a = s .args in
+    (s .pre .0, rw (c .cell-on .ensures) (inside-line (a .grid) (a .axis) 0 (a .u) (a .v) (omega arith) (s .pre .1 .0 .0) (s .pre .1 .0 .1)))
+
+step-requires : tie.Need-step-requires
+step-requires c κs = search needs
+
+add-add-each : tie.Need-add-add-each
+add-add-each c = search needs
+
+add-each-requires : tie.Need-add-each-requires
+add-each-requires c κs =
+    let s = c .before .before .before .before .before in
+    let a = s .args in
+    let b = s .pre .1 .0 in (
+      rw (started (c .before .before), c .before .step .ensures, s .pre .1 .1 .0) (line-within (a .grid) (a .axis) (a .u) (a .v) (a .last) (b .0) (b .1) (b .2)),
+      (
+        rw (c .before .step .ensures) (mul-pos (lit< tt) (stride-pos (a .grid) (s .pre .0) (a .axis))),
+        s .pre .1 .1 .1,
+      ),
+    )
+
+same-length : tie.Need-same-length
+same-length c = search needs
+
+returns : tie.Need-returns
+returns c =
+    let d = c .before .before in
+    let s = d .before .before .before .before .before .before in
+    let a = s .args in
+    let b = s .pre .1 .0 in
+    line-grown (a .grid) (a .axis) (a .u) (a .v) (a .last) (a .crossings .now) _ (b .0) (b .1) (b .2)
+    (rw (started (d .before .before .before), d .before .before .step .ensures) at (d .add-each .ensures))
+
+pub add-line-spec : {M : Type 1} → statement M
+add-line-spec =
+    tie.close
+    (tie.spec
+    cell-on-requires
+    entry-requires
+    step-requires
+    add-add-each
+    add-each-requires
+    same-length
+    returns)

@@ -1,0 +1,144 @@
+-- `run_cross_hits::cross_marked`: the lines before v are crossed. A line that is not marked is missed, so that nothing is to be added there
+-- (`crates/run_cross_lines/proofs/Grown.antt`, `crates/run_cross_lines/proofs/Hits.antt`). Assumes nothing.
+use borrow.Author.Needs.{needs}
+use Prim.Native.Nat.{ℕ, _-_, _≤_, _<_}
+use native.Mathlib.Omega.{arith}
+use mathlib.Core.Path.{_≡_, refl, sym, ap, _∙_}
+use mathlib.Core.Bool.{_&&_}
+use mathlib.Core.Logic.{⊎-elim}
+use lib.Dec.{ltb}
+use lib.ListN.{length}
+use Rattle.grid.specs.Axes.{countOn, next}
+use Rattle.grid.proofs.Facts.{bounds-of, on-axis}
+use Rattle.geo_ray.specs.declared.Three.{Three}
+use Rattle.geo_ray.specs.declared.RayHit.{RayHit}
+use Rattle.geo_ray.specs.Ray.{rayOf}
+use Rattle.run_cross_lines.specs.Lines.{vOf}
+use Rattle.run_cross_lines.specs.Pass.{Grown, lineCrossed, rowCrossed, partsAt, ahead, rowHit}
+use Rattle.run_cross_lines.proofs.Grown.{room-after, row-none, row-more, row-all, line-missed}
+use Rattle.run_cross_lines.proofs.Hits.{must-miss, hit-ahead}
+use Rattle.run_cross_hits.proofs.cross_marked.Statement.{statement}
+use Rattle.run_cross_hits.proofs.cross_marked.Tie as tie
+
+abbrev Inv-loop : tie.InvT-loop
+Inv-loop grid axis u z0 z1 z2 ys xs flags crossings₀ count v₀ crossings v =
+    (v ≤ count) × (length crossings ≡ length crossings₀) × Grown grid (λ a c. ltb (vOf axis c) v && rowCrossed grid axis u (rowHit z0 z1 z2 ys xs) a c) crossings₀ crossings
+
+abbrev μ-loop : tie.MeasureT-loop
+μ-loop grid axis u z0 z1 z2 ys xs flags crossings₀ count v₀ crossings v = count - v
+
+-- the function's entry, and the answer on each line of the row
+abbrev entry : tie.After-count-on Inv-loop μ-loop → tie.Start Inv-loop μ-loop
+entry c = c .before .before .before .before .before .before .before
+
+abbrev hits : tie.After-count-on Inv-loop μ-loop → ℕ → RayHit
+hits c = let a = entry c .args in rowHit (a .z0 .now) (a .z1 .now) (a .z2 .now) (a .ys) (a .xs)
+
+-- the row is as long as the lines' second number goes, at most 1,024
+counted : (c : tie.After-count-on Inv-loop μ-loop) → c .count-on .result ≡ countOn (next (next (entry c .args .axis))) (entry c .args .grid)
+counted c = c .count-on .ensures ∙ ap (λ x. countOn x (entry c .args .grid)) (c .before .second .ensures)
+
+short : (c : tie.In-loop Inv-loop μ-loop) → c .before .loop .v < 1024
+short c =
+    let s = entry (c .before .before) in
+    omega (arith, counted (c .before .before), on-axis (bounds-of (s .args .grid) (s .pre .0)) (next (next (s .args .axis))) .few)
+
+second-requires : tie.Need-second-requires Inv-loop μ-loop
+second-requires c κs = search needs
+
+count-on-requires : tie.Need-count-on-requires Inv-loop μ-loop
+count-on-requires c κs = search needs
+
+loop-holds : tie.Need-loop-holds Inv-loop μ-loop
+loop-holds c = let a = entry c .args in (omega arith, refl, row-none (a .grid) (a .axis) (a .u) (hits c) (a .crossings .now))
+
+cast-at : tie.Need-cast-at Inv-loop μ-loop
+cast-at c = search needs
+
+shared-slice-read-if1 : tie.Need-shared-slice-read-if1 Inv-loop μ-loop
+shared-slice-read-if1 c = omega (arith, short (c .before))
+
+three-at-requires : tie.Need-three-at-requires Inv-loop μ-loop
+three-at-requires c κs = omega (arith, short (c .before .before))
+
+ray-of-requires : tie.Need-ray-of-requires Inv-loop μ-loop
+ray-of-requires c κs = search needs
+
+cross-line-requires : tie.Need-cross-line-requires Inv-loop μ-loop
+cross-line-requires c κs =
+    let p = c .before .before .before .before .before .before in
+    let s = entry (p .before) in (
+      s .pre .0,
+      (
+        (s .pre .1 .0 .0, omega (arith, counted (p .before))),
+        (
+          ap ahead (c .before .ray-of .ensures) ∙ hit-ahead (c .before .before .three-at .result) (s .args .ys) (s .args .xs),
+          (
+            p .loop .inv .1 ∙ s .pre .1 .1 .1 .0,
+            room-after 1 2 refl (s .pre .1 .1 .1 .0) (s .pre .1 .1 .1 .1) (p .loop .inv .2),
+          ),
+        ),
+      ),
+    )
+
+-- line v is crossed, whether it was marked or not
+crossed : (c : tie.Joined1 Inv-loop μ-loop) →
+    let p = c .before .before .before in
+    let a = entry (p .before) .args in
+    Grown (a .grid) (lineCrossed (a .grid) (a .axis) (a .u) (p .loop .v) (hits (p .before) (p .loop .v))) (p .loop .crossings) (c .if1 .crossings)
+crossed c =
+    let p = c .before .before .before in
+    let s = entry (p .before) in
+    let a = s .args in
+    let v = p .loop .v in
+    let zs = partsAt (a .z0 .now) (a .z1 .now) (a .z2 .now) v in
+    ⊎-elim
+    (λ w. let e = w .2 .ensures ∙ ap (λ (t : Three). rayOf t (a .ys) (a .xs)) (w .1 .ensures) in rw (w .7) (rw e at (w .4 .ensures)))
+    (λ w.
+    let missed = must-miss zs (a .ys) (a .xs) (sym (s .pre .1 .1 .0 .each v (omega (arith, counted (p .before)))) ∙ w .0 .left) in
+    rw (w .1) (line-missed (a .grid) (a .axis) (a .u) v (hits (p .before) v) (p .loop .crossings) missed))
+    (c .if1 .came)
+
+add-v : tie.Need-add-v Inv-loop μ-loop
+add-v c = search needs
+
+loop-less : tie.Need-loop-less Inv-loop μ-loop
+loop-less c = omega arith
+
+loop-again : tie.Need-loop-again Inv-loop μ-loop
+loop-again c =
+    let p = c .before .before .before in
+    let a = entry (p .before) .args in
+    let l = p .loop in
+    let test = c .before .before .loop-test .taken in
+    let line = crossed c in
+    (omega arith, line .long ∙ l .inv .1, row-more (a .grid) (a .axis) (a .u) (l .v) (hits (p .before)) (l .inv .2) line)
+
+same-length : tie.Need-same-length Inv-loop μ-loop
+same-length c = omega arith
+
+returns : tie.Need-returns Inv-loop μ-loop
+returns c =
+    let p = c .before in
+    let a = entry (p .before) .args in
+    row-all (a .grid) (a .axis) (a .u) (p .loop .v) (hits (p .before)) (omega (arith, counted (p .before))) (p .loop .inv .2)
+
+pub cross-marked-spec : {M : Type 1} → statement M
+cross-marked-spec =
+    tie.close
+    (tie.spec
+    Inv-loop
+    μ-loop
+    second-requires
+    count-on-requires
+    loop-holds
+    cast-at
+    shared-slice-read-if1
+    three-at-requires
+    ray-of-requires
+    cross-line-requires
+    add-v
+    loop-less
+    loop-again
+    same-length
+    returns)

@@ -1,0 +1,106 @@
+// The hits on the lines of a row: each adds one to the counts of the cells that it reaches. Only the lines that may
+// be hit are asked. A part of the port: users call `sdf`.
+use grid::Grid;
+use point::Axis;
+use geo_ray::RayHit;
+use geo_ray::Three;
+ghost use mathlib.Core.Path.{_≡_};
+ghost use mathlib.Core.Bool.{true};
+ghost use Prim.Native.Nat.{_*_, _<_, _≤_};
+ghost use lib.ListN.{length};
+ghost use Rattle.grid.specs.Axes.{countOn, next};
+ghost use Rattle.grid.specs.Index.{total};
+ghost use Rattle.grid.specs.Bounds.{inBounds};
+ghost use Rattle.slices.specs.Counts.{Room};
+ghost use Rattle.run_cross_lines.specs.Pass.{Grown, onLine, lineCrossed, rowCrossed, ahead, Marked, rowHit};
+
+// Adds one on line (u, v) to the cells up to number `last`.
+fn add_line(grid: Grid, axis: Axis, u: u32, v: u32, last: u32, crossings: &mut [u32])
+    requires { ⌜ inBounds grid ≡ true ⌝ }
+    requires { ⌜ (u < countOn (next axis) grid) × (v < countOn (next (next axis)) grid) × (last < countOn axis grid) ⌝ }
+    requires { ⌜ length (now crossings) ≡ 3 * total grid ⌝ }
+    requires { ⌜ Room 1 (now crossings) ⌝ }
+    ensures { λ _. ⌜ Grown grid (onLine axis u v last) (now (crossings .entry)) (now (crossings .exit)) ⌝ }
+{
+    let start = run_cross_lines::entry(grid, axis, run_cross_lines::cell_on(axis, 0, u, v));
+    let step = run_cross_lines::step(grid, axis);
+    slices::add_each(crossings, start, step, last as usize + 1);
+}
+
+// "A hit at t adds one to that axis's count at each cell of the line whose number is at most
+// floor(t / size)"; a miss adds nothing.
+fn cross_line(grid: Grid, axis: Axis, u: u32, v: u32, hit: RayHit, crossings: &mut [u32])
+    requires { ⌜ inBounds grid ≡ true ⌝ }
+    requires { ⌜ (u < countOn (next axis) grid) × (v < countOn (next (next axis)) grid) ⌝ }
+    requires { ⌜ ahead hit ≡ true ⌝ }
+    requires { ⌜ length (now crossings) ≡ 3 * total grid ⌝ }
+    requires { ⌜ Room 1 (now crossings) ⌝ }
+    ensures { λ _. ⌜ Grown grid (lineCrossed grid axis u v hit) (now (crossings .entry)) (now (crossings .exit)) ⌝ }
+{
+    match hit {
+        RayHit::Miss => {}
+        RayHit::Hit(t) => {
+            let size = grid.cell_size;
+            let last = float::cell(t / size.get(axis), grid::parts::count_on(grid, axis));
+            add_line(grid, axis, u, v, last.index, crossings);
+        }
+    }
+}
+
+// Crosses the marked lines of row u.
+fn cross_marked(
+    grid: Grid,
+    axis: Axis,
+    u: u32,
+    z0: &[f32],
+    z1: &[f32],
+    z2: &[f32],
+    ys: Three,
+    xs: Three,
+    flags: &[bool],
+    crossings: &mut [u32],
+)
+    requires { ⌜ inBounds grid ≡ true ⌝ }
+    requires { ⌜ (u < countOn (next axis) grid) × (1024 ≤ length (now z0)) × (1024 ≤ length (now z1)) × (1024 ≤ length (now z2)) × (1024 ≤ length (now flags)) ⌝ }
+    requires { ⌜ Marked (now z0) (now z1) (now z2) ys (countOn (next (next axis)) grid) (now flags) ⌝ }
+    requires { ⌜ length (now crossings) ≡ 3 * total grid ⌝ }
+    requires { ⌜ Room 2 (now crossings) ⌝ }
+    ensures { λ _. ⌜ Grown grid (rowCrossed grid axis u (rowHit (now (z0 .entry)) (now (z1 .entry)) (now (z2 .entry)) ys xs)) (now (crossings .entry)) (now (crossings .exit)) ⌝ }
+{
+    let count = grid::parts::count_on(grid, run_cross_lines::second(axis));
+    let mut v: u32 = 0;
+    while v < count {
+        let at = v as usize;
+        if flags[at] {
+            let hit = geo_ray::ray_of(run_cross_marks::three_at(z0, z1, z2, at), ys, xs);
+            cross_line(grid, axis, u, v, hit, crossings);
+        }
+        v += 1;
+    }
+}
+
+// Crosses the lines of row u: first it marks those that may be hit, and a row without any is passed over.
+pub fn cross_row(
+    grid: Grid,
+    axis: Axis,
+    u: u32,
+    z0: &[f32],
+    z1: &[f32],
+    z2: &[f32],
+    ys: Three,
+    xs: Three,
+    flags: &mut [bool],
+    crossings: &mut [u32],
+)
+    requires { ⌜ inBounds grid ≡ true ⌝ }
+    requires { ⌜ (u < countOn (next axis) grid) × (1024 ≤ length (now z0)) × (1024 ≤ length (now z1)) × (1024 ≤ length (now z2)) × (1024 ≤ length (now flags)) ⌝ }
+    requires { ⌜ length (now crossings) ≡ 3 * total grid ⌝ }
+    requires { ⌜ Room 2 (now crossings) ⌝ }
+    ensures { λ _. ⌜ Grown grid (rowCrossed grid axis u (rowHit (now (z0 .entry)) (now (z1 .entry)) (now (z2 .entry)) ys xs)) (now (crossings .entry)) (now (crossings .exit)) ⌝ }
+{
+    let count = grid::parts::count_on(grid, run_cross_lines::second(axis)) as usize;
+    let any = run_cross_marks::mark_row(z0, z1, z2, ys, count, flags);
+    if any {
+        cross_marked(grid, axis, u, z0, z1, z2, ys, xs, flags, crossings);
+    }
+}

@@ -1,0 +1,131 @@
+-- The ray of a line, from the parts that the pass works out once, and what its answer can be. Assumes nothing.
+use Prim.Native.Nat.{ℕ, _+_, _*_, _/_, _^_, _≤_, _<_}
+use native.Mathlib.Decide.{decLt}
+use native.Mathlib.Omega.{arith}
+use mathlib.Core.Path.{_≡_, refl, sym, ap, _∙_, subst}
+use mathlib.Core.Bool.{Bool, true, false, cond, _&&_, _||_}
+use mathlib.Core.List.{List}
+use lib.Dec.{leb, eqb}
+use lib.ListN.{length, getD, replicate, length-replicate, getD-replicate, List·getD-eq-default}
+use lib.Ieee.{Float}
+use Rattle.float.specs.Arith.{_⊖_, _⊘_, _≺_, f0}
+use Rattle.float.specs.Cell.{floorOf, cellOf}
+use Rattle.point.specs.declared.Axis.{Axis}
+use Rattle.point.specs.declared.Axis.the-variants.{X, Y, Z}
+use Rattle.grid.specs.declared.Grid.{Grid}
+use Rattle.grid.specs.declared.Cell.{Cell}
+use Rattle.grid.specs.Axes.{countOn, sizeOn, cellOn, next, cellFrom}
+use Rattle.grid.specs.Index.{Inside, cellAt, total}
+use Rattle.grid.specs.Bounds.{inBounds}
+use Rattle.grid.specs.Place.{centreOf}
+use Rattle.grid.proofs.Facts.{bounds-of, on-axis}
+use Rattle.geo_ray.specs.declared.Three.{Three}
+use Rattle.geo_ray.specs.declared.RayHit.the-variants.{Miss, Hit}
+use Rattle.geo_ray.specs.Ray.{allBelow, allAbove, reach, castOf, acrossZ, acrossY, alongX, rayOf}
+use Rattle.geo_ray.proofs.Rays.{in-parts}
+use Rattle.lists.specs.Range.{countBelow}
+use Rattle.lists.proofs.Range.{count-none, count-more, count-le}
+use Rattle.lists.proofs.Table.{is-table}
+use Rattle.mesh.specs.declared.Corners.{Corners}
+use Rattle.mesh.specs.Mesh.{Mesh, trianglesIn, cornersAt}
+use Rattle.run.specs.Signs.{axisAt, rayFrom, crosses, crossings, crossingsAt, allCrossings}
+use Rattle.slices.specs.Counts.{Room}
+use Rattle.run_cross_lines.specs.Lines.{uOf, vOf, centreAlong, entryOf}
+use Rattle.run_cross_lines.specs.Pass.{Grown, same, onLine, lineCrossed, hitOn, crossedBy, mayHit, ahead, Across, castHit}
+use Rattle.run_cross_lines.proofs.Entries.{inside-on, entry-below, inside-at, entry-at}
+use Rattle.run_cross_lines.proofs.Grown.{grown-as}
+use Rattle.run_cross_lines.proofs.Reach.{reached}
+
+-- ---- the answer
+
+pub must-miss : (zs ys xs : Three) → mayHit zs ys ≡ false → rayOf zs ys xs ≡ Miss
+unfolding mayHit rayOf
+must-miss zs ys xs h = rw h
+
+pub hit-ahead : (zs ys xs : Three) → ahead (rayOf zs ys xs) ≡ true
+unfolding rayOf
+hit-ahead zs ys xs =
+    let w0 = zs .v0 ⊖ ys .v0 in
+    let w1 = zs .v1 ⊖ ys .v1 in
+    let w2 = zs .v2 ⊖ ys .v2 in
+    go (allBelow w0 w1 w2 || allAbove w0 w1 w2) (reach w0 w1 w2 (xs .v0) (xs .v1) (xs .v2))
+  where
+    inner : (t : Float) (e : Bool) → f0 ≺ t ≡ e → ahead (cond e (Hit t) Miss) ≡ true
+    inner t true h = h
+    inner t false h = refl
+
+    go : (b : Bool) (t : Float) → ahead (cond b (cond (f0 ≺ t) (Hit t) Miss) Miss) ≡ true
+    go true t = inner t (f0 ≺ t) refl
+    go false t = refl
+
+-- a hit reaches the cells of its line up to the cell of the quotient
+pub hit-grown : (g : Grid) (axis : Axis) (u v last : ℕ) (t : Float) {l m : List ℕ} → inBounds g ≡ true → f0 ≺ t ≡ true
+    → last ≡ cellOf (countOn axis g) (floorOf (t ⊘ sizeOn axis g)) → Grown g (onLine axis u v last) l m → Grown g (lineCrossed g axis u v (Hit t)) l m
+hit-grown g axis u v last t b h e s =
+    grown-as
+    (λ a c w. ap (λ (r : Bool). (same a axis && eqb (uOf axis c) u) && (eqb (vOf axis c) v && r))
+    (ap (leb (cellOn axis c)) e ∙ reached t (sizeOn axis g) (cellOn axis c) (countOn axis g) h (on-axis (bounds-of g b) axis .sized) (inside-on g w axis)))
+    s
+
+-- ---- the line's ray, in parts
+
+pub in-parts-on : (g : Grid) (t : Corners) (axis : Axis) (u v : ℕ)
+    → (let f = castOf axis (t .a) (t .b) (t .c) in
+    rayOf (acrossZ f (centreAlong g (next (next axis)) v)) (acrossY f (centreAlong g (next axis) u)) (alongX f (centreAlong g axis 0)) ≡ hitOn g t axis u v)
+unfolding hitOn centreOf
+in-parts-on g t X u v = in-parts (centreOf g (cellFrom X 0 u v)) (t .a) (t .b) (t .c) X
+in-parts-on g t Y u v = in-parts (centreOf g (cellFrom Y 0 u v)) (t .a) (t .b) (t .c) Y
+in-parts-on g t Z u v = in-parts (centreOf g (cellFrom Z 0 u v)) (t .a) (t .b) (t .c) Z
+
+pub cast-hits : (g : Grid) (t : Corners) (axis : Axis) (z0 z1 z2 : List Float)
+    → Across g (next (next axis)) (castOf axis (t .a) (t .b) (t .c)) (countOn (next (next axis)) g) z0 z1 z2
+    → (u v : ℕ) → v < countOn (next (next axis)) g → castHit g axis (castOf axis (t .a) (t .b) (t .c)) z0 z1 z2 u v ≡ hitOn g t axis u v
+cast-hits g t axis z0 z1 z2 p u v h =
+    let f = castOf axis (t .a) (t .b) (t .c) in
+    ap (λ (zs : Three). rayOf zs (acrossY f (centreAlong g (next axis) u)) (alongX f (centreAlong g axis 0))) (p .each v h) ∙ in-parts-on g t axis u v
+
+-- ---- the counts of the run
+
+pub crosses-by : (g : Grid) (m : Mesh) (axis : Axis) (c : Cell) (k : ℕ) → crosses g m axis c k ≡ crossedBy g (cornersAt m k) axis c
+unfolding crosses rayFrom crossedBy hitOn
+crosses-by g m X c k = refl
+crosses-by g m Y c k = refl
+crosses-by g m Z c k = refl
+
+-- after k triangles each entry is the number of those that cross there
+pub record Counted (g : Grid) (m : Mesh) (k : ℕ) (l : List ℕ) : Type 0 where
+  pub long : length l ≡ 3 * total g
+  pub each : (a : Axis) (c : Cell) → Inside g c → getD l (entryOf g a c) 0 ≡ countBelow (crosses g m a c) k
+
+pub counted-none : (g : Grid) (m : Mesh) (l : List ℕ) → l ≡ replicate (3 * total g) 0 → Counted g m 0 l
+counted-none g m l e =
+    record {
+      long = ap length e ∙ length-replicate (3 * total g) 0;
+      each = λ a c w. ap (λ (s : List ℕ). getD s (entryOf g a c) 0) e ∙ getD-replicate (3 * total g) (entryOf g a c) 0 0 (entry-below g a c w) ∙ sym (count-none (crosses g m a c));
+    }
+
+-- no count is above the number of triangles, so no sum wraps
+pub counted-room : (g : Grid) (m : Mesh) (k : ℕ) (l : List ℕ) → k ≤ 131072 → Counted g m k l → Room 5 l
+counted-room g m k l h s i = go (decLt i (3 * total g))
+  where
+    go : Dec (i < 3 * total g) → getD l i 0 + 5 < 2 ^ 32
+    go (yes w) =
+        subst (λ (j : ℕ). getD l j 0 + 5 < 2 ^ 32) (entry-at g i)
+        (omega (arith, s .each (axisAt i) (cellAt g (i / 3)) (inside-at g i w), count-le (crosses g m (axisAt i) (cellAt g (i / 3))) k))
+    go (no w) =
+        let past : length l ≤ i = omega (arith, s .long) in
+        let none : getD l i 0 ≡ 0 = List·getD-eq-default l 0 past in
+        omega arith
+
+pub counted-more : (g : Grid) (m : Mesh) (k : ℕ) {l n : List ℕ} → Counted g m k l → Grown g (crossedBy g (cornersAt m k)) l n → Counted g m (k + 1) n
+counted-more g m k s t =
+    record {
+      long = t .long ∙ s .long;
+      each = λ a c w. t .each a c w ∙ ap (λ (i : ℕ). i + cond (crossedBy g (cornersAt m k) a c) 1 0) (s .each a c w) ∙ sym (count-more (crosses g m a c) k ∙ ap (λ (b : Bool). countBelow (crosses g m a c) k + cond b 1 0) (crosses-by g m a c k));
+    }
+
+pub counted-all : (g : Grid) (m : Mesh) (k : ℕ) (l : List ℕ) → k ≡ length (trianglesIn m) → Counted g m k l → l ≡ allCrossings g m
+unfolding allCrossings crossingsAt crossings
+counted-all g m k l e s =
+    is-table 0 (crossingsAt g m) (3 * total g) l (s .long)
+    (λ i h. ap (λ (j : ℕ). getD l j 0) (sym (entry-at g i)) ∙ s .each (axisAt i) (cellAt g (i / 3)) (inside-at g i h) ∙ ap (countBelow (crosses g m (axisAt i) (cellAt g (i / 3)))) e)

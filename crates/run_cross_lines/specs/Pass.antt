@@ -1,0 +1,93 @@
+-- What the parts of the crossing pass leave behind: each entry as it was, or one more. Definitions only.
+use Prim.Native.Nat.{ℕ, _+_, _<_}
+use mathlib.Core.Path.{_≡_}
+use mathlib.Core.Bool.{Bool, true, false, cond, _&&_, _||_}
+use mathlib.Core.List.{List}
+use lib.Dec.{leb, eqb}
+use lib.ListN.{length, getD}
+use lib.Ieee.{Float, nan}
+use Rattle.float.specs.Arith.{_⊖_, _≺_, f0}
+use Rattle.point.specs.declared.Axis.{Axis}
+use Rattle.grid.specs.declared.Grid.{Grid}
+use Rattle.grid.specs.declared.Cell.{Cell}
+use Rattle.grid.specs.Axes.{sizeOn, cellOn, next, cellFrom}
+use Rattle.grid.specs.Index.{Inside}
+use Rattle.grid.specs.Place.{centreOf}
+use Rattle.geo_ray.specs.declared.Three.{Three}
+use Rattle.geo_ray.specs.declared.Cast.{Cast}
+use Rattle.geo_ray.specs.declared.RayHit.{RayHit}
+use Rattle.geo_ray.specs.declared.RayHit.the-variants.{Miss, Hit}
+use Rattle.geo_ray.specs.Ray.{allBelow, allAbove, acrossZ, acrossY, alongX, rayOf, rayAligned}
+use Rattle.mesh.specs.declared.Corners.{Corners}
+use Rattle.run.specs.Signs.{reaches}
+use Rattle.run_cross_lines.specs.Lines.{uOf, vOf, centreAlong, axisNumber, entryOf}
+
+-- ---- entries that grow by one
+
+-- of every cell and axis: the entry is one more where the test holds, else as it was
+pub record Grown (g : Grid) (test : Axis → Cell → Bool) (old new : List ℕ) : Type 0 where
+  pub long : length new ≡ length old
+  pub each : (a : Axis) (c : Cell) → Inside g c → getD new (entryOf g a c) 0 ≡ getD old (entryOf g a c) 0 + cond (test a c) 1 0
+
+abbrev pub same : Axis → Axis → Bool
+same a b = eqb (axisNumber a) (axisNumber b)
+
+-- the cells of line (u, v) up to number `last`
+abbrev pub onLine : Axis → ℕ → ℕ → ℕ → Axis → Cell → Bool
+onLine axis u v last a c = (same a axis && eqb (uOf axis c) u) && (eqb (vOf axis c) v && leb (cellOn axis c) last)
+
+-- the cells of line (u, v) that the ray's answer reaches
+abbrev pub lineCrossed : Grid → Axis → ℕ → ℕ → RayHit → Axis → Cell → Bool
+lineCrossed g axis u v hit a c = (same a axis && eqb (uOf axis c) u) && (eqb (vOf axis c) v && reaches (sizeOn axis g) (cellOn axis c) hit)
+
+-- the cells of the lines with u, where `hit v` is the answer on line (u, v)
+abbrev pub rowCrossed : Grid → Axis → ℕ → (ℕ → RayHit) → Axis → Cell → Bool
+rowCrossed g axis u hit a c = (same a axis && eqb (uOf axis c) u) && reaches (sizeOn axis g) (cellOn axis c) (hit (vOf axis c))
+
+-- the cells of all lines along the axis
+abbrev pub axisCrossed : Grid → Axis → (ℕ → ℕ → RayHit) → Axis → Cell → Bool
+axisCrossed g axis hit a c = same a axis && reaches (sizeOn axis g) (cellOn axis c) (hit (uOf axis c) (vOf axis c))
+
+-- the ray from the first cell of line (u, v) against a triangle
+unfoldable pub hitOn : Grid → Corners → Axis → ℕ → ℕ → RayHit
+hitOn g t axis u v = rayAligned (centreOf g (cellFrom axis 0 u v)) (t .a) (t .b) (t .c) axis
+
+-- the cells that a triangle crosses, along the axis
+unfoldable pub crossedBy : Grid → Corners → Axis → Cell → Bool
+crossedBy g t axis c = reaches (sizeOn axis g) (cellOn axis c) (hitOn g t axis (uOf axis c) (vOf axis c))
+
+-- ---- the ray test in a row of lines
+
+-- the parts of the weights of line v
+abbrev pub partsAt : List Float → List Float → List Float → ℕ → Three
+partsAt z0 z1 z2 v = record { v0 = getD z0 v nan; v1 = getD z1 v nan; v2 = getD z2 v nan }
+
+-- the weights are all below 0 or all above 0. Else the ray misses.
+unfoldable pub mayHit : Three → Three → Bool
+mayHit zs ys =
+    let w0 = zs .v0 ⊖ ys .v0 in
+    let w1 = zs .v1 ⊖ ys .v1 in
+    let w2 = zs .v2 ⊖ ys .v2 in
+    allBelow w0 w1 w2 || allAbove w0 w1 w2
+
+-- a hit lies ahead of the ray's origin
+abbrev pub ahead : RayHit → Bool
+ahead Miss = true
+ahead (Hit t) = f0 ≺ t
+
+-- the parts of the weights on the lines of a row, worked out once for a triangle
+pub record Across (g : Grid) (axis : Axis) (f : Cast) (count : ℕ) (z0 z1 z2 : List Float) : Type 0 where
+  pub each : (v : ℕ) → v < count → partsAt z0 z1 z2 v ≡ acrossZ f (centreAlong g axis v)
+
+-- the lines of a row that may be hit are marked
+pub record Marked (z0 z1 z2 : List Float) (ys : Three) (count : ℕ) (flags : List Bool) : Type 0 where
+  pub each : (v : ℕ) → v < count → getD flags v false ≡ mayHit (partsAt z0 z1 z2 v) ys
+
+-- the answers on the lines of a row
+abbrev pub rowHit : List Float → List Float → List Float → Three → Three → ℕ → RayHit
+rowHit z0 z1 z2 ys xs v = rayOf (partsAt z0 z1 z2 v) ys xs
+
+-- the answers on all lines along the axis, from the triangle made ready and those parts
+abbrev pub castHit : Grid → Axis → Cast → List Float → List Float → List Float → ℕ → ℕ → RayHit
+castHit g axis f z0 z1 z2 u v =
+    rowHit z0 z1 z2 (acrossY f (centreAlong g (next axis) u)) (alongX f (centreAlong g axis 0)) v

@@ -1,0 +1,86 @@
+-- `run_cross_marks::mark_row`: the lines before v are marked, and while none is, none of them may be hit (`crates/run_cross_lines/proofs/Marks.antt`). Assumes nothing.
+use borrow.Author.Needs.{needs}
+use Prim.Native.Nat.{ℕ, _-_, _≤_, _<_}
+use native.Mathlib.Nat.{not-suc-le-zero}
+use native.Mathlib.Omega.{arith}
+use mathlib.Core.Path.{_≡_, refl, ap, _∙_, subst}
+use mathlib.Core.Bool.{false}
+use lib.ListN.{length, length-set}
+use Rattle.geo_ray.specs.declared.Three.{Three}
+use Rattle.run_cross_lines.specs.Pass.{partsAt, mayHit, Marked}
+use Rattle.run_cross_lines.proofs.Marks.{marked-none, marked-more, none-marked}
+use Rattle.run_cross_marks.proofs.mark_row.Statement.{statement}
+use Rattle.run_cross_marks.proofs.mark_row.Tie as tie
+
+abbrev Inv-loop : tie.InvT-loop
+Inv-loop z0 z1 z2 ys count flags₀ any₀ v₀ flags any v =
+    (v ≤ count) × (length flags ≡ length flags₀) × Marked z0 z1 z2 ys v flags × (any ≡ false → (i : ℕ) → i < v → mayHit (partsAt z0 z1 z2 i) ys ≡ false)
+
+abbrev μ-loop : tie.MeasureT-loop
+μ-loop z0 z1 z2 ys count flags₀ any₀ v₀ flags any v = count - v
+
+-- the flag of this turn
+found : (c : tie.After-may-hit Inv-loop μ-loop) →
+    let a = c .before .before .before .before .before .before .before .before .args in
+    c .may-hit .result ≡ mayHit (partsAt (a .z0 .now) (a .z1 .now) (a .z2 .now) (c .before .before .before .loop .v)) (a .ys)
+found c =
+    let a = c .before .before .before .before .before .before .before .before .args in
+    c .may-hit .ensures ∙ ap (λ (zs : Three). mayHit zs (a .ys)) (c .before .three-at .ensures)
+
+loop-holds : tie.Need-loop-holds Inv-loop μ-loop
+loop-holds c =
+    let a = c .before .before .before .before .args in
+    (omega arith, refl, marked-none (a .z0 .now) (a .z1 .now) (a .z2 .now) (a .ys) (a .flags .now), λ e i h. absurd (not-suc-le-zero h))
+
+three-at-requires : tie.Need-three-at-requires Inv-loop μ-loop
+three-at-requires c κs = omega arith
+
+may-hit-requires : tie.Need-may-hit-requires Inv-loop μ-loop
+may-hit-requires c κs = search needs
+
+slice-write-flags : tie.Need-slice-write-flags Inv-loop μ-loop
+slice-write-flags c = omega arith
+
+add-v : tie.Need-add-v Inv-loop μ-loop
+add-v c = omega arith
+
+loop-less : tie.Need-loop-less Inv-loop μ-loop
+loop-less c = omega arith
+
+loop-again : tie.Need-loop-again Inv-loop μ-loop
+loop-again c =
+    let a = c .before .before .before .before .before .before .before .before .args in
+    let l = c .before .before .before .loop in (
+      omega arith,
+      length-set (l .flags) (l .v) (c .may-hit .result) ∙ l .inv .1,
+      marked-more (a .z0 .now) (a .z1 .now) (a .z2 .now) (a .ys) (l .v) (l .flags) (c .may-hit .result) (omega arith) (found c) (l .inv .2),
+      none-marked (λ i. mayHit (partsAt (a .z0 .now) (a .z1 .now) (a .z2 .now) i) (a .ys)) (l .any) (c .may-hit .result) (l .v) (found c) (l .inv .3),
+    )
+
+same-length : tie.Need-same-length Inv-loop μ-loop
+same-length c = omega arith
+
+returns : tie.Need-returns Inv-loop μ-loop
+returns c =
+    let a = c .before .before .before .before .before .before .args in
+    let l = c .before .loop in
+    let e : l .v ≡ a .count = omega arith in (
+      subst (λ (n : ℕ). Marked (a .z0 .now) (a .z1 .now) (a .z2 .now) (a .ys) n (l .flags)) e (l .inv .2),
+      λ none i h. l .inv .3 none i (omega arith),
+    )
+
+pub mark-row-spec : {M : Type 1} → statement M
+mark-row-spec =
+    tie.close
+    (tie.spec
+    Inv-loop
+    μ-loop
+    loop-holds
+    three-at-requires
+    may-hit-requires
+    slice-write-flags
+    add-v
+    loop-less
+    loop-again
+    same-length
+    returns)

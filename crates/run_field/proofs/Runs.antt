@@ -1,0 +1,165 @@
+-- The three steps of a run, told one after another, are the run: seeding ends it or goes on from an empty queue, and queueing ends it
+-- or goes on to spreading. Where it is not refused nothing waits at the end. Assumes nothing.
+use Prim.Native.Nat.{ℕ, zero, suc}
+use native.Mathlib.Omega.{arith}
+use mathlib.Core.Path.{_≡_, refl, sym, ap, _∙_, subst}
+use mathlib.Core.List.{List, [], List·Memᴰ, List·Memᴰ·not-nil}
+use lib.ListN.{length, length-replicate}
+use lib.Ieee.{Float}
+use Rattle.float.specs.Arith.{fMax}
+use Rattle.lists.specs.Turns.{Turn, goes, andThen, turns, told}
+use Rattle.lists.proofs.Turns.{then-goes, then-refuses, told-goes, told-refuses}
+use Rattle.grid.specs.declared.Grid.{Grid}
+use Rattle.grid.specs.Index.{total}
+use Rattle.grid.proofs.Facts.{bounds-of, on-axis}
+use Rattle.mesh.specs.Mesh.{Mesh, trianglesIn}
+use Rattle.queue.specs.declared.Entry.{Entry}
+use Rattle.queue.specs.Queue.{waiting}
+use Rattle.queue.proofs.Uses.{none-waits, how-many}
+use Rattle.run.specs.Run.{RunInput, State, none, atFirst, seeding, queueing, spreading, run}
+use Rattle.run.specs.Ground.{runInput}
+use Rattle.run.proofs.Values.{Fair, has-below}
+use Rattle.run.proofs.Offers.{Spread, over, pops, spreading-went, run-went}
+use Rattle.run.proofs.Grounds.{fair-ground}
+use Rattle.run.proofs.Seeding.{seeding-good}
+use Rattle.run_seed_cells.specs.Parts.{seedState, overTriangle}
+use Rattle.run_seed.proofs.Whole.{seeding-is}
+use Rattle.run_state.specs.declared.Progress.{Progress}
+use Rattle.run_state.specs.Told.{orderIn, stateOf, Fit, AllKnown, Holds, Ran, Named, Told}
+use Rattle.run_state.proofs.Counts.{queueing-counts}
+use Rattle.run_field.specs.Running.{Leaves, Fresh, seeded}
+
+-- ---- of any ground
+
+-- spreading ends only where nothing waits
+spreading-ends : (g : RunInput) (left : ℕ) (s t : State) → spreading g left s ≡ goes t → t .waiting ≡ []
+spreading-ends g zero s t h = go (spreading-went g 0 s t h)
+  where
+    go : Spread g 0 s t → t .waiting ≡ []
+    go (over q e) = ap (λ (x : State). x .waiting) e ∙ q
+    go (pops e w n u q l a b) = absurd (omega arith)
+spreading-ends g (suc left) s t h = go (λ u. spreading-ends g left u t) (spreading-went g (suc left) s t h)
+  where
+    go : ((u : State) → spreading g left u ≡ goes t → t .waiting ≡ []) → Spread g (suc left) s t → t .waiting ≡ []
+    go later (over q e) = ap (λ (x : State). x .waiting) e ∙ q
+    go later (pops e w n u q l a b) = let same : n ≡ left = omega arith in later u (subst (λ (i : ℕ). spreading g i u ≡ goes t) same b)
+
+run-ends : (g : RunInput) (t : State) → run g ≡ goes t → t .waiting ≡ []
+run-ends g t h = let r = run-went g t h in spreading-ends g (g .limit) (r .queued-all) t (r .by-spreading)
+
+-- ---- of a job's
+
+-- what is known of no entry
+none-known : (g : Grid) (m : Mesh) (ds cs ts : List ℕ) → AllKnown g m (waiting (orderIn m) ds cs ts 0)
+none-known g m ds cs ts e h = absurd (List·Memᴰ·not-nil (subst (List·Memᴰ e) (none-waits (orderIn m) ds cs ts) h))
+
+-- the state after seeding, over a queue in which nothing waits
+begun : (m : Mesh) (field : List Float) (names ds cs ts : List ℕ) → seedState field names ≡ seeded m field names ds cs ts
+begun m field names ds cs ts =
+    ap (λ (w : List Entry). record { field = field; names = names; waiting = w; pops = 0; peak = 0 }) (sym (none-waits (orderIn m) ds cs ts))
+
+-- what queueing and then spreading come to, from s
+abbrev pub rest : Grid → Mesh → ℕ → ℕ → State → ℕ → Turn State
+rest g m room limit s any = andThen (queueing (runInput g m room any) s) (spreading (runInput g m room any) limit)
+
+module _ {g : Grid} {m : Mesh} where
+  pub fresh-field : {field : List Float} {names ds cs ts : List ℕ} → Fresh g m field names ds cs ts → length field ≡ total g
+  fresh-field f = ap length (f .field-bare) ∙ length-replicate (total g) fMax
+
+  pub fresh-names : {field : List Float} {names ds cs ts : List ℕ} → Fresh g m field names ds cs ts → length names ≡ total g
+  fresh-names f = ap length (f .names-bare) ∙ length-replicate (total g) none
+
+  -- what spreading's functions tell, as a part of the run over a ground with any limit
+  pub as-left : {turn : RunInput → State → Turn State} {field field′ : List Float} {names ds cs ts names′ ds′ cs′ ts′ : List ℕ} {at r : Progress}
+      → Told g m turn field names ds cs ts at field′ names′ ds′ cs′ ts′ r
+      → Leaves g m (λ any. turn (runInput g m (length ds) any) (stateOf (orderIn m) field names ds cs ts at)) field′ names′ ds′ cs′ ts′ r
+  as-left h = record { holds = h .holds; is = h .is }
+
+  -- ---- queueing, then spreading
+  module _ (s : State) (room limit : ℕ) {field : List Float} {names ds cs ts : List ℕ} {p : Progress} (h : Leaves g m (λ any. queueing (runInput g m room any) s) field names ds cs ts p) where
+    pub rest-stops : (p .number ≡ 0 → ⊥) → Leaves g m (rest g m room limit s) field names ds cs ts p
+    rest-stops z =
+        record {
+          holds = h .holds;
+          is = λ any. then-refuses (spreading (runInput g m room any) limit) (h .is any ∙ told-refuses (p .number) _ z) ∙ sym (told-refuses (p .number) _ z);
+        }
+
+    pub rest-begins : p .number ≡ 0 → s .pops ≡ 0 → p .pops ≡ 0
+    rest-begins z e = queueing-counts (runInput g m room 0) s _ (h .is 0 ∙ told-goes (p .number) _ z) ∙ e
+
+    pub rest-goes-on : {field′ : List Float} {names′ ds′ cs′ ts′ : List ℕ} {r : Progress} → p .number ≡ 0 → length ds ≡ room
+        → Leaves g m (λ any. spreading (runInput g m (length ds) any) limit (stateOf (orderIn m) field names ds cs ts p)) field′ names′ ds′ cs′ ts′ r
+        → Leaves g m (rest g m room limit s) field′ names′ ds′ cs′ ts′ r
+    rest-goes-on {r = r} z e w =
+        record {
+          holds = w .holds;
+          is = λ any.
+              then-goes (spreading (runInput g m room any) limit) (h .is any ∙ told-goes (p .number) _ z)
+              ∙ ap (λ (k : ℕ). spreading (runInput g m k any) limit (stateOf (orderIn m) field names ds cs ts p)) (sym e)
+              ∙ w .is any;
+        }
+
+  -- ---- seeding before them
+  module _ {field : List Float} {names ds cs ts : List ℕ} (fit : Fit g m) (fresh : Fresh g m field names ds cs ts) where
+    fair : (room limit : ℕ) → Fair (runInput g m room limit)
+    fair room limit = fair-ground g m room limit (λ a. on-axis (bounds-of g (fit .ready .bounded)) a .some) (omega (arith, fit .few))
+
+    module _ (field′ : List Float) (names′ : List ℕ) (n : ℕ)
+        (h : turns (overTriangle g m) (length (trianglesIn m)) (seedState field names) ≡ told n (seedState field′ names′)) where
+      seeding-told : (room limit : ℕ) → seeding (runInput g m room limit) ≡ told n (seedState field′ names′)
+      unfolding atFirst
+      seeding-told room limit =
+          sym (seeding-is g m room limit)
+          ∙ sym (λ i. turns (overTriangle g m) (length (trianglesIn m)) (seedState (fresh .field-bare i) (fresh .names-bare i)))
+          ∙ h
+
+      pub seeding-stops : (room limit : ℕ) → length field′ ≡ length field → length names′ ≡ length names → (n ≡ 0 → ⊥)
+          → Leaves g m (λ any. run (runInput g m room limit)) field′ names′ ds cs ts (record { number = n; waiting = 0; pops = 0; peak = 0 })
+      unfolding run
+      seeding-stops room limit e k z =
+          record {
+            holds = record {
+              field-long = e ∙ fresh-field fresh;
+              names-long = k ∙ fresh-names fresh;
+              held = fresh .empty;
+              known = none-known g m ds cs ts;
+            };
+            is = λ any.
+                then-refuses _ (seeding-told room limit ∙ told-refuses n _ z) ∙ sym (told-refuses n _ z);
+          }
+
+      module _ (z : n ≡ 0) where
+        went : (room limit : ℕ) → seeding (runInput g m room limit) ≡ goes (seedState field′ names′)
+        went room limit = seeding-told room limit ∙ told-goes n _ z
+
+        pub seeding-holds : Holds g m field′ names′ ds cs ts 0
+        unfolding runInput
+        seeding-holds =
+            let s = seeding-good (runInput g m 0 0) (fair 0 0) (seedState field′ names′) (went 0 0) .sound in
+            record { field-long = s .field-long; names-long = s .names-long; held = fresh .empty; known = none-known g m ds cs ts }
+
+        pub seeding-names : Named g m field′ names′
+        unfolding runInput
+        seeding-names c l b =
+            let s = seeding-good (runInput g m 0 0) (fair 0 0) (seedState field′ names′) (went 0 0) .sound in
+            has-below (runInput g m 0 0) (fair 0 0) (s .each c l) b .0
+
+        pub seeding-goes-on : {field″ : List Float} {names″ ds″ cs″ ts″ : List ℕ} {r : Progress} (room limit : ℕ)
+            → Leaves g m (rest g m room limit (seeded m field′ names′ ds cs ts)) field″ names″ ds″ cs″ ts″ r
+            → Leaves g m (λ any. run (runInput g m room limit)) field″ names″ ds″ cs″ ts″ r
+        unfolding run runInput
+        seeding-goes-on room limit w =
+            record {
+              holds = w .holds;
+              is = λ any. then-goes _ (went room limit ∙ ap goes (begun m field′ names′ ds cs ts)) ∙ w .is limit;
+            }
+
+  -- ---- at the end
+  pub run-over : {field : List Float} {names ds cs ts : List ℕ} {p : Progress} (room limit : ℕ) → Leaves g m (λ any. run (runInput g m room limit)) field names ds cs ts p → Ran g m field names ds cs ts p
+  run-over {field} {names} {ds} {cs} {ts} {p} room limit h =
+      record {
+        holds = h .holds;
+        over = λ z.
+            sym (how-many ds cs ts (p .waiting) (h .holds .held))
+            ∙ ap length (run-ends (runInput g m room limit) (stateOf (orderIn m) field names ds cs ts p) (h .is 0 ∙ told-goes (p .number) _ z));
+      }

@@ -1,0 +1,39 @@
+-- `queue_cell`: the test is the definition's, and the entry is what the cell holds. Assumes nothing.
+use borrow.Author.Needs.{needs}
+use native.Mathlib.Omega.{arith}
+use Rattle.run_queue.proofs.Queues.{less-no-nan, cell-small, cell-passed, cell-queued}
+use Rattle.run_queue.proofs.queue_cell.Statement.{statement}
+use Rattle.run_queue.proofs.queue_cell.Tie as tie
+
+float-to-bits-distance : tie.Need-float-to-bits-distance
+float-to-bits-distance c = less-no-nan _ _ (c .if1 .taken)
+
+cast-cell : tie.Need-cast-cell
+cast-cell c =
+    let s = c .before .before .before .before .before .before .before .before .before in
+    omega (arith, cell-small (s .args .grid) (s .args .c) _ (s .pre .0 .bounded) (s .pre .1 .0 .field-long) (s .pre .1 .1 .1 .1))
+
+returns : tie.Need-returns
+returns c =
+    let s = c .before .before .before .before .before .before .before .before .before .before .before .before .before .before .before .before .before .before .before .before in
+    cell-queued _ (s .pre .1 .0) (s .pre .1 .1 .0) (s .pre .1 .1 .1 .1) (c .before .before .before .before .before .before .before .before .before .before .before .if1 .taken) (c .before .before .before .before .before .before .enqueue .ensures)
+
+returns-2 : tie.Need-returns-2
+returns-2 c = let s = c .before .before .before .before .before .before .before .before .before in cell-passed _ (s .pre .1 .0) (s .pre .1 .1 .1 .0) (c .if1 .left)
+
+pub queue-cell-spec : {M : Type 1} → statement M
+queue-cell-spec =
+    tie.close
+    (tie.spec
+    (λ c. search needs)
+    (λ c. search needs)
+    float-to-bits-distance
+    cast-cell
+    (λ c. search needs)
+    (λ c. search needs)
+    (λ c κs. search needs)
+    (λ c. search needs)
+    (λ c. search needs)
+    (λ c. search needs)
+    returns
+    returns-2)

@@ -1,0 +1,152 @@
+// Queueing: each cell below f32::MAX becomes one entry, by cell index (document 01, "The run", 2). A part of the
+// port: users call `sdf`.
+use grid::Grid;
+use queue::Entry;
+use run_state::Progress;
+use mesh_topology::Indices;
+use mesh_topology::Topology;
+ghost use mathlib.Core.Path.{_≡_};
+ghost use Prim.Native.Nat.{_^_, _<_, max};
+ghost use lib.ListN.{length};
+ghost use Rattle.mesh.specs.Mesh.{meshOf};
+ghost use Rattle.queue.specs.Order.{orderOf};
+ghost use Rattle.queue.specs.Queue.{Held};
+ghost use Rattle.run.specs.Run.{queueCell, queueing};
+ghost use Rattle.run_state.specs.Told.{Ready, Holds, Told, Queued, Named};
+
+fn higher(a: usize, b: usize) -> usize
+    ensures { λ r. ⌜ r ≡ max a b ⌝ }
+{
+    if a < b { b } else { a }
+}
+
+// Queues e, or refuses by 7 where the room is full.
+pub fn enqueue(
+    distances: &mut [u32],
+    cells: &mut [u32],
+    triangles: &mut [u32],
+    at: Progress,
+    e: Entry,
+    topology: Topology,
+    given: Indices,
+    indices: &[u32],
+    vertices: usize,
+) -> Progress
+    requires { ⌜ vertices < 2 ^ 32 ⌝ }
+    requires { ⌜ Held (orderOf topology given (now indices) vertices) (now distances) (now cells) (now triangles) (at .waiting) ⌝ }
+    ensures { λ r. ⌜ Queued (orderOf topology given (now (indices .entry)) vertices) e (now (distances .entry)) (now (cells .entry)) (now (triangles .entry)) at (now (distances .exit)) (now (cells .exit)) (now (triangles .exit)) r ⌝ }
+{
+    let n = at.waiting;
+    if distances.len() <= n {
+        return at.refused(7);
+    }
+    queue_push::push(
+        distances,
+        cells,
+        triangles,
+        n,
+        e,
+        topology,
+        given,
+        indices,
+        vertices,
+    );
+    let peak = higher(at.peak, n + 1);
+    Progress {
+        number: 0,
+        waiting: n + 1,
+        pops: at.pops,
+        peak: peak,
+    }
+}
+
+// Queues the entry of cell c, where the cell is below f32::MAX.
+fn queue_cell(
+    grid: Grid,
+    vertices: &[f32],
+    topology: Topology,
+    given: Indices,
+    indices: &[u32],
+    field: &[f32],
+    names: &[u32],
+    distances: &mut [u32],
+    cells: &mut [u32],
+    triangles: &mut [u32],
+    at: Progress,
+    c: usize,
+) -> Progress
+    requires { ⌜ Ready grid (meshOf (now vertices) topology given (now indices)) ⌝ }
+    requires { ⌜ Holds grid (meshOf (now vertices) topology given (now indices)) (now field) (now names) (now distances) (now cells) (now triangles) (at .waiting) ⌝ }
+    requires { ⌜ Named grid (meshOf (now vertices) topology given (now indices)) (now field) (now names) ⌝ }
+    requires { ⌜ (at .number ≡ 0) × (c < length (now field)) ⌝ }
+    ensures { λ r. ⌜ Told grid (meshOf (now (vertices .entry)) topology given (now (indices .entry))) (λ g. queueCell g c) (now (field .entry)) (now (names .entry)) (now (distances .entry)) (now (cells .entry)) (now (triangles .entry)) at (now (field .entry)) (now (names .entry)) (now (distances .exit)) (now (cells .exit)) (now (triangles .exit)) r ⌝ }
+{
+    let d = field[c];
+    if d < 3.4028235e38 {
+        let distance = f32::to_bits(d);
+        let cell = c as u32;
+        let triangle = names[c];
+        let e = Entry {
+            distance: distance,
+            cell: cell,
+            triangle: triangle,
+        };
+        return enqueue(
+            distances,
+            cells,
+            triangles,
+            at,
+            e,
+            topology,
+            given,
+            indices,
+            vertices.len() / 3,
+        );
+    }
+    at
+}
+
+// Step 2 of the run: queues the cells that hold a distance, on top of what waits.
+pub fn queue_cells(
+    grid: Grid,
+    vertices: &[f32],
+    topology: Topology,
+    given: Indices,
+    indices: &[u32],
+    field: &[f32],
+    names: &[u32],
+    distances: &mut [u32],
+    cells: &mut [u32],
+    triangles: &mut [u32],
+    at: Progress,
+) -> Progress
+    requires { ⌜ Ready grid (meshOf (now vertices) topology given (now indices)) ⌝ }
+    requires { ⌜ Holds grid (meshOf (now vertices) topology given (now indices)) (now field) (now names) (now distances) (now cells) (now triangles) (at .waiting) ⌝ }
+    requires { ⌜ Named grid (meshOf (now vertices) topology given (now indices)) (now field) (now names) ⌝ }
+    requires { ⌜ at .number ≡ 0 ⌝ }
+    ensures { λ r. ⌜ Told grid (meshOf (now (vertices .entry)) topology given (now (indices .entry))) queueing (now (field .entry)) (now (names .entry)) (now (distances .entry)) (now (cells .entry)) (now (triangles .entry)) at (now (field .entry)) (now (names .entry)) (now (distances .exit)) (now (cells .exit)) (now (triangles .exit)) r ⌝ }
+{
+    let mut reached = at;
+    let mut c = 0;
+    while c < field.len() {
+        reached = queue_cell(
+            grid,
+            vertices,
+            topology,
+            given,
+            indices,
+            field,
+            names,
+            distances,
+            cells,
+            triangles,
+            reached,
+            c,
+        );
+        if reached.number != 0 {
+            return reached;
+        }
+        c += 1;
+    }
+    reached
+}

@@ -1,0 +1,152 @@
+// Seeding (document 01, "The run", 1): each triangle, in order, is offered to the cells of its snapped
+// box. A part of the port: users call `sdf`.
+ghost use mathlib.Core.Path.{_≡_};
+ghost use mathlib.Core.Bool.{true};
+ghost use Prim.Native.Nat.{_+_, _^_, _≤_, _<_};
+ghost use lib.ListN.{length};
+ghost use Rattle.lists.specs.Turns.{told, turns};
+ghost use Rattle.point.specs.declared.Axis.the-variants.{X};
+ghost use Rattle.grid.specs.Axes.{countOn, cellNumbered};
+ghost use Rattle.grid.specs.Index.{Inside, total};
+ghost use Rattle.grid.specs.Bounds.{inBounds};
+ghost use Rattle.mesh.specs.Mesh.{Sound, meshOf, trianglesIn};
+ghost use Rattle.run_seed_cells.specs.Parts.{seedState, alongLine, alongPlane, alongBox, overBox, overTriangle};
+use geo_closest::Facet;
+use grid::Cell;
+use grid::Grid;
+use mesh::Corners;
+use mesh_topology::Indices;
+use mesh_topology::Topology;
+
+// Where the four cells from z on end, and no further than hi.
+fn last_of_four(z: u32, hi: u32) -> u32
+    requires { ⌜ z ≤ hi ⌝ }
+    ensures { λ r. ⌜ (z ≤ r) × (r ≤ hi) × (r < z + 4) ⌝ }
+{
+    if hi - z < 3 { hi } else { z + 3 }
+}
+
+// To the cells (x, y, z) with z from lo to hi, four at a time.
+fn seed_line(
+    field: &mut [f32],
+    names: &mut [u32],
+    grid: Grid,
+    f: Facet,
+    k: u32,
+    x: u32,
+    y: u32,
+    lo: u32,
+    hi: u32,
+) -> u32
+    requires { ⌜ (inBounds grid ≡ true) × Inside grid (cellNumbered x y hi) ⌝ }
+    requires { ⌜ (length (now field) ≡ total grid) × (length (now names) ≡ total grid) ⌝ }
+    ensures { λ r. ⌜ alongLine grid f k x y lo hi (seedState (now (field .entry)) (now (names .entry))) ≡ told r (seedState (now (field .exit)) (now (names .exit))) ⌝ }
+{
+    let mut z = lo;
+    while z <= hi {
+        let last = last_of_four(z, hi);
+        let r = run_seed_cells::offer_four(field, names, grid, f, k, Cell { x: x, y: y, z: z }, last);
+        if r != 0 {
+            return r;
+        }
+        z = last + 1;
+    }
+    0
+}
+
+// To the cells of a box that have one x.
+fn seed_plane(
+    field: &mut [f32],
+    names: &mut [u32],
+    grid: Grid,
+    f: Facet,
+    k: u32,
+    x: u32,
+    low: Cell,
+    high: Cell,
+) -> u32
+    requires { ⌜ (inBounds grid ≡ true) × Inside grid high × (x < countOn X grid) ⌝ }
+    requires { ⌜ (length (now field) ≡ total grid) × (length (now names) ≡ total grid) ⌝ }
+    ensures { λ r. ⌜ alongPlane grid f k x low high (seedState (now (field .entry)) (now (names .entry))) ≡ told r (seedState (now (field .exit)) (now (names .exit))) ⌝ }
+{
+    let lo = low.z;
+    let hi = high.z;
+    let last = high.y;
+    let mut y = low.y;
+    while y <= last {
+        let r = seed_line(field, names, grid, f, k, x, y, lo, hi);
+        if r != 0 {
+            return r;
+        }
+        y += 1;
+    }
+    0
+}
+
+// To all the cells of a box.
+fn seed_box(
+    field: &mut [f32],
+    names: &mut [u32],
+    grid: Grid,
+    f: Facet,
+    k: u32,
+    low: Cell,
+    high: Cell,
+) -> u32
+    requires { ⌜ (inBounds grid ≡ true) × Inside grid high ⌝ }
+    requires { ⌜ (length (now field) ≡ total grid) × (length (now names) ≡ total grid) ⌝ }
+    ensures { λ r. ⌜ alongBox grid f k low high (seedState (now (field .entry)) (now (names .entry))) ≡ told r (seedState (now (field .exit)) (now (names .exit))) ⌝ }
+{
+    let last = high.x;
+    let mut x = low.x;
+    while x <= last {
+        let r = seed_plane(field, names, grid, f, k, x, low, high);
+        if r != 0 {
+            return r;
+        }
+        x += 1;
+    }
+    0
+}
+
+// Offers triangle k, by its corners, to the cells of its snapped box.
+fn seed_triangle(field: &mut [f32], names: &mut [u32], grid: Grid, corners: Corners, k: u32) -> u32
+    requires { ⌜ inBounds grid ≡ true ⌝ }
+    requires { ⌜ (length (now field) ≡ total grid) × (length (now names) ≡ total grid) ⌝ }
+    ensures { λ r. ⌜ overBox grid corners k (seedState (now (field .entry)) (now (names .entry))) ≡ told r (seedState (now (field .exit)) (now (names .exit))) ⌝ }
+{
+    let b = geo_box::triangle_bounding_box(corners.a, corners.b, corners.c);
+    let low = run_seed_box::first_of(grid, b.low);
+    let high = run_seed_box::last_of(grid, b.high);
+    let f = geo_closest::facet_of(corners.a, corners.b, corners.c);
+    seed_box(field, names, grid, f, k, low, high)
+}
+
+// Offers every triangle, in order. Tells 6 where a distance is a NaN.
+pub fn seed(
+    field: &mut [f32],
+    names: &mut [u32],
+    grid: Grid,
+    vertices: &[f32],
+    topology: Topology,
+    given: Indices,
+    indices: &[u32],
+) -> u32
+    requires { ⌜ inBounds grid ≡ true ⌝ }
+    requires { ⌜ (length (now field) ≡ total grid) × (length (now names) ≡ total grid) ⌝ }
+    requires { ⌜ Sound (meshOf (now vertices) topology given (now indices)) ⌝ }
+    requires { ⌜ length (trianglesIn (meshOf (now vertices) topology given (now indices))) < 2 ^ 32 ⌝ }
+    ensures { λ r. ⌜ turns (overTriangle grid (meshOf (now (vertices .entry)) topology given (now (indices .entry)))) (length (trianglesIn (meshOf (now (vertices .entry)) topology given (now (indices .entry))))) (seedState (now (field .entry)) (now (names .entry))) ≡ told r (seedState (now (field .exit)) (now (names .exit))) ⌝ }
+{
+    let n = mesh::triangle_count(vertices, topology, given, indices);
+    let mut k = 0;
+    while k < n {
+        let corners = mesh::corners_at(vertices, topology, given, indices, k);
+        let r = seed_triangle(field, names, grid, corners, k as u32);
+        if r != 0 {
+            return r;
+        }
+        k += 1;
+    }
+    0
+}

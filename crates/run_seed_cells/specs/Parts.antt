@@ -1,0 +1,50 @@
+-- The loops of seeding one inside the other, for a triangle made ready as a facet: along z, along y, along x. `seeding` has a law that
+-- they add up to `seedTriangle` of the run. And the squared distances that are worked out four at a time. Definitions only.
+use Prim.Native.Nat.{ℕ, _+_, _<_}
+use mathlib.Core.Path.{_≡_}
+use mathlib.Core.List.{List, []}
+use lib.ListN.{getD}
+use lib.Ieee.{Float, nan}
+use Rattle.lists.specs.Turns.{Turn, through}
+use Rattle.grid.specs.declared.Grid.{Grid}
+use Rattle.grid.specs.declared.Cell.{Cell}
+use Rattle.grid.specs.Axes.{cellNumbered}
+use Rattle.grid.specs.Index.{indexOf, cellAt}
+use Rattle.grid.specs.Place.{centreOf}
+use Rattle.geo_closest.specs.declared.Facet.{Facet}
+use Rattle.geo_closest.specs.Closest.{facetOf}
+use Rattle.geo_distance.specs.Distance.{squaredOn, distanceOn}
+use Rattle.mesh.specs.declared.Corners.{Corners}
+use Rattle.mesh.specs.Mesh.{Mesh, cornersAt}
+use Rattle.run.specs.Run.{State, Box, offerAt, nothingElse}
+use Rattle.run.specs.Ground.{snappedBox}
+
+-- in seeding nothing waits, and nothing was taken
+abbrev pub seedState : List Float → List ℕ → State
+seedState field names = record { field = field; names = names; waiting = []; pops = 0; peak = 0 }
+
+-- triangle k, made ready as f, is offered to the cell with index c
+unfoldable pub offerTo : Grid → Facet → ℕ → ℕ → State → Turn State
+offerTo g f k c s = offerAt nothingElse k c (distanceOn f (centreOf g (cellAt g c))) s
+
+-- to the cells (x, y, z) with z from lo to hi
+unfoldable pub alongLine : Grid → Facet → ℕ → ℕ → ℕ → ℕ → ℕ → State → Turn State
+alongLine g f k x y lo hi s = through (λ z. offerTo g f k (indexOf g (cellNumbered x y z))) lo hi s
+
+-- to the cells of a box with one x, and to all of them
+unfoldable pub alongPlane : Grid → Facet → ℕ → ℕ → Cell → Cell → State → Turn State
+alongPlane g f k x low high s = through (λ y. alongLine g f k x y (low .z) (high .z)) (low .y) (high .y) s
+
+unfoldable pub alongBox : Grid → Facet → ℕ → Cell → Cell → State → Turn State
+alongBox g f k low high s = through (λ x. alongPlane g f k x low high) (low .x) (high .x) s
+
+-- to the snapped box of a triangle, by its corners, and by its number
+unfoldable pub overBox : Grid → Corners → ℕ → State → Turn State
+overBox g t k s = alongBox g (facetOf (t .a) (t .b) (t .c)) k (snappedBox g t .low) (snappedBox g t .high) s
+
+unfoldable pub overTriangle : Grid → Mesh → ℕ → State → Turn State
+overTriangle g m k s = overBox g (cornersAt m k) k s
+
+-- the squared distances of four cells, the one given and the three behind it along z
+pub record SquaresFrom (g : Grid) (f : Facet) (at : Cell) (squares : List Float) : Type 0 where
+  pub each : (i : ℕ) → i < 4 → getD squares i nan ≡ squaredOn f (centreOf g (cellNumbered (at .x) (at .y) (at .z + i)))

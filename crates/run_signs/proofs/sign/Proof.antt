@@ -1,0 +1,93 @@
+-- `run_signs::sign`: the loop fills the field from the front with the signed distances. Assumes nothing.
+use borrow.Author.Needs.{needs}
+use Prim.Native.Nat.{_-_, _≤_}
+use native.Mathlib.Omega.{arith}
+use mathlib.Core.Path.{_≡_, refl, ap₂, _∙_}
+use mathlib.Core.Bool.{Bool}
+use lib.ListN.{length}
+use lib.Ieee.{Float, nan, neg}
+use Rattle.float.specs.Arith.{if_then_else_}
+use Rattle.lists.specs.Table.{Filled}
+use Rattle.lists.proofs.Table.{filled-none, filled-more, filled-all}
+use Rattle.run_signs.specs.Sign.{signedAt, signedBy}
+use Rattle.run_signs.proofs.sign.Statement.{statement}
+use Rattle.run_signs.proofs.sign.Tie as tie
+
+abbrev Inv-loop : tie.InvT-loop
+Inv-loop crossings field₀ i₀ field i = (i ≤ length field₀) × (length field ≡ length field₀) × Filled nan (signedAt crossings field₀) field₀ i field
+
+abbrev μ-loop : tie.MeasureT-loop
+μ-loop crossings field₀ i₀ field i = length field₀ - i
+
+-- what is stored in this turn
+stored : (c : tie.After-negated-if Inv-loop μ-loop) →
+    let a = c .before .before .before .before .before .before .before .args in
+    let l = c .before .before .before .before .loop in
+    c .negated-if .result ≡ signedAt (a .crossings .now) (a .field .now) (l .i)
+stored c =
+    let a = c .before .before .before .before .before .before .before .args in
+    let l = c .before .before .before .before .loop in
+    c .negated-if .ensures ∙ ap₂ (λ (b : Bool) (d : Float). if b then neg d else d) (c .before .before .inside-at .ensures) (l .inv .2 .back (l .i) (omega arith))
+
+loop-holds : tie.Need-loop-holds Inv-loop μ-loop
+loop-holds c = let a = c .before .before .args in (omega arith, refl, filled-none nan (signedAt (a .crossings .now) (a .field .now)) (a .field .now))
+
+inside-at-requires : tie.Need-inside-at-requires Inv-loop μ-loop
+inside-at-requires c κs = omega arith
+
+mul-negated-if : tie.Need-mul-negated-if Inv-loop μ-loop
+mul-negated-if c = omega arith
+
+slice-read-negated-if : tie.Need-slice-read-negated-if Inv-loop μ-loop
+slice-read-negated-if c = omega arith
+
+negated-if-requires : tie.Need-negated-if-requires Inv-loop μ-loop
+negated-if-requires c κs = search needs
+
+mul-field : tie.Need-mul-field Inv-loop μ-loop
+mul-field c = omega arith
+
+slice-write-field : tie.Need-slice-write-field Inv-loop μ-loop
+slice-write-field c = omega arith
+
+add-i : tie.Need-add-i Inv-loop μ-loop
+add-i c = omega arith
+
+loop-less : tie.Need-loop-less Inv-loop μ-loop
+loop-less c = omega arith
+
+loop-again : tie.Need-loop-again Inv-loop μ-loop
+loop-again c =
+    let a = c .before .before .before .before .before .before .before .args in
+    let l = c .before .before .before .before .loop in
+    let f = filled-more nan (signedAt (a .crossings .now) (a .field .now)) (a .field .now) (l .i) (l .field) (c .negated-if .result) (omega arith) (stored c) (l .inv .2) in
+    (omega arith, f .long, f)
+
+same-length : tie.Need-same-length Inv-loop μ-loop
+same-length c = omega arith
+
+returns : tie.Need-returns Inv-loop μ-loop
+unfolding signedBy
+returns c =
+    let a = c .before .before .before .before .args in
+    let l = c .before .loop in
+    filled-all nan (signedAt (a .crossings .now) (a .field .now)) (a .field .now) (l .field) (l .i) (length (a .field .now)) refl (omega arith) (l .inv .2)
+
+pub sign-spec : {M : Type 1} → statement M
+sign-spec =
+    tie.close
+    (tie.spec
+    Inv-loop
+    μ-loop
+    loop-holds
+    inside-at-requires
+    mul-negated-if
+    slice-read-negated-if
+    negated-if-requires
+    mul-field
+    slice-write-field
+    add-i
+    loop-less
+    loop-again
+    same-length
+    returns)

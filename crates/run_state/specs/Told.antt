@@ -1,0 +1,87 @@
+-- How the functions of this crate tell what they did: the lent slices and a `Progress` hold a state of the run, before and after, and
+-- the run of the definitions leads from the one to the other. Definitions only.
+use Prim.Native.Nat.{ℕ, _≤_, _<_}
+use mathlib.Core.Path.{_≡_}
+use mathlib.Core.Logic.{_⊎_}
+use mathlib.Core.Bool.{Bool, true}
+use mathlib.Core.List.{List, List·Memᴰ}
+use lib.ListN.{length, getD}
+use lib.Ieee.{Float, nan}
+use Rattle.float.specs.Arith.{_≺_, fMax}
+use Rattle.lists.specs.Turns.{Turn, told}
+use Rattle.grid.specs.declared.Grid.{Grid}
+use Rattle.grid.specs.Index.{total}
+use Rattle.grid.specs.Bounds.{inBounds}
+use Rattle.mesh.specs.Mesh.{Mesh, Sound, vertexCount, trianglesIn}
+use Rattle.queue.specs.declared.Entry.{Entry}
+use Rattle.queue.specs.Order.{orderOf}
+use Rattle.queue.specs.Queue.{Held, waiting}
+use Rattle.run.specs.Run.{RunInput, State, queue}
+use Rattle.run.specs.Ground.{runInput}
+use Rattle.run_state.specs.declared.Progress.{Progress}
+
+-- the same, refused by a number
+abbrev pub refusedBy : ℕ → Progress → Progress
+refusedBy number p = record { number = number; waiting = p .waiting; pops = p .pops; peak = p .peak }
+
+-- ---- what is lent
+
+-- the order of the entries of a mesh
+abbrev pub orderIn : Mesh → Entry → Entry → Bool
+orderIn m = orderOf (m .topology) (m .given) (m .indices) (vertexCount (m .vertices))
+
+-- the state that the lent field, names and queue and the counts hold
+abbrev pub stateOf : (Entry → Entry → Bool) → List Float → List ℕ → List ℕ → List ℕ → List ℕ → Progress → State
+stateOf le field names ds cs ts p =
+    record { field = field; names = names; waiting = waiting le ds cs ts (p .waiting); pops = p .pops; peak = p .peak }
+
+-- a grid and a mesh that refusals 1 to 4 leave
+pub record Ready (g : Grid) (m : Mesh) : Type 0 where
+  pub bounded : inBounds g ≡ true
+  pub sound : Sound m
+
+-- the same, with few triangles: what refusals 1 to 4 leave in all
+pub record Fit (g : Grid) (m : Mesh) : Type 0 where
+  pub ready : Ready g m
+  pub few : length (trianglesIn m) ≤ 131072
+
+-- an entry of a cell of the grid and a triangle of the mesh
+pub record Known (cells triangles : ℕ) (e : Entry) : Type 0 where
+  pub cell-below : e .cell < cells
+  pub triangle-below : e .triangle < triangles
+
+abbrev pub AllKnown : Grid → Mesh → List Entry → Type 0
+AllKnown g m w = (e : Entry) → List·Memᴰ e w → Known (total g) (length (trianglesIn m)) e
+
+-- the slices are of the right lengths and hold n waiting entries
+pub record Holds (g : Grid) (m : Mesh) (field : List Float) (names ds cs ts : List ℕ) (n : ℕ) : Type 0 where
+  pub field-long : length field ≡ total g
+  pub names-long : length names ≡ total g
+  pub held : Held (orderIn m) ds cs ts n
+  pub known : AllKnown g m (waiting (orderIn m) ds cs ts n)
+
+-- the same where a run has ended: nothing waits unless it was refused
+pub record Ran (g : Grid) (m : Mesh) (field : List Float) (names ds cs ts : List ℕ) (p : Progress) : Type 0 where
+  pub holds : Holds g m field names ds cs ts (p .waiting)
+  pub over : p .number ≡ 0 → p .waiting ≡ 0
+
+-- each cell below f32::MAX names a triangle of the mesh
+abbrev pub Named : Grid → Mesh → List Float → List ℕ → Type 0
+Named g m field names = (c : ℕ) → c < total g → (getD field c nan ≺ fMax) ≡ true → getD names c 0 < length (trianglesIn m)
+
+-- ---- what is told
+
+-- A turn of the run over what is lent: the slices, which held field to ts and the counts at, hold in the end field′ to ts′ and r, which
+-- is what the turn leaves, or it was refused. On a refusal the number alone says what the run came to. The ground's pop limit is any:
+-- no turn asks for it.
+pub record Told (g : Grid) (m : Mesh) (turn : RunInput → State → Turn State)
+    (field : List Float) (names ds cs ts : List ℕ) (at : Progress) (field′ : List Float) (names′ ds′ cs′ ts′ : List ℕ) (r : Progress) : Type 0 where
+  pub holds : Holds g m field′ names′ ds′ cs′ ts′ (r .waiting)
+  pub is : (any : ℕ) → turn (runInput g m (length ds) any) (stateOf (orderIn m) field names ds cs ts at) ≡ told (r .number) (stateOf (orderIn m) field′ names′ ds′ cs′ ts′ r)
+
+-- the same of an entry that is queued, whatever the field and the names are
+pub record Queued (le : Entry → Entry → Bool) (e : Entry) (ds cs ts : List ℕ) (at : Progress) (ds′ cs′ ts′ : List ℕ) (r : Progress) : Type 0 where
+  pub held : Held le ds′ cs′ ts′ (r .waiting)
+  pub from : (x : Entry) → List·Memᴰ x (waiting le ds′ cs′ ts′ (r .waiting)) → (x ≡ e) ⊎ List·Memᴰ x (waiting le ds cs ts (at .waiting))
+  pub is : (g : RunInput) (field : List Float) (names : List ℕ) → g .goesFirst ≡ le → g .room ≡ length ds
+      → queue g e (stateOf le field names ds cs ts at) ≡ told (r .number) (stateOf le field names ds′ cs′ ts′ r)

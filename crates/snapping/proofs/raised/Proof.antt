@@ -1,7 +1,0 @@
--- `snapping::raised`: by its one test. Assumes nothing.
-use borrow.Author.Needs.{needs}
-use Rattle.snapping.proofs.raised.Statement.{statement}
-use Rattle.snapping.proofs.raised.Tie as tie
-
-pub raised-spec : {M : Type 1} → statement M
-raised-spec = tie.close (tie.spec (λ c. search needs) (λ c. search needs) (λ c. rw (c .if1 .taken)) (λ c. rw (c .if1 .left)))

@@ -1,8 +1,0 @@
--- `squares::squared_on`: the square from the closest point. Assumes nothing.
-use Rattle.squares.specs.Distance.{squaredOn}
-use Rattle.squares.proofs.squared_on.Statement.{statement}
-use Rattle.squares.proofs.squared_on.Tie as tie
-
-pub squared-on-spec : {M : Type 1} → statement M
-unfolding squaredOn
-squared-on-spec = tie.close (tie.spec (λ c κs. tt) (λ c κs. tt) (λ c. rw (c .before .closest-on .ensures) at (c .square .ensures)))

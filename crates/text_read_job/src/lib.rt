@@ -1,0 +1,88 @@
+// The reader of the job's text (document 01, "One job, one listing"): functions on lent bytes, which take
+// the text of every job within the program's limits, and nothing else. A part of the port: users run the
+// job program.
+//
+//   reader_words   words and numbers
+//   reader_lines   lines by their keys
+//   reader_parts   the head, the vertices, the indices, the tail
+//   job            the whole text: the job that it is the text of, or that it is none
+use text_read_parts::Back;
+use text_read_parts::Front;
+use text_read_parts::Row;
+use text_read_words::Number;
+use text::Three;
+use mesh_topology::Indices;
+use mesh_topology::Topology;
+ghost use Prim.Native.Nat.{_≤_};
+ghost use lib.ListN.{length};
+ghost use Rattle.text_read_job.specs.Reading.{Reads};
+
+// A job as its text gives it. Floats are bit patterns. The vertices, three numbers each, and the indices
+// stand in the lent slices, so many of them; without indices there are 0.
+pub struct Asked {
+    pub count: Three,
+    pub first: Three,
+    pub size: Three,
+    pub topology: Topology,
+    pub vertices: usize,
+    pub given: Indices,
+    pub indices: usize,
+    pub room: u32,
+    pub limit: u32,
+}
+
+// What a text is read as. `Unreadable` is document 01's answer 9.
+pub enum Reading {
+    Job(Asked),
+    Unreadable,
+}
+
+// Reads a whole text. The lent slices have room for 256 vertices, three numbers each, and for 768 indices.
+pub fn read_job(text: &[u8], vertices: &mut [u32], indices: &mut [u32]) -> Reading
+    requires { ⌜ (768 ≤ length (now vertices)) × (768 ≤ length (now indices)) ⌝ }
+    ensures { λ r. ⌜ Reads (now (text .entry)) (now (vertices .exit)) (now (indices .exit)) r ⌝ }
+{
+    let Front::Is {
+        head,
+        next: behind_head,
+    } = text_read_parts::head(text, 0)
+    else {
+        return Reading::Unreadable;
+    };
+    let Number::Is {
+        value,
+        next: behind_vertices,
+    } = text_read_parts::vertices(text, behind_head, vertices)
+    else {
+        return Reading::Unreadable;
+    };
+    let Row::Are {
+        given,
+        count,
+        next: behind_indices,
+    } = text_read_parts::indices(text, behind_vertices, indices)
+    else {
+        return Reading::Unreadable;
+    };
+    let Back::Is { tail, next } = text_read_parts::tail(text, behind_indices) else {
+        return Reading::Unreadable;
+    };
+    if next < text.len() {
+        return Reading::Unreadable;
+    }
+    let cells = head.count;
+    let first = head.first;
+    let size = head.size;
+    let topology = head.topology;
+    Reading::Job(Asked {
+        count: cells,
+        first,
+        size,
+        topology,
+        vertices: value as usize,
+        given,
+        indices: count,
+        room: tail.room,
+        limit: tail.limit,
+    })
+}

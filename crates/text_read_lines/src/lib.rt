@@ -1,0 +1,125 @@
+// The lines of the job's text: a key, and what stands behind it (document 01, "One job, one listing"). A
+// part of the reader: callers use `text_read_job::read_job`.
+use text_read_words::Form;
+use text_read_words::Next;
+use text_read_words::Number;
+use text::Three;
+use mesh_topology::Topology;
+ghost use mathlib.Core.Path.{_≡_};
+ghost use lib.ListN.{drop};
+ghost use Rattle.text.specs.Reader.{threeNumbers, numberLine, floatsLine, fewCells, countLine, topologyLine};
+ghost use Rattle.text_read_words.specs.Told.{gotNumber, readerOf};
+ghost use Rattle.text_read_lines.specs.Told.{gotTriple, gotShape};
+
+// Three numbers, and the place behind them.
+pub enum Triple {
+    Are { three: Three, next: usize },
+    Not,
+}
+
+// A topology, and the place behind it.
+pub enum Shape {
+    Is { topology: Topology, next: usize },
+    Not,
+}
+
+// Three numbers to the end of the line.
+fn three_values(text: &[u8], at: usize, form: Form) -> Triple
+    ensures { λ r. ⌜ gotTriple (now (text .entry)) r ≡ threeNumbers (readerOf form) (drop at (now (text .entry))) ⌝ }
+{
+    let Number::Is {
+        value: x,
+        next: behind_x,
+    } = text_read_words::value(text, at, b' ', form)
+    else {
+        return Triple::Not;
+    };
+    let Number::Is {
+        value: y,
+        next: behind_y,
+    } = text_read_words::value(text, behind_x, b' ', form)
+    else {
+        return Triple::Not;
+    };
+    let Number::Is { value: z, next } = text_read_words::value(text, behind_y, b'\n', form) else {
+        return Triple::Not;
+    };
+    Triple::Are {
+        three: Three { x, y, z },
+        next,
+    }
+}
+
+// A line with one number, which is at most `most`.
+pub fn number_line(text: &[u8], at: usize, key: &[u8], most: u32) -> Number
+    ensures { λ r. ⌜ gotNumber (now (text .entry)) r ≡ numberLine (now (key .entry)) most (drop at (now (text .entry))) ⌝ }
+{
+    let Next::At(behind) = text_read_words::after(text, at, key) else {
+        return Number::Not;
+    };
+    let Number::Is { value, next } = text_read_words::decimal(text, behind, b'\n') else {
+        return Number::Not;
+    };
+    if most < value {
+        return Number::Not;
+    }
+    Number::Is { value, next }
+}
+
+// A line with three floats.
+pub fn floats_line(text: &[u8], at: usize, key: &[u8]) -> Triple
+    ensures { λ r. ⌜ gotTriple (now (text .entry)) r ≡ floatsLine (now (key .entry)) (drop at (now (text .entry))) ⌝ }
+{
+    let Next::At(behind) = text_read_words::after(text, at, key) else {
+        return Triple::Not;
+    };
+    three_values(text, behind, Form::Hex8)
+}
+
+// Whether there are at most 512 cells. The product of three counts may have 96 bits: above 512 the product of
+// two is not multiplied further.
+fn few_cells(count: Three) -> bool
+    ensures { λ r. ⌜ r ≡ fewCells count ⌝ }
+{
+    let layer = (count.x as u64) * (count.y as u64);
+    if 512 < layer {
+        return count.z == 0;
+    }
+    layer * (count.z as u64) <= 512
+}
+
+// The line of the counts.
+pub fn count_line(text: &[u8], at: usize) -> Triple
+    ensures { λ r. ⌜ gotTriple (now (text .entry)) r ≡ countLine (drop at (now (text .entry))) ⌝ }
+{
+    let Next::At(behind) = text_read_words::after(text, at, b"count=") else {
+        return Triple::Not;
+    };
+    let Triple::Are { three, next } = three_values(text, behind, Form::Decimal) else {
+        return Triple::Not;
+    };
+    let few = few_cells(three);
+    if !few {
+        return Triple::Not;
+    }
+    Triple::Are { three, next }
+}
+
+// The line of the topology.
+pub fn topology_line(text: &[u8], at: usize) -> Shape
+    ensures { λ r. ⌜ gotShape (now (text .entry)) r ≡ topologyLine (drop at (now (text .entry))) ⌝ }
+{
+    if let Next::At(next) = text_read_words::after(text, at, b"topology=list\n") {
+        return Shape::Is {
+            topology: Topology::TriangleList,
+            next,
+        };
+    }
+    if let Next::At(next) = text_read_words::after(text, at, b"topology=strip\n") {
+        return Shape::Is {
+            topology: Topology::TriangleStrip,
+            next,
+        };
+    }
+    Shape::Not
+}

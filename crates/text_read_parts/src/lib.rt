@@ -1,0 +1,198 @@
+// The parts of the job's text: the lines before the vertices, the vertices, the indices, and the lines
+// after them (document 01, "One job, one listing"). A part of the reader: callers use `text_read_job::read_job`.
+use text_read_lines::Shape;
+use text_read_lines::Triple;
+use text_read_words::Next;
+use text_read_words::Number;
+use text::Head;
+use text::Tail;
+use mesh_topology::Indices;
+ghost use mathlib.Core.Path.{_≡_};
+ghost use Prim.Native.Nat.{_*_, _≤_};
+ghost use lib.ListN.{length, take, drop};
+ghost use Rattle.text.specs.Reader.{headAt, vertexLineAt, verticesAt, indexAt, indicesAt, tailAt, linesAt};
+ghost use Rattle.text_read_words.specs.Told.{gotNext, gotNumber};
+ghost use Rattle.text_read_lines.specs.Told.{gotTriple};
+ghost use Rattle.text_read_parts.specs.Told.{gotHead, gotTail, gotVertices, RowIs, threesIn};
+
+// The lines before the vertices, and the place behind them.
+pub enum Front {
+    Is { head: Head, next: usize },
+    Not,
+}
+
+// Whether indices are given, how many were stored, and the place behind them.
+pub enum Row {
+    Are {
+        given: Indices,
+        count: usize,
+        next: usize,
+    },
+    Not,
+}
+
+// The lines after the indices, and the place behind them.
+pub enum Back {
+    Is { tail: Tail, next: usize },
+    Not,
+}
+
+pub fn head(text: &[u8], at: usize) -> Front
+    ensures { λ r. ⌜ gotHead (now (text .entry)) r ≡ headAt (drop at (now (text .entry))) ⌝ }
+{
+    let Triple::Are {
+        three: count,
+        next: behind_count,
+    } = text_read_lines::count_line(text, at)
+    else {
+        return Front::Not;
+    };
+    let Triple::Are {
+        three: first,
+        next: behind_first,
+    } = text_read_lines::floats_line(text, behind_count, b"first=")
+    else {
+        return Front::Not;
+    };
+    let Triple::Are {
+        three: size,
+        next: behind_size,
+    } = text_read_lines::floats_line(text, behind_first, b"size=")
+    else {
+        return Front::Not;
+    };
+    let Shape::Is { topology, next } = text_read_lines::topology_line(text, behind_size) else {
+        return Front::Not;
+    };
+    Front::Is {
+        head: Head {
+            count,
+            first,
+            size,
+            topology,
+        },
+        next,
+    }
+}
+
+fn vertex_line(text: &[u8], at: usize) -> Triple
+    ensures { λ r. ⌜ gotTriple (now (text .entry)) r ≡ vertexLineAt (drop at (now (text .entry))) ⌝ }
+{
+    text_read_lines::floats_line(text, at, b"v=")
+}
+
+// The lines of n vertices, whose bits are stored three by three.
+fn vertex_lines(text: &[u8], at: usize, n: usize, out: &mut [u32]) -> Next
+    requires { ⌜ 3 * n ≤ length (now out) ⌝ }
+    ensures { λ r. ⌜ gotNext (threesIn n (now (out .exit))) (now (text .entry)) r ≡ linesAt n vertexLineAt (drop at (now (text .entry))) ⌝ }
+{
+    let mut k = at;
+    let mut i = 0;
+    while i < n {
+        let Triple::Are { three, next } = vertex_line(text, k) else {
+            return Next::Not;
+        };
+        out[3 * i] = three.x;
+        out[3 * i + 1] = three.y;
+        out[3 * i + 2] = three.z;
+        k = next;
+        i += 1;
+    }
+    Next::At(k)
+}
+
+// How many vertices there are, at most 256, and their lines.
+pub fn vertices(text: &[u8], at: usize, out: &mut [u32]) -> Number
+    requires { ⌜ 768 ≤ length (now out) ⌝ }
+    ensures { λ r. ⌜ gotVertices (now (out .exit)) (now (text .entry)) r ≡ verticesAt (drop at (now (text .entry))) ⌝ }
+{
+    let Number::Is {
+        value,
+        next: behind,
+    } = text_read_lines::number_line(text, at, b"vertices=", 256)
+    else {
+        return Number::Not;
+    };
+    let Next::At(next) = vertex_lines(text, behind, value as usize, out) else {
+        return Number::Not;
+    };
+    Number::Is { value, next }
+}
+
+fn index_line(text: &[u8], at: usize) -> Number
+    ensures { λ r. ⌜ gotNumber (now (text .entry)) r ≡ indexAt (drop at (now (text .entry))) ⌝ }
+{
+    text_read_lines::number_line(text, at, b"i=", 4294967295)
+}
+
+// The lines of n indices.
+fn index_lines(text: &[u8], at: usize, n: usize, out: &mut [u32]) -> Next
+    requires { ⌜ n ≤ length (now out) ⌝ }
+    ensures { λ r. ⌜ gotNext (take n (now (out .exit))) (now (text .entry)) r ≡ linesAt n indexAt (drop at (now (text .entry))) ⌝ }
+{
+    let mut k = at;
+    let mut i = 0;
+    while i < n {
+        let Number::Is { value, next } = index_line(text, k) else {
+            return Next::Not;
+        };
+        out[i] = value;
+        k = next;
+        i += 1;
+    }
+    Next::At(k)
+}
+
+// That there are no indices; or how many, at most 768, and their lines.
+pub fn indices(text: &[u8], at: usize, out: &mut [u32]) -> Row
+    requires { ⌜ 768 ≤ length (now out) ⌝ }
+    ensures { λ r. ⌜ RowIs (now (out .exit)) (now (text .entry)) r (indicesAt (drop at (now (text .entry)))) ⌝ }
+{
+    if let Next::At(next) = text_read_words::after(text, at, b"indices=none\n") {
+        return Row::Are {
+            given: Indices::None,
+            count: 0,
+            next,
+        };
+    }
+    let Number::Is {
+        value,
+        next: behind,
+    } = text_read_lines::number_line(text, at, b"indices=", 768)
+    else {
+        return Row::Not;
+    };
+    let count = value as usize;
+    let Next::At(next) = index_lines(text, behind, count, out) else {
+        return Row::Not;
+    };
+    Row::Are {
+        given: Indices::Given,
+        count,
+        next,
+    }
+}
+
+pub fn tail(text: &[u8], at: usize) -> Back
+    ensures { λ r. ⌜ gotTail (now (text .entry)) r ≡ tailAt (drop at (now (text .entry))) ⌝ }
+{
+    let Number::Is {
+        value: room,
+        next: behind,
+    } = text_read_lines::number_line(text, at, b"queue=", 2048)
+    else {
+        return Back::Not;
+    };
+    let Number::Is { value: limit, next } = text_read_lines::number_line(
+        text,
+        behind,
+        b"pops=",
+        4294967295,
+    ) else {
+        return Back::Not;
+    };
+    Back::Is {
+        tail: Tail { room, limit },
+        next,
+    }
+}
