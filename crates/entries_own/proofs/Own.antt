@@ -13,7 +13,7 @@ use mir.Val.{Val, WT, hasTy}
 use base.Fml.{GName, Fml, fsep, fat, flft, flent, fres}
 use prog.Wp.{Heap, Env, noLocal}
 use ghost.Atoms.{Atoms}
-use types.Kit.{Goal, Soaks, Given, Item, ‵, _⊛_, some, later, Seq, _$_, move, drop, join, use1, use2, use3, split, pick, rewrite, fsplit, fjoin, fpick, fpack, feqL, feqI, await}
+use types.Kit.{Goal, Soaks, Given, Item, ‵, _⊛_, some, later, Seq, _$_, move, drop, join, use1, use2, use3, split, pick, rewrite, fsplit, fjoin, fpick, fpack, feqI, await}
 use types.Tokens.{lft-new, lft-end}
 use types.SemTy.{cells, Arr}
 use types.Share.{arr-parts}

@@ -6,11 +6,11 @@ use mathlib.Core.List.{List, map}
 use lib.ListN.{length, replicate, length-map, length-replicate}
 use lib.Ieee.{Float}
 use Rattle.queue.specs.declared.Entry.{Entry}
-use Rattle.job_checks.specs.Job.{Job, Lent, lentOf}
+use Rattle.job_checks.specs.Job.{Job, Lent}
 use Rattle.job_outcome.specs.declared.Answer.{Answer}
 use Rattle.job_outcome.specs.Outcome.{Gives, outcome}
 use Rattle.entries_generate.specs.LentRow.{lentRow}
-use Rattle.entries_generate.proofs.Same.{Agree, Alike, same-outcome}
+use Rattle.entries_generate.proofs.Same.{Agree, same-outcome}
 use Rattle.job_clear.proofs.Lengths.{lengths-same}
 use Rattle.entries_own.specs.Own.{lentOwn, GivesFour}
 

@@ -12,13 +12,13 @@ use Rattle.entries_batch.proofs.Batch
 
 module _ {M : Type 1} {𝓤 : URA M} {H : Heap 𝓤} {A : Atoms 𝓤} (W : Given 𝓤 H A) where
   abbrev pub a-grid : Kind 𝓤 H A
-  a-grid = a-struct W Grid.the-type Grid.Laws.the-laws Grid.Laws.the-plain
+  a-grid = a-struct W Grid.the-type Grid.Laws.the-laws Grid.Laws.the-plain Grid.Laws.the-copy
 
   abbrev pub a-progress : Kind 𝓤 H A
-  a-progress = a-struct W Progress.the-type Progress.Laws.the-laws Progress.Laws.the-plain
+  a-progress = a-struct W Progress.the-type Progress.Laws.the-laws Progress.Laws.the-plain Progress.Laws.the-copy
 
   abbrev pub a-batch : Kind 𝓤 H A
-  a-batch = a-struct W Batch.the-type Batch.Laws.the-laws Batch.Laws.the-plain
+  a-batch = a-struct W Batch.the-type Batch.Laws.the-laws Batch.Laws.the-plain Batch.Laws.the-copy
 
   -- how many wait; the number by which a batch refuses
   abbrev pub waiting-of : Valued a-progress → Valued (a-usize W)

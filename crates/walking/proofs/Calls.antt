@@ -17,7 +17,7 @@ use denote.Laws.{Is, shows}
 use denote.Steps.{only, facts, heard}
 use denote.Triple.Call.{calls-from}
 use Rattle.walking.proofs.Frame.{Cell, holds, set, opdCell, Takes, Locals, opds, lands-in}
-use Rattle.walking.proofs.Lends.{Kind, Valued, Arg, value, shown, lent, seen, slices, Had, Names, tokens, passes, keeps, Lefts, Changes, changed, finals, Long, after, words, bundled, unbundled, lends-had, comes-had}
+use Rattle.walking.proofs.Lends.{Kind, Valued, Arg, value, shown, lent, seen, slices, Had, Names, tokens, passes, Lefts, Changes, changed, finals, Long, after, words, bundled, unbundled, lends-had, comes-had}
 
 module _ {M : Type 1} {𝓤 : URA M} {H : Heap 𝓤} {A : Atoms 𝓤} where
   abbrev Ends : (ps : List (Arg 𝓤 H A)) (k : Kind 𝓤 H A) → (k .row .Denot → Changes ps → Type 0) → Names ps → Val → SProp 𝓤

@@ -1,7 +1,7 @@
 -- The locals of a walked function as one entry of the context: what each holds is a list, by the number that the code gives the local. A step reads that
 -- number off the statement, so a walk counts no position, and a parameter more changes none. A local whose memory is lent out is away. Assumes `Given`.
 use mathlib.Core.Path.{_≡_, refl, sym, ap, subst, _∙_}
-use Prim.Native.Nat.{ℕ, zero, suc, _+_, _<_, _^_}
+use Prim.Native.Nat.{ℕ, zero, suc, _+_, _^_}
 use mathlib.Core.List.{List, [], _∷_, map}
 use mathlib.Core.Bool.{Bool, true, false}
 use mathlib.Core.Option.{Option, none, some as found}
@@ -18,7 +18,7 @@ use prog.Memory.{fieldAt, fieldOf}
 use prog.Wp.{Heap, Env, Calls, Loops, Wp, WpFn, tyOf, alloc, pass, params, release, noLocal, next, returns as returnsᴼ, atReturn}
 use ghost.Atoms.{Atoms}
 use types.Kit.{Given, Item, ‵, raw, given, mean, ⋆, Post, atRet, post, Goal, prop, runs, lands, frees, aim, Seq, Step, step, _$_, _∵_, !, qed, by, move, drop, use1, use2, split, join, keep, check, assume, each, frame, done, pop, push, _⊛_}
-use types.Run.{Reads, Walks, Writes, Opd, Opds, Rv, stop, from, fld, hop, addr, load, lit, unit-lit, true-lit, false-lit, of-opd, assigns, assigns-last, land, returns-within, well-typed, and-then, no-more}
+use types.Run.{Walks, Writes, Opd, Opds, Rv, stop, from, fld, hop, addr, load, lit, unit-lit, true-lit, false-lit, of-opd, assigns, assigns-last, land, returns-within, well-typed, and-then, no-more}
 use types.Part.{Part, Rest, taken, given-back, look-in, sub, agg}
 use denote.Slice.{sliceTy, sliceVal}
 use denote.Steps.{nothing}

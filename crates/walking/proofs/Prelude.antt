@@ -29,11 +29,11 @@ pub use denote.Triple.Statement.{Triple}
 pub use denote.Triple.Table.{entered, cited}
 pub use denote.Triple.Walked.{needs, walkOf, Walks, ends-at, walked, walk-meets}
 pub use denote.Triple.Entry.{onEntry}
-pub use Rattle.walking.proofs.Frame.{Cell, empty, holds, away, Blocks, envOf, Locals, opd, opds, copies, copies-last, puts, puts-last, returns-at, lends-on, keeps-first, enters}
+pub use Rattle.walking.proofs.Frame.{empty, holds, Blocks, envOf, Locals, opd, opds, copies, copies-last, puts, puts-last, returns-at, lends-on, keeps-first, enters}
 pub use Rattle.walking.proofs.Tests.{is-so, not-so, knowing, whiles, breaks, breaks-last, returns-if}
 pub use Rattle.walking.proofs.Lends.{Slice, taken, holding, fitsAt, Kind, Valued, Arg, value, shown, lent, seen, slices, Changes, lefts, Long, fitting, after, bound-to, words}
 pub use Rattle.walking.proofs.Calls.{asking, asking-nothing, calls, calls-is}
 pub use Rattle.walking.proofs.Own.{own-bound, typed, from-entry, to-exit, in-turn, again-at, loops-at}
 pub use Rattle.walking.proofs.Access.{points, points-first, reads-at, writes-at}
-pub use Rattle.walking.proofs.ByValue.{a-u32, a-usize, a-bool, a-unit, a-struct, an-enum}
+pub use Rattle.walking.proofs.ByValue.{a-u32, a-usize, a-bool, a-unit, a-struct}
 pub use Rattle.walking.proofs.Sorts.{Sort, a-value, to-look, to-write, stays, spells, tells, all-go}

@@ -5,7 +5,6 @@ use Rattle.walking.proofs.Prelude.{empty, holds, Blocks, envOf, Locals, opd, co
 use Rattle.queue.proofs.Entry as E
 use Rattle.mesh.specs.Mesh.{Mesh, meshOf}
 use Rattle.job_begin.specs.Begins.{Begins}
-use Rattle.job_begin.proofs.Begun as Be
 use Rattle.entries.specs.Row.{ClearedRow}
 use Rattle.entries.proofs.ByValue.{a-topology, a-given}
 use Rattle.entries_state.proofs.ByValue.{a-grid, a-progress}
@@ -16,7 +15,7 @@ use Rattle.job_outcome.specs.declared.Answer.the-variants.{Refused}
 use Rattle.job_outcome.specs.Outcome.{Gives, outcome}
 use Rattle.job_outcome.specs.Finished.{Closed}
 use Rattle.entries_generate.specs.LentRow.{lentRow}
-use Rattle.entries_generate.proofs.ByValue.{a-begun, an-answer}
+use Rattle.entries_generate.proofs.ByValue.{a-begun, an-answer, refusal-of, seeding-of}
 use Rattle.entries_generate.proofs.Records.{refused-first, fits, is-long, seeds, field-long, done-with, cleared-after}
 use Rattle.job_begin.proofs.begin as begin
 use Rattle.entries_generate.proofs.refused as refused
@@ -24,7 +23,6 @@ use Rattle.entries.proofs.clear as clear
 use Rattle.entries_run.proofs.run_row as run-row
 use Rattle.job_close.proofs.close as close
 use Rattle.entries_generate.proofs.generate_grid_sdf_records as f
-use denote.Struct.Laws.{owed}
 
 module _ {M : Type 1} (𝓤 : URA M) (H : Heap 𝓤) (A : Atoms 𝓤) (W : Given 𝓤 H A) (mem : Memory → SProp 𝓤) (run : Routine → Fun 𝓤) (𝓣 : Tables 𝓤 H) where
   -- what is cited
@@ -35,7 +33,7 @@ module _ {M : Type 1} (𝓤 : URA M) (H : Heap 𝓤) (A : Atoms 𝓤) (W : Given
 
   -- what is taken, by its types
   abbrev ss : List (Sort 𝓤 H A 7)
-  ss = a-value (a-grid W) (λ _ _. refl) ∷ to-look 0 tt f32 ∷ a-value (a-topology W) (λ _ _. refl) ∷ a-value (a-given W) (λ _ _. refl) ∷ to-look 1 tt u32 ∷ to-write 2 tt f32 ∷ to-write 3 tt u32 ∷ to-write 4 tt u32 ∷ to-write 5 tt u32 ∷ to-write 6 tt E.the-row ∷ a-value (a-u32 W) (λ _ _. refl) ∷ []
+  ss = a-value (a-grid W) ∷ to-look 0 tt f32 ∷ a-value (a-topology W) ∷ a-value (a-given W) ∷ to-look 1 tt u32 ∷ to-write 2 tt f32 ∷ to-write 3 tt u32 ∷ to-write 4 tt u32 ∷ to-write 5 tt u32 ∷ to-write 6 tt E.the-row ∷ a-value (a-u32 W) ∷ []
 
   module _ (met : Met) (grid : Valued (a-grid W)) (vertices : Slice f32) (topology : Valued (a-topology W)) (given : Valued (a-given W)) (indices : Slice u32) (field : Slice f32) (names : Slice u32) (crossings : Slice u32) (rows : Slice u32) (queue : Slice E.the-row) (limit : Valued (a-u32 W)) where
     abbrev ps : List (Arg 𝓤 H A)
@@ -53,13 +51,13 @@ module _ {M : Type 1} (𝓤 : URA M) (H : Heap 𝓤) (A : Atoms 𝓤) (W : Given
         ∷ value (a-usize W) (record { it = crossings .count; is = (refl, crossings .room .0) }) ∷ value (a-usize W) (record { it = rows .count; is = (refl, rows .room .0) }) ∷ value (a-usize W) (record { it = queue .count; is = (refl, queue .room .0) }) ∷ []
 
     abbrev to-refused : Valued (a-begun W) → List (Arg 𝓤 H A)
-    to-refused b = value (a-u32 W) (record { it = b .it .refused; is = owed Be.the-type Be.Laws.the-laws (b .it) _ (b .is) .0 }) ∷ []
+    to-refused b = value _ (refusal-of W b) ∷ []
 
     abbrev to-clear : Slice E.the-row → List (Arg 𝓤 H A)
     to-clear q = lent q ∷ []
 
     abbrev to-run : Slice f32 → Slice u32 → Slice E.the-row → Valued (a-begun W) → List (Arg 𝓤 H A)
-    to-run fs ns q b = value _ grid ∷ shown vertices ∷ value _ topology ∷ value _ given ∷ shown indices ∷ lent fs ∷ lent ns ∷ lent q ∷ value (a-u32 W) (record { it = b .it .number; is = owed Be.the-type Be.Laws.the-laws (b .it) _ (b .is) .1 .0 }) ∷ value _ limit ∷ []
+    to-run fs ns q b = value _ grid ∷ shown vertices ∷ value _ topology ∷ value _ given ∷ shown indices ∷ lent fs ∷ lent ns ∷ lent q ∷ value _ (seeding-of W b) ∷ value _ limit ∷ []
 
     abbrev to-close : Slice f32 → Slice u32 → Valued (a-progress W) → List (Arg 𝓤 H A)
     to-close fs ns p = value _ grid ∷ shown vertices ∷ value _ topology ∷ value _ given ∷ shown indices ∷ lent fs ∷ lent ns ∷ lent crossings ∷ lent rows ∷ value _ p ∷ []
@@ -91,16 +89,20 @@ module _ {M : Type 1} (𝓤 : URA M) (H : Heap 𝓤) (A : Atoms 𝓤) (W : Given
           -- the run
           lends-on ! refl refl refl tt tt tt tt $ lends-on ! refl refl refl tt tt tt tt $ lends-on ! refl refl refl tt tt tt tt $ move ! (0 ∷ 1 ∷ 2 ∷ 3 ∷ 4 ∷ 7 ∷ []) $
           calls ! 𝓣 (to-run (field₁ zs₁ l₁) (names₁ zs₁ l₁) (holding queue (q₁ .0) (lq₁ .0)) b) (a-progress W) (λ r zs. LeavesRow (grid .it) mesh (length (q₁ .0)) (limit .it) (zs .0) (zs .1 .0) (zs .1 .1 .0) r)
-          (asking (to-run (field₁ zs₁ l₁) (names₁ zs₁ l₁) (holding queue (q₁ .0) (lq₁ .0)) b) _ (fits (grid .it) mesh (limit .it) (field .ref .now) (names .ref .now) (crossings .ref .now) (rows .ref .now) (queue .ref .now) (zs₁ .0) (zs₁ .1 .0) (b .it) starts (is-zero (b .it .refused) d),
-          seeds (grid .it) mesh (limit .it) (field .ref .now) (names .ref .now) (crossings .ref .now) (rows .ref .now) (queue .ref .now) (zs₁ .0) (zs₁ .1 .0) (b .it) starts (is-zero (b .it .refused) d) (l₁ .0) (l₁ .1 .0) (q₁ .0) (lq₁ .0) clear₁)
+          (asking (to-run (field₁ zs₁ l₁) (names₁ zs₁ l₁) (holding queue (q₁ .0) (lq₁ .0)) b) _ (
+            fits (grid .it) mesh (limit .it) (field .ref .now) (names .ref .now) (crossings .ref .now) (rows .ref .now) (queue .ref .now) (zs₁ .0) (zs₁ .1 .0) (b .it) starts (is-zero (b .it .refused) d),
+            seeds (grid .it) mesh (limit .it) (field .ref .now) (names .ref .now) (crossings .ref .now) (rows .ref .now) (queue .ref .now) (zs₁ .0) (zs₁ .1 .0) (b .it) starts (is-zero (b .it .refused) d) (l₁ .0) (l₁ .1 .0) (q₁ .0) (lq₁ .0) clear₁,
+          )
           (λ n. met .3 (bound-to (to-run (field₁ zs₁ l₁) (names₁ zs₁ l₁) (holding queue (q₁ .0) (lq₁ .0)) b) n))) refl refl (tt, refl) (λ ran zs₂ l₂ went. move ! (0 ∷ 1 ∷ 2 ∷ 3 ∷ 4 ∷ 6 ∷ 7 ∷ 5 ∷ []) $
           -- what follows it
           lends-on ! refl refl refl tt tt tt tt $ lends-on ! refl refl refl tt tt tt tt $ lends-on ! refl refl refl tt tt tt tt $ lends-on ! refl refl refl tt tt tt tt $
           calls ! 𝓣 (to-close (holding (field₁ zs₁ l₁) (zs₂ .0) (l₂ .0)) (holding (names₁ zs₁ l₁) (zs₂ .1 .0) (l₂ .1 .0)) ran) (an-answer W)
           (λ r zs. Closed (grid .it) mesh (ran .it) (zs₂ .0) (zs₂ .1 .0) (crossings .ref .now) (rows .ref .now) (zs .0) (zs .1 .0) (zs .1 .1 .0) (zs .1 .1 .1 .0) r)
-          (asking (to-close (holding (field₁ zs₁ l₁) (zs₂ .0) (l₂ .0)) (holding (names₁ zs₁ l₁) (zs₂ .1 .0) (l₂ .1 .0)) ran) _ (fits (grid .it) mesh (limit .it) (field .ref .now) (names .ref .now) (crossings .ref .now) (rows .ref .now) (queue .ref .now) (zs₁ .0) (zs₁ .1 .0) (b .it) starts (is-zero (b .it .refused) d),
-          field-long (grid .it) mesh (limit .it) (field .ref .now) (names .ref .now) (crossings .ref .now) (rows .ref .now) (queue .ref .now) (zs₁ .0) (zs₁ .1 .0) (b .it) starts (is-zero (b .it .refused) d) (l₁ .0) (l₁ .1 .0) (q₁ .0) (lq₁ .0) clear₁ (zs₂ .0) (zs₂ .1 .0) (zs₂ .1 .1 .0) (ran .it) (l₂ .0) (l₂ .1 .0) (l₂ .1 .1 .0) went,
-          is-long (grid .it) mesh (limit .it) (field .ref .now) (names .ref .now) (crossings .ref .now) (rows .ref .now) (queue .ref .now) (zs₁ .0) (zs₁ .1 .0) (b .it) starts (is-zero (b .it .refused) d))
+          (asking (to-close (holding (field₁ zs₁ l₁) (zs₂ .0) (l₂ .0)) (holding (names₁ zs₁ l₁) (zs₂ .1 .0) (l₂ .1 .0)) ran) _ (
+            fits (grid .it) mesh (limit .it) (field .ref .now) (names .ref .now) (crossings .ref .now) (rows .ref .now) (queue .ref .now) (zs₁ .0) (zs₁ .1 .0) (b .it) starts (is-zero (b .it .refused) d),
+            field-long (grid .it) mesh (limit .it) (field .ref .now) (names .ref .now) (crossings .ref .now) (rows .ref .now) (queue .ref .now) (zs₁ .0) (zs₁ .1 .0) (b .it) starts (is-zero (b .it .refused) d) (l₁ .0) (l₁ .1 .0) (q₁ .0) (lq₁ .0) clear₁ (zs₂ .0) (zs₂ .1 .0) (zs₂ .1 .1 .0) (ran .it) (l₂ .0) (l₂ .1 .0) (l₂ .1 .1 .0) went,
+            is-long (grid .it) mesh (limit .it) (field .ref .now) (names .ref .now) (crossings .ref .now) (rows .ref .now) (queue .ref .now) (zs₁ .0) (zs₁ .1 .0) (b .it) starts (is-zero (b .it .refused) d),
+          )
           (λ n. met .4 (bound-to (to-close (holding (field₁ zs₁ l₁) (zs₂ .0) (l₂ .0)) (holding (names₁ zs₁ l₁) (zs₂ .1 .0) (l₂ .1 .0)) ran) n))) refl refl (tt, refl) (λ answer zs₃ l₃ closed.
           puts ! (bin ! (opd ! refl) (opd ! refl) tt) tt (tt, tt) $
           returns-if ! (opd ! refl) (λ e. copies ! refl (tt, refl) $ returns-at ! Post refl refl tt $

@@ -29,7 +29,7 @@ module _ {M : Type 1} (𝓤 : URA M) (H : Heap 𝓤) (A : Atoms 𝓤) (W : Given
 
   -- what is taken, by its types
   abbrev ss : List (Sort 𝓤 H A 6)
-  ss = a-value (a-grid W) (λ _ _. refl) ∷ to-look 0 tt f32 ∷ a-value (a-topology W) (λ _ _. refl) ∷ a-value (a-given W) (λ _ _. refl) ∷ to-look 1 tt u32 ∷ to-write 2 tt f32 ∷ to-write 3 tt u32 ∷ to-write 4 tt u32 ∷ to-write 5 tt u32 ∷ a-value (a-usize W) (λ _ _. refl) ∷ a-value (a-u32 W) (λ _ _. refl) ∷ []
+  ss = a-value (a-grid W) ∷ to-look 0 tt f32 ∷ a-value (a-topology W) ∷ a-value (a-given W) ∷ to-look 1 tt u32 ∷ to-write 2 tt f32 ∷ to-write 3 tt u32 ∷ to-write 4 tt u32 ∷ to-write 5 tt u32 ∷ a-value (a-usize W) ∷ a-value (a-u32 W) ∷ []
 
   blank-is : Is E.the-row blank (an-entry W .val blank ∷ [])
   blank-is = owes E.the-type E.Laws.the-laws blank ((refl, omega arith), ((refl, omega arith), ((refl, omega arith), tt)))

@@ -1,6 +1,6 @@
 -- `entries_push_all::push_all` meets its contract: a walk of its MIR, by hand. The first j entries of the batch are in; a turn counts one more, or finds no room, and
 -- queues it. Assumes nothing.
-use Rattle.walking.proofs.Prelude.{_≡_, refl, sym, _∙_, ap, subst, ℕ, _+_, _-_, _^_, _<_, _≤_, arith, Bool, List, [], _∷_, _++_, map, length, ltb, T, ltb→lt, nltb→le, URA, Val, SProp, ent, via, Memory, Routine, Heap, Env, WpFn, Tables, afterTurn, Atoms, Fun, givenOf, tables, tablesOf, Given, Item, Sq, prop, runs, atRet, _$_, !, by, bin, first, blocks, exec, WpFn-mono, u32, Meets, tripleOf, Triple, entered, cited, needs, walkOf, Walks, ends-at, walked, walk-meets, onEntry}
+use Rattle.walking.proofs.Prelude.{_≡_, refl, sym, _∙_, ap, subst, ℕ, _+_, _-_, _^_, _<_, _≤_, arith, Bool, List, [], _∷_, _++_, map, length, ltb, T, ltb→lt, nltb→le, URA, Val, SProp, ent, via, Memory, Routine, Heap, Env, WpFn, Tables, afterTurn, Atoms, Fun, givenOf, tables, tablesOf, Given, Item, Sq, runs, atRet, _$_, !, by, bin, first, blocks, exec, WpFn-mono, u32, Meets, tripleOf, Triple, entered, cited, needs, walkOf, Walks, ends-at, walked, walk-meets, onEntry}
 use Rattle.walking.proofs.Prelude.{empty, holds, Blocks, envOf, Locals, opd, copies, puts, puts-last, returns-at, lends-on, keeps-first, enters, whiles, breaks, Slice, taken, holding, Valued, Arg, value, shown, lent, slices, lefts, fitting, after, bound-to, words, asking, asking-nothing, calls, calls-is, own-bound, typed, from-entry, to-exit, in-turn, again-at, loops-at, a-usize, a-unit, Sort, a-value, to-look, to-write, stays, spells, tells, all-go}
 use Rattle.queue.specs.declared.Entry.{Entry}
 use Rattle.queue.specs.Order.{orderOf}
@@ -28,7 +28,7 @@ module _ {M : Type 1} (𝓤 : URA M) (H : Heap 𝓤) (A : Atoms 𝓤) (W : Given
 
   -- what is taken, by its types
   abbrev ss : List (Sort 𝓤 H A 2)
-  ss = to-write 0 tt E.the-row ∷ a-value (a-progress W) (λ _ _. refl) ∷ a-value (a-batch W) (λ _ _. refl) ∷ a-value (a-topology W) (λ _ _. refl) ∷ a-value (a-given W) (λ _ _. refl) ∷ to-look 1 tt u32 ∷ a-value (a-usize W) (λ _ _. refl) ∷ []
+  ss = to-write 0 tt E.the-row ∷ a-value (a-progress W) ∷ a-value (a-batch W) ∷ a-value (a-topology W) ∷ a-value (a-given W) ∷ to-look 1 tt u32 ∷ a-value (a-usize W) ∷ []
 
   module _ (met : Met) (row : Slice E.the-row) (begin : Valued (a-progress W)) (b : Valued (a-batch W)) (topology : Valued (a-topology W)) (given : Valued (a-given W)) (indices : Slice u32) (vertices : Valued (a-usize W)) where
     abbrev ps : List (Arg 𝓤 H A)

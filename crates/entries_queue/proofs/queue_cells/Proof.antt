@@ -1,6 +1,6 @@
 -- `entries_queue::queue_cells` meets its contract: a walk of its MIR, by hand. What the cells before c queue is in; a turn makes the entries of one cell and
 -- queues them. Assumes nothing.
-use Rattle.walking.proofs.Prelude.{_≡_, refl, _∙_, ℕ, _+_, _-_, _^_, _<_, _≤_, arith, Bool, List, [], _∷_, _++_, map, length, ltb, T, ltb→lt, nltb→le, URA, Val, SProp, ent, via, Memory, Routine, Heap, Env, WpFn, Tables, afterTurn, Atoms, Fun, givenOf, tables, tablesOf, Given, Item, Sq, prop, runs, atRet, _$_, !, by, move, bin, first, blocks, exec, WpFn-mono, u32, f32, Meets, tripleOf, Triple, entered, cited, needs, walkOf, Walks, ends-at, walked, walk-meets, onEntry}
+use Rattle.walking.proofs.Prelude.{_≡_, refl, _∙_, ℕ, _+_, _-_, _^_, _<_, _≤_, arith, Bool, List, [], _∷_, _++_, map, length, ltb, T, ltb→lt, nltb→le, URA, Val, SProp, ent, via, Memory, Routine, Heap, Env, WpFn, Tables, afterTurn, Atoms, Fun, givenOf, tables, tablesOf, Given, Item, Sq, runs, atRet, _$_, !, by, move, bin, first, blocks, exec, WpFn-mono, u32, f32, Meets, tripleOf, Triple, entered, cited, needs, walkOf, Walks, ends-at, walked, walk-meets, onEntry}
 use Rattle.walking.proofs.Prelude.{empty, holds, Blocks, envOf, Locals, opd, copies, puts, puts-last, returns-at, lends-on, keeps-first, enters, whiles, breaks, Slice, taken, holding, Valued, Arg, value, shown, lent, slices, lefts, fitting, after, bound-to, words, asking, calls, own-bound, typed, from-entry, to-exit, in-turn, again-at, loops-at, a-usize, Sort, a-value, to-look, to-write, stays, spells, tells, all-go}
 use Rattle.queue.specs.declared.Entry.{Entry}
 use Rattle.queue.specs.Order.{orderOf}
@@ -23,7 +23,7 @@ module _ {M : Type 1} (𝓤 : URA M) (H : Heap 𝓤) (A : Atoms 𝓤) (W : Given
 
   -- what is taken, by its types
   abbrev ss : List (Sort 𝓤 H A 4)
-  ss = to-look 0 tt f32 ∷ to-look 1 tt u32 ∷ to-write 2 tt E.the-row ∷ a-value (a-progress W) (λ _ _. refl) ∷ a-value (a-topology W) (λ _ _. refl) ∷ a-value (a-given W) (λ _ _. refl) ∷ to-look 3 tt u32 ∷ a-value (a-usize W) (λ _ _. refl) ∷ []
+  ss = to-look 0 tt f32 ∷ to-look 1 tt u32 ∷ to-write 2 tt E.the-row ∷ a-value (a-progress W) ∷ a-value (a-topology W) ∷ a-value (a-given W) ∷ to-look 3 tt u32 ∷ a-value (a-usize W) ∷ []
 
   module _ (met : Met) (field : Slice f32) (names : Slice u32) (row : Slice E.the-row) (begin : Valued (a-progress W)) (topology : Valued (a-topology W)) (given : Valued (a-given W)) (indices : Slice u32) (vertices : Valued (a-usize W)) where
     abbrev ps : List (Arg 𝓤 H A)

@@ -27,7 +27,7 @@ module _ {M : Type 1} (𝓤 : URA M) (H : Heap 𝓤) (A : Atoms 𝓤) (W : Given
 
   -- what is taken, by its types
   abbrev ss : List (Sort 𝓤 H A 5)
-  ss = a-value (a-grid W) (λ _ _. refl) ∷ to-look 0 tt f32 ∷ a-value (a-topology W) (λ _ _. refl) ∷ a-value (a-given W) (λ _ _. refl) ∷ to-look 1 tt u32 ∷ to-write 2 tt f32 ∷ to-write 3 tt u32 ∷ to-write 4 tt E.the-row ∷ a-value (a-u32 W) (λ _ _. refl) ∷ a-value (a-u32 W) (λ _ _. refl) ∷ []
+  ss = a-value (a-grid W) ∷ to-look 0 tt f32 ∷ a-value (a-topology W) ∷ a-value (a-given W) ∷ to-look 1 tt u32 ∷ to-write 2 tt f32 ∷ to-write 3 tt u32 ∷ to-write 4 tt E.the-row ∷ a-value (a-u32 W) ∷ a-value (a-u32 W) ∷ []
 
   module _ (met : Met) (grid : Valued (a-grid W)) (vertices : Slice f32) (topology : Valued (a-topology W)) (given : Valued (a-given W)) (indices : Slice u32) (field : Slice f32) (names : Slice u32) (row : Slice E.the-row) (number : Valued (a-u32 W)) (limit : Valued (a-u32 W)) where
     abbrev ps : List (Arg 𝓤 H A)
@@ -76,16 +76,25 @@ module _ {M : Type 1} (𝓤 : URA M) (H : Heap 𝓤) (A : Atoms 𝓤) (W : Given
           copies ! refl (tt, refl) $ puts ! (bin ! (opd ! refl) (opd ! refl) (omega arith)) tt (tt, record { fits = count .is .1 }) $
           lends-on ! refl refl refl tt tt tt tt $ lends-on ! refl refl refl tt tt tt tt $ lends-on ! refl refl refl tt tt tt tt $ move ! (0 ∷ 3 ∷ 4 ∷ 5 ∷ 2 ∷ []) $
           calls ! 𝓣 (to-queue p₀) (a-progress W) (λ r zs. QueuedCells order (field .ref .now) (names .ref .now) (row .ref .now) (p₀ .it) (zs .0) r)
-          (asking (to-queue p₀) _ (pre .0 .ready .sound .few, nothing-waits (grid .it) mesh (number .it) (field .ref .now) (names .ref .now) (row .ref .now) (pre .0) (pre .1) (limit .it) (p₀ .it) is, is-zero (p₀ .it .number) d, pre .1 .names-long ∙ sym (pre .1 .field-long),
-          cells-few (grid .it) mesh (number .it) (field .ref .now) (names .ref .now) (row .ref .now) (pre .0) (pre .1) (limit .it)) (λ n. met .1 (bound-to (to-queue p₀) n))) refl refl (tt, refl) (λ p₁ zs l all.
+          (asking (to-queue p₀) _ (
+            pre .0 .ready .sound .few,
+            nothing-waits (grid .it) mesh (number .it) (field .ref .now) (names .ref .now) (row .ref .now) (pre .0) (pre .1) (limit .it) (p₀ .it) is,
+            is-zero (p₀ .it .number) d,
+            pre .1 .names-long ∙ sym (pre .1 .field-long),
+            cells-few (grid .it) mesh (number .it) (field .ref .now) (names .ref .now) (row .ref .now) (pre .0) (pre .1) (limit .it),
+          ) (λ n. met .1 (bound-to (to-queue p₀) n))) refl refl (tt, refl) (λ p₁ zs l all.
           move ! (0 ∷ 5 ∷ 4 ∷ 1 ∷ 2 ∷ 3 ∷ []) $ puts ! (bin ! (opd ! refl) (opd ! refl) tt) tt (tt, tt) $
           returns-if ! (opd ! refl) (λ e. copies ! refl (tt, refl) $ returns-at ! Post refl refl tt $
           leaves (field .ref .now, (names .ref .now, (zs .0, tt))) (refl, (refl, (l .0, tt))) p₁ (queueing-refused (grid .it) mesh (number .it) (field .ref .now) (names .ref .now) (row .ref .now) (pre .0) (pre .1) (limit .it) (p₀ .it) is (is-zero (p₀ .it .number) d) (zs .0) (p₁ .it) (l .0) all (not-zero (p₁ .it .number) e))) (λ e.
           -- and spread
           lends-on ! refl refl refl tt tt tt tt $ lends-on ! refl refl refl tt tt tt tt $ lends-on ! refl refl refl tt tt tt tt $
           calls ! 𝓣 (to-spread (holding row (zs .0) (l .0)) p₁) (a-progress W) (λ r us. ToldRow (grid .it) mesh (λ g. spreading g (limit .it)) (field .ref .now) (names .ref .now) (zs .0) (p₁ .it) (us .0) (us .1 .0) (us .1 .1 .0) r)
-          (asking (to-spread (holding row (zs .0) (l .0)) p₁) _ (pre .0 .ready, queueing-holds (grid .it) mesh (number .it) (field .ref .now) (names .ref .now) (row .ref .now) (pre .0) (pre .1) (limit .it) (p₀ .it) is (is-zero (p₀ .it .number) d) (zs .0) (p₁ .it) (l .0) all, is-zero (p₁ .it .number) e,
-          none-taken (grid .it) mesh (number .it) (field .ref .now) (names .ref .now) (row .ref .now) (pre .0) (pre .1) (limit .it) (p₀ .it) is (is-zero (p₀ .it .number) d) (zs .0) (p₁ .it) (l .0) all (is-zero (p₁ .it .number) e)) (λ n. met .2 (bound-to (to-spread (holding row (zs .0) (l .0)) p₁) n))) refl refl (tt, refl) (λ r us k told.
+          (asking (to-spread (holding row (zs .0) (l .0)) p₁) _ (
+            pre .0 .ready,
+            queueing-holds (grid .it) mesh (number .it) (field .ref .now) (names .ref .now) (row .ref .now) (pre .0) (pre .1) (limit .it) (p₀ .it) is (is-zero (p₀ .it .number) d) (zs .0) (p₁ .it) (l .0) all,
+            is-zero (p₁ .it .number) e,
+            none-taken (grid .it) mesh (number .it) (field .ref .now) (names .ref .now) (row .ref .now) (pre .0) (pre .1) (limit .it) (p₀ .it) is (is-zero (p₀ .it .number) d) (zs .0) (p₁ .it) (l .0) all (is-zero (p₁ .it .number) e),
+          ) (λ n. met .2 (bound-to (to-spread (holding row (zs .0) (l .0)) p₁) n))) refl refl (tt, refl) (λ r us k told.
           returns-at ! Post refl refl tt $
           leaves us (k .0, (k .1 .0, (k .1 .1 .0 ∙ l .0, tt))) r (spreading-ends (grid .it) mesh (number .it) (field .ref .now) (names .ref .now) (row .ref .now) (pre .0) (pre .1) (limit .it) (p₀ .it) is (is-zero (p₀ .it .number) d) (zs .0) (p₁ .it) (l .0) all (us .0) (us .1 .0) (us .1 .1 .0) (r .it) (is-zero (p₁ .it .number) e) told))))))
 

@@ -1,6 +1,6 @@
 -- `entries_spread::spread` meets its contract: a walk of its MIR, by hand. A turn counts a pop, or finds them spent, takes the first entry, offers its triangle to
 -- the cells around, and queues what they took up. Assumes nothing.
-use Rattle.walking.proofs.Prelude.{_≡_, refl, _∙_, ℕ, _/_, _+_, _-_, _<_, arith, List, [], _∷_, _++_, map, length, ltb, T, ltb→lt, nltb→le, Float, URA, Val, SProp, ent, via, Memory, Routine, Heap, Env, WpFn, Tables, afterTurn, Atoms, Fun, givenOf, tables, tablesOf, Given, Item, Sq, prop, runs, atRet, _$_, !, by, move, bin, first, blocks, exec, WpFn-mono, u32, f32, Meets, tripleOf, Triple, entered, cited, needs, walkOf, Walks, ends-at, walked, walk-meets, onEntry}
+use Rattle.walking.proofs.Prelude.{_≡_, refl, _∙_, ℕ, _/_, _+_, _-_, _<_, arith, List, [], _∷_, _++_, map, length, ltb, T, ltb→lt, nltb→le, Float, URA, Val, SProp, ent, via, Memory, Routine, Heap, Env, WpFn, Tables, afterTurn, Atoms, Fun, givenOf, tables, tablesOf, Given, Item, Sq, runs, atRet, _$_, !, by, move, bin, first, blocks, exec, WpFn-mono, u32, f32, Meets, tripleOf, Triple, entered, cited, needs, walkOf, Walks, ends-at, walked, walk-meets, onEntry}
 use Rattle.walking.proofs.Prelude.{empty, holds, Blocks, envOf, Locals, opd, copies, puts, returns-at, lends-on, keeps-first, enters, knowing, whiles, breaks, breaks-last, Slice, taken, holding, fitsAt, Valued, Arg, value, shown, lent, slices, Changes, lefts, Long, fitting, after, bound-to, words, asking, calls, own-bound, typed, from-entry, to-exit, in-turn, again-at, loops-at, a-u32, a-usize, Sort, a-value, to-look, to-write, stays, spells, tells, all-go}
 use Rattle.queue.specs.declared.Entry.{Entry}
 use Rattle.queue.proofs.Entry as E
@@ -29,7 +29,7 @@ module _ {M : Type 1} (𝓤 : URA M) (H : Heap 𝓤) (A : Atoms 𝓤) (W : Given
 
   -- what is taken, by its types
   abbrev ss : List (Sort 𝓤 H A 5)
-  ss = a-value (a-grid W) (λ _ _. refl) ∷ to-look 0 tt f32 ∷ a-value (a-topology W) (λ _ _. refl) ∷ a-value (a-given W) (λ _ _. refl) ∷ to-look 1 tt u32 ∷ to-write 2 tt f32 ∷ to-write 3 tt u32 ∷ to-write 4 tt E.the-row ∷ a-value (a-progress W) (λ _ _. refl) ∷ a-value (a-u32 W) (λ _ _. refl) ∷ []
+  ss = a-value (a-grid W) ∷ to-look 0 tt f32 ∷ a-value (a-topology W) ∷ a-value (a-given W) ∷ to-look 1 tt u32 ∷ to-write 2 tt f32 ∷ to-write 3 tt u32 ∷ to-write 4 tt E.the-row ∷ a-value (a-progress W) ∷ a-value (a-u32 W) ∷ []
 
   module _ (met : Met) (grid : Valued (a-grid W)) (vertices : Slice f32) (topology : Valued (a-topology W)) (given : Valued (a-given W)) (indices : Slice u32) (field : Slice f32) (names : Slice u32) (row : Slice E.the-row) (begin : Valued (a-progress W)) (limit : Valued (a-u32 W)) where
     abbrev ps : List (Arg 𝓤 H A)

@@ -28,7 +28,7 @@ module _ {M : Type 1} (𝓤 : URA M) (H : Heap 𝓤) (A : Atoms 𝓤) (W : Given
 
   -- what is taken, by its types
   abbrev ss : List (Sort 𝓤 H A 2)
-  ss = to-write 0 tt E.the-row ∷ a-value (a-usize W) (λ _ _. refl) ∷ a-value (a-topology W) (λ _ _. refl) ∷ a-value (a-given W) (λ _ _. refl) ∷ to-look 1 tt u32 ∷ a-value (a-usize W) (λ _ _. refl) ∷ []
+  ss = to-write 0 tt E.the-row ∷ a-value (a-usize W) ∷ a-value (a-topology W) ∷ a-value (a-given W) ∷ to-look 1 tt u32 ∷ a-value (a-usize W) ∷ []
 
   module _ (met : Met) (row : Slice E.the-row) (n : Valued (a-usize W)) (topology : Valued (a-topology W)) (given : Valued (a-given W)) (indices : Slice u32) (vertices : Valued (a-usize W)) where
     abbrev ps : List (Arg 𝓤 H A)

@@ -1,7 +1,7 @@
 -- `sdf_c::job::sdf_generate_grid_sdf_records` meets its contract: a walk of its MIR, by hand, with no loop. What C handed in is read, the job called, and its
 -- answer written out. Assumes nothing.
-use Rattle.walking.proofs.Prelude.{refl, List, [], _∷_, map, URA, Val, SProp, ent, emp, via, fst∗, Memory, Routine, Heap, Env, WpFn, Tables, Atoms, Fun, givenOf, tables, tablesOf, Given, Sq, prop, runs, atRet, _$_, !, by, WpFn-mono, u32, f32, Meets, tripleOf, Triple, entered, cited, walkOf, Walks, ends-at, walked, walk-meets, onEntry}
-use Rattle.walking.proofs.Prelude.{empty, holds, Blocks, envOf, Locals, returns-at, lends-on, enters, Slice, taken, Kind, Valued, Arg, value, shown, lent, slices, Changes, lefts, Long, fitting, after, bound-to, words, asking-nothing, calls, calls-is, own-bound, typed, from-entry, to-exit, a-u32, a-struct, Sort, a-value, to-look, to-write, stays, spells, tells, all-go}
+use Rattle.walking.proofs.Prelude.{refl, List, [], _∷_, map, URA, Val, SProp, ent, emp, via, fst∗, Memory, Routine, Heap, Env, WpFn, Tables, Atoms, Fun, givenOf, tables, tablesOf, Given, Sq, runs, atRet, _$_, !, by, WpFn-mono, u32, f32, Meets, tripleOf, Triple, entered, cited, walkOf, Walks, ends-at, walked, walk-meets, onEntry}
+use Rattle.walking.proofs.Prelude.{empty, holds, Blocks, envOf, Locals, returns-at, lends-on, enters, Slice, taken, Kind, Valued, Arg, value, shown, lent, slices, lefts, fitting, after, bound-to, words, asking-nothing, calls, calls-is, own-bound, typed, from-entry, to-exit, a-u32, a-struct, Sort, a-value, to-look, to-write, stays, spells, tells, all-go}
 use Rattle.queue.proofs.Entry as E
 use Rattle.job_checks.specs.Job.{Job, jobOf, Lent}
 use Rattle.job_outcome.specs.Outcome.{Gives, outcome}
@@ -10,7 +10,7 @@ use Rattle.entries_generate.specs.LentRow.{lentRow}
 use Rattle.entries_generate.proofs.ByValue.{a-grid, an-answer}
 use Rattle.c_records.specs.C.{gridIn}
 use Rattle.c_records.proofs.SdfGrid as Cg
-use Rattle.sdf_c.specs.Job.{topologyIn, indicesIn, answerOut, GivesC}
+use Rattle.sdf_c.specs.Job.{topologyIn, indicesIn, answerOut}
 use Rattle.sdf_c.proofs.job.SdfJobAnswer as Ca
 use Rattle.sdf_c.proofs.Given.{gives-c}
 use Rattle.c_records.proofs.SdfGrid.grid as grid-of
@@ -29,14 +29,14 @@ module _ {M : Type 1} (𝓤 : URA M) (H : Heap 𝓤) (A : Atoms 𝓤) (W : Given
 
   -- a grid and an answer as C has them
   abbrev a-c-grid : Kind 𝓤 H A
-  a-c-grid = a-struct W Cg.the-type Cg.Laws.the-laws Cg.Laws.the-plain
+  a-c-grid = a-struct W Cg.the-type Cg.Laws.the-laws Cg.Laws.the-plain Cg.Laws.the-copy
 
   abbrev a-c-answer : Kind 𝓤 H A
-  a-c-answer = a-struct W Ca.the-type Ca.Laws.the-laws Ca.Laws.the-plain
+  a-c-answer = a-struct W Ca.the-type Ca.Laws.the-laws Ca.Laws.the-plain Ca.Laws.the-copy
 
   -- what is taken, by its types
   abbrev ss : List (Sort 𝓤 H A 7)
-  ss = a-value a-c-grid (λ _ _. refl) ∷ to-look 0 tt f32 ∷ a-value (a-u32 W) (λ _ _. refl) ∷ a-value (a-u32 W) (λ _ _. refl) ∷ to-look 1 tt u32 ∷ to-write 2 tt f32 ∷ to-write 3 tt u32 ∷ to-write 4 tt u32 ∷ to-write 5 tt u32 ∷ to-write 6 tt E.the-row ∷ a-value (a-u32 W) (λ _ _. refl) ∷ []
+  ss = a-value a-c-grid ∷ to-look 0 tt f32 ∷ a-value (a-u32 W) ∷ a-value (a-u32 W) ∷ to-look 1 tt u32 ∷ to-write 2 tt f32 ∷ to-write 3 tt u32 ∷ to-write 4 tt u32 ∷ to-write 5 tt u32 ∷ to-write 6 tt E.the-row ∷ a-value (a-u32 W) ∷ []
 
   module _ (met : Met) (grid : Valued a-c-grid) (vertices : Slice f32) (topology : Valued (a-u32 W)) (given : Valued (a-u32 W)) (indices : Slice u32) (field : Slice f32) (names : Slice u32) (crossings : Slice u32) (rows : Slice u32) (queue : Slice E.the-row) (limit : Valued (a-u32 W)) where
     abbrev ps : List (Arg 𝓤 H A)
