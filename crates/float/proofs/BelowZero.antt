@@ -5,7 +5,7 @@ use mathlib.Core.Path.{_≡_, refl, sym, ap, _∙_, subst}
 use mathlib.Core.Logic.{_⊎_, inl, inr}
 use mathlib.Core.Bool.{true, false, _&&_, true≢false}
 use Prim.Native.Nat.{ℕ, zero, suc, _+_, _-_, _*_, _/_, _%_, _^_, _≤_, _<_, min}
-use native.Mathlib.Nat.{mul-pos, zero-mul, mul-one, one-mul, add-mul, le-antisymm, mul-right-comm, div-one, div-le-self, div-mul-le-self, lt-div-mul-add, div-eq-of-lt-le, div-lt-iff-lt-mul, le-div-iff-mul-le, lt-of-le-of-lt, lt-of-mul-lt-mul-right, le-of-mul-le-mul-right}
+use native.Mathlib.Nat.{mul-pos, zero-mul, mul-one, add-mul, le-antisymm, mul-right-comm, div-one, div-le-self, div-mul-le-self, lt-div-mul-add, div-eq-of-lt-le, div-lt-iff-lt-mul, le-div-iff-mul-le, lt-of-mul-lt-mul-right, le-of-mul-le-mul-right}
 use native.Mathlib.Numerals.{add-one}
 use native.Mathlib.Omega.{arith}
 use lib.IntN.{ℤ, pos, negsuc}

@@ -1,14 +1,12 @@
 -- `float::floor`: from zero on and below zero by the parts, and a NaN passes neither test. -1 - k is `negsuc k`. Assumes nothing.
 use borrow.Author.Needs.{needs}
 use mathlib.Core.Path.{_≡_, refl, sym, ap, _∙_, subst}
-use mathlib.Core.Bool.{true, false, true≢false}
 use Prim.Native.Nat.{ℕ, zero, suc, _^_, _<_}
 use native.Mathlib.Nat.{zero-add}
 use lib.IntN.{ℤ, pos, negsuc, _-ℤ_}
 use mir.Syntax.{w64}
 use mir.Val.{SFits, toZ, ofZ}
 use mir.ValLaws.{toZ-pos, toZ-neg}
-use Rattle.float.specs.Cell.{floorOf}
 use Rattle.float.proofs.BelowZero.{neither}
 use Rattle.float.proofs.floor.Statement.{statement}
 use Rattle.float.proofs.floor.Tie as tie

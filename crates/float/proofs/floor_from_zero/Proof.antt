@@ -1,11 +1,9 @@
 -- `float::floor_from_zero`: below 2 ^ 63 the truncated value is the floor, and from there on the floor is the end of the range
 -- (`proofs/Floors.antt`). Assumes nothing.
-use mathlib.Core.Path.{_≡_, sym, ap, _∙_}
-use Prim.Native.Nat.{_^_, _-_, min, _≤_}
+use mathlib.Core.Path.{sym, ap, _∙_}
 use native.Mathlib.Omega.{arith}
 use lib.IntN.{pos}
 use lib.Dec.{lit≤, lit<}
-use lib.Ieee.{toUnsigned}
 use Rattle.float.proofs.Floors.{Truncates, end-is, truncates, from}
 use Rattle.float.proofs.floor_from_zero.Statement.{statement}
 use Rattle.float.proofs.floor_from_zero.Tie as tie

@@ -2,7 +2,7 @@
 use mathlib.Core.Path.{_≡_, refl, sym, subst}
 use mathlib.Core.Bool.{false}
 use lib.Dec.{T}
-use lib.Ieee.{Float, nan, binary32, fits}
+use lib.Ieee.{Float, binary32, fits}
 use lib.Ieee.Compare.{differs-from-itself}
 use Rattle.float.specs.Steps.{signBit}
 use Rattle.float.proofs.Magnitude.{is-number, sign-bits}
