@@ -4,14 +4,14 @@ use Prim.Native.Nat.{ℕ, zero, suc, _≤_}
 use native.Mathlib.Omega.{arith}
 use mathlib.Core.Path.{_≡_, refl, sym, ap, _∙_}
 use mathlib.Core.Logic.{_⊎_, inl, inr}
-use mathlib.Core.Bool.{true, _&&_}
+use mathlib.Core.Bool.{true, _&&_, and-eq-true-iff}
 use mathlib.Core.List.{List, List·Memᴰ, List·Memᴰ·head, List·Memᴰ·tail}
 use lib.Dec.{leb}
 use borrow.Author.Tests.{leb-true}
 use Rattle.lists.specs.Turns.{Turn, goes, refuses}
 use Rattle.lists.specs.Every.{every}
 use Rattle.lists.specs.OnlyBy.{OnlyBy}
-use Rattle.lists.proofs.Every.{both, every-member}
+use Rattle.lists.proofs.Every.{every-member}
 use Rattle.run.specs.Run.{State}
 use Rattle.run.proofs.Numbers.{run-by}
 use Rattle.job_checks.specs.Job.{Job, Lent}
@@ -51,7 +51,7 @@ replies j b = check (refusal j b) (check-given j b)
 
 within : (lo hi n : ℕ) (l : List ℕ) → every (λ k. leb lo k && leb k hi) l ≡ true → List·Memᴰ n l → (lo ≤ n) × (n ≤ hi)
 within lo hi n l h m =
-    let t = both (leb lo n) (leb n hi) (every-member (λ k. leb lo k && leb k hi) n l h m) in
+    let t = and-eq-true-iff (leb lo n) (leb n hi) .0 (every-member (λ k. leb lo k && leb k hi) n l h m) in
     (leb-true lo n (t .0), leb-true n hi (t .1))
 
 pub before-the-run : (j : Job) (b : Lent) (n : ℕ) → List·Memᴰ n (checkNumbers j b) → (1 ≤ n) × (n ≤ 5)
