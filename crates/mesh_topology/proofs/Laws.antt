@@ -1,7 +1,7 @@
 -- The row of triangles by numbers: how many there are, and the corners of the k-th. A list goes down by three corners at a step
 -- and a strip by one, so each law is an induction over the corners, by threes or by ones. Assumes nothing.
 use mathlib.Core.Path.{_≡_, refl, sym, ap, _∙_}
-use mathlib.Core.Bool.{true, _&&_}
+use mathlib.Core.Bool.{true, _&&_, and-eq-true-iff}
 use mathlib.Core.List.{List, [], _∷_}
 use Prim.Native.Nat.{ℕ, zero, suc, _+_, _-_, _*_, _/_, _<_}
 use native.Mathlib.Nat.{add-zero}
@@ -9,7 +9,7 @@ use native.Mathlib.Omega.{arith}
 use lib.Dec.{ltb}
 use lib.ListN.{length, getD}
 use borrow.Author.Tests.{ltb-true}
-use Rattle.lists.proofs.Every.{both, every-at}
+use Rattle.lists.proofs.Every.{every-at}
 use Rattle.mesh_topology.specs.declared.Topology.{Topology}
 use Rattle.mesh_topology.specs.declared.Topology.the-variants.{TriangleList, TriangleStrip}
 use Rattle.mesh_topology.specs.declared.Indices.{Indices}
@@ -109,8 +109,8 @@ pub record Vertices (v : ℕ) (t : Triangle) : Type 0 where
 
 vertices-of : (v : ℕ) (t : Triangle) → belowCount v t ≡ true → Vertices v t
 vertices-of v t h =
-    let ab-c = both (ltb (t .a) v && ltb (t .b) v) (ltb (t .c) v) h in
-    let a-b = both (ltb (t .a) v) (ltb (t .b) v) (ab-c .0) in
+    let ab-c = and-eq-true-iff (ltb (t .a) v && ltb (t .b) v) (ltb (t .c) v) .0 h in
+    let a-b = and-eq-true-iff (ltb (t .a) v) (ltb (t .b) v) .0 (ab-c .0) in
     record {
       a-below = ltb-true (t .a) v (a-b .0);
       b-below = ltb-true (t .b) v (a-b .1);

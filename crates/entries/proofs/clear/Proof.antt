@@ -1,9 +1,5 @@
 -- `entries::clear` meets its contract: a walk of its MIR, by hand. A turn writes one entry, and all before it are blank. Assumes nothing.
-<<<<<<< ours
-use Rattle.walking.proofs.Prelude.{_≡_, refl, _∙_, ℕ, _+_, _-_, _^_, _<_, arith, List, [], _∷_, _++_, map, length, put, length-set, ltb, T, ltb→lt, nltb→le, Is, URA, Val, SProp, ent, emp, via, fst∗, Memory, Routine, Heap, Env, WpFn, Tables, afterTurn, Atoms, Fun, givenOf, tables, tablesOf, Given, Item, Sq, prop, runs, atRet, _$_, !, by, bin, first, blocks, exec, WpFn-mono, Meets, tripleOf, Triple, entered, cited, walkOf, Walks, ends-at, walked, walk-meets, onEntry}
-=======
-use Rattle.walking.proofs.Prelude.{_≡_, refl, _∙_, ℕ, _+_, _-_, _^_, _<_, arith, List, [], _∷_, _++_, map, length, getD, put, length-set, ltb, T, ltb→lt, nltb→le, Is, URA, Val, SProp, ent, emp, via, fst∗, Memory, Routine, Heap, Env, WpFn, Tables, afterTurn, Atoms, Fun, givenOf, tables, tablesOf, Given, Item, Sq, runs, atRet, _$_, !, by, bin, first, blocks, exec, WpFn-mono, Meets, tripleOf, Triple, entered, cited, walkOf, Walks, ends-at, walked, walk-meets, onEntry}
->>>>>>> theirs
+use Rattle.walking.proofs.Prelude.{_≡_, refl, _∙_, ℕ, _+_, _-_, _^_, _<_, arith, List, [], _∷_, _++_, map, length, put, length-set, ltb, T, ltb→lt, nltb→le, Is, URA, Val, SProp, ent, emp, via, fst∗, Memory, Routine, Heap, Env, WpFn, Tables, afterTurn, Atoms, Fun, givenOf, tables, tablesOf, Given, Item, Sq, runs, atRet, _$_, !, by, bin, first, blocks, exec, WpFn-mono, Meets, tripleOf, Triple, entered, cited, walkOf, Walks, ends-at, walked, walk-meets, onEntry}
 use Rattle.walking.proofs.Prelude.{empty, holds, Blocks, envOf, Locals, opd, copies, puts, puts-last, returns-at, keeps-first, enters, whiles, Slice, taken, holding, Valued, Arg, lent, slices, lefts, fitting, after, bound-to, words, asking-nothing, calls-is, own-bound, typed, from-entry, to-exit, in-turn, again-at, loops-at, points, writes-at, a-usize, a-unit, Sort, to-write, stays, spells, tells, all-go}
 use Rattle.lists.specs.Table.{Filled}
 use Rattle.lists.proofs.Table.{filled-none, filled-more, filled-alike}
