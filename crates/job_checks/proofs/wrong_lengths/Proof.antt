@@ -12,4 +12,4 @@ wrong-lengths-spec =
     (λ c κs. tt)
     (λ c. search needs)
     (λ c. search needs)
-    (λ c. let s = c .before .before .before .before .before .before in rw (s .before .before .get-total-cell-count .ensures, s .layers .ensures)))
+    (λ c. let s = c .before .before .before .before .before .before in rw (s .before .get-total-cell-count .ensures, s .layers .ensures)))
