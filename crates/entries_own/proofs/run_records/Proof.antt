@@ -98,4 +98,4 @@ run-records-spec 𝓤 H 𝓜 𝓖 𝓡 =
     entered 𝓤 H (tripleOf 𝓤 H (𝓖 .A) f.signature (f.spec 𝓤 H (𝓖 .A) (𝓜 .mem) (𝓡 .run)))
     (tables 𝓤 H 𝓜 𝓡 f.Code.env .C) (tables 𝓤 H 𝓜 𝓡 f.Code.env .Λ) f.Key.name f.Code.function (f.Code.unfolded 𝓤 H 𝓜 𝓡)
     (meets 𝓤 H (𝓖 .A) (givenOf 𝓤 H 𝓜 𝓖) (𝓜 .mem) (𝓡 .run) (tablesOf 𝓤 H 𝓜 (tables 𝓤 H 𝓜 𝓡 f.Code.env))
-    (cited 𝓤 H (tripleOf 𝓤 H (𝓖 .A) job.signature (job.spec 𝓤 H (𝓖 .A) (𝓜 .mem) (𝓡 .run))) 𝓜 𝓡 f.Code.env job.Symbol.name job.Symbol.routine f.Code.calls-generate-records·generate-grid-sdf-records (job.Met.met 𝓤 H 𝓜 𝓖 𝓡)))
+    (cited 𝓤 H (tripleOf 𝓤 H (𝓖 .A) job.signature (job.spec 𝓤 H (𝓖 .A) (𝓜 .mem) (𝓡 .run))) 𝓜 𝓡 f.Code.env job.Symbol.name job.Symbol.routine f.Code.calls-entries-generate·generate-grid-sdf-records (job.Met.met 𝓤 H 𝓜 𝓖 𝓡)))

@@ -108,6 +108,6 @@ sdf-generate-grid-sdf-records-spec 𝓤 H 𝓜 𝓖 𝓡 =
       cited 𝓤 H (tripleOf 𝓤 H (𝓖 .A) grid-of.signature (grid-of.spec 𝓤 H (𝓖 .A) (𝓜 .mem) (𝓡 .run))) 𝓜 𝓡 f.Code.env grid-of.Symbol.name grid-of.Symbol.routine f.Code.calls-c-records·SdfGrid·grid (grid-of.Met.met 𝓤 H 𝓜 𝓖 𝓡),
       cited 𝓤 H (tripleOf 𝓤 H (𝓖 .A) topology-in.signature (topology-in.spec 𝓤 H (𝓖 .A) (𝓜 .mem) (𝓡 .run))) 𝓜 𝓡 f.Code.env topology-in.Symbol.name topology-in.Symbol.routine f.Code.calls-sdf-c·job·topology-in (topology-in.Met.met 𝓤 H 𝓜 𝓖 𝓡),
       cited 𝓤 H (tripleOf 𝓤 H (𝓖 .A) indices-in.signature (indices-in.spec 𝓤 H (𝓖 .A) (𝓜 .mem) (𝓡 .run))) 𝓜 𝓡 f.Code.env indices-in.Symbol.name indices-in.Symbol.routine f.Code.calls-sdf-c·job·indices-in (indices-in.Met.met 𝓤 H 𝓜 𝓖 𝓡),
-      cited 𝓤 H (tripleOf 𝓤 H (𝓖 .A) job.signature (job.spec 𝓤 H (𝓖 .A) (𝓜 .mem) (𝓡 .run))) 𝓜 𝓡 f.Code.env job.Symbol.name job.Symbol.routine f.Code.calls-generate-records·generate-grid-sdf-records (job.Met.met 𝓤 H 𝓜 𝓖 𝓡),
+      cited 𝓤 H (tripleOf 𝓤 H (𝓖 .A) job.signature (job.spec 𝓤 H (𝓖 .A) (𝓜 .mem) (𝓡 .run))) 𝓜 𝓡 f.Code.env job.Symbol.name job.Symbol.routine f.Code.calls-entries-generate·generate-grid-sdf-records (job.Met.met 𝓤 H 𝓜 𝓖 𝓡),
       cited 𝓤 H (tripleOf 𝓤 H (𝓖 .A) answer-out.signature (answer-out.spec 𝓤 H (𝓖 .A) (𝓜 .mem) (𝓡 .run))) 𝓜 𝓡 f.Code.env answer-out.Symbol.name answer-out.Symbol.routine f.Code.calls-sdf-c·job·answer-out (answer-out.Met.met 𝓤 H 𝓜 𝓖 𝓡),
     ))
