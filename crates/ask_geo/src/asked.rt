@@ -3,9 +3,9 @@
 ghost use mathlib.Core.Path.{_≡_};
 ghost use Rattle.ask_geo.specs.Asked as Asked;
 use geo_box::TriangleBox;
+use geo_ray::RayHit;
 use point::Axis;
 use point::Point;
-use geo_ray::RayHit;
 
 pub enum BoxAnswer {
     OutOfBounds,
@@ -77,7 +77,10 @@ pub fn closest_point_triangle(p: Point, a: Point, b: Point, c: Point) -> PointAn
     ensures { λ r. ⌜ Asked.pointAnswer r ≡ Asked.askedTriangle p a b c ⌝ }
 {
     let inside = within(p) & within(a) & within(b) & within(c);
-    answer_point(inside, geo_closest_branching::closest_point_triangle(p, a, b, c))
+    answer_point(
+        inside,
+        geo_closest_branching::closest_point_triangle(p, a, b, c),
+    )
 }
 
 pub fn point_triangle_distance(p: Point, a: Point, b: Point, c: Point) -> DistanceAnswer

@@ -1,4 +1,9 @@
 // The answers of the geometry and of the comparison, as C gets them.
+use ask_geo::RayHit;
+use ask_geo::asked::BoxAnswer as TriangleBoxAnswer;
+use ask_geo::asked::DistanceAnswer;
+use ask_geo::asked::PointAnswer as ClosestPointAnswer;
+use ask_geo::asked::RayAnswer;
 use c_records::SdfBoxAnswer;
 use c_records::SdfDistanceAnswer;
 use c_records::SdfOrderAnswer;
@@ -6,11 +11,6 @@ use c_records::SdfPointAnswer;
 use c_records::SdfRayAnswer;
 use float_order::Comparison;
 use float_order::Order;
-use ask_geo::RayHit;
-use ask_geo::asked::BoxAnswer as TriangleBoxAnswer;
-use ask_geo::asked::DistanceAnswer;
-use ask_geo::asked::PointAnswer as ClosestPointAnswer;
-use ask_geo::asked::RayAnswer;
 ghost use mathlib.Core.Path.{_≡_};
 ghost use Rattle.ask_geo.specs.Asked as Asked;
 ghost use Rattle.c_records.specs.C as C;

@@ -2,9 +2,9 @@
 // of the port: users call `sdf`.
 use entries_batch::Batch;
 use grid::Grid;
-use queue::Entry;
 use mesh_topology::Indices;
 use mesh_topology::Topology;
+use queue::Entry;
 ghost use mathlib.Core.Path.{_≡_};
 ghost use Prim.Native.Nat.{_<_};
 ghost use lib.ListN.{length};

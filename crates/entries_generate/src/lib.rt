@@ -4,9 +4,9 @@
 // call `sdf`.
 use grid::Grid;
 use job_outcome::Answer;
-use queue::Entry;
 use mesh_topology::Indices;
 use mesh_topology::Topology;
+use queue::Entry;
 ghost use mathlib.Core.Path.{_≡_};
 ghost use Rattle.job_checks.specs.Job.{jobOf};
 ghost use Rattle.job_outcome.specs.declared.Answer.the-variants.{Refused};

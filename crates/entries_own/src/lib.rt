@@ -3,9 +3,9 @@
 // `sdf`, or run the job program.
 use grid::Grid;
 use job_outcome::Answer;
-use queue::Entry;
 use mesh_topology::Indices;
 use mesh_topology::Topology;
+use queue::Entry;
 ghost use Prim.Native.Nat.{_≤_};
 ghost use Rattle.job_checks.specs.Job.{jobOf};
 ghost use Rattle.job_outcome.specs.Outcome.{outcome};

@@ -1,8 +1,8 @@
 // The cells that hold a distance, queued in a lent row of entry records. A part of the port: users call `sdf`.
-use queue::Entry;
-use run_state::Progress;
 use mesh_topology::Indices;
 use mesh_topology::Topology;
+use queue::Entry;
+use run_state::Progress;
 ghost use mathlib.Core.Path.{_≡_};
 ghost use Prim.Native.Nat.{_^_, _≤_, _<_};
 ghost use lib.ListN.{length};

@@ -1,10 +1,10 @@
 // The run over the lent field and names and a lent row of entry records (document 01, "The run", 2 and 3): what crate
 // `run_field` does after seeding, with the same promise, of the row's three projections. A part of the port: users call `sdf`.
 use grid::Grid;
-use queue::Entry;
-use run_state::Progress;
 use mesh_topology::Indices;
 use mesh_topology::Topology;
+use queue::Entry;
+use run_state::Progress;
 ghost use mathlib.Core.Path.{_≡_};
 ghost use lib.ListN.{length};
 ghost use Rattle.mesh.specs.Mesh.{meshOf};

@@ -1,9 +1,9 @@
 // What waits in a lent row of entry records, spread over the field. A part of the port: users call `sdf`.
 use grid::Grid;
-use queue::Entry;
-use run_state::Progress;
 use mesh_topology::Indices;
 use mesh_topology::Topology;
+use queue::Entry;
+use run_state::Progress;
 ghost use mathlib.Core.Path.{_≡_};
 ghost use Rattle.mesh.specs.Mesh.{meshOf};
 ghost use Rattle.run.specs.Run.{spreading};

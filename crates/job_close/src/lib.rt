@@ -2,9 +2,9 @@
 use grid::Grid;
 use job_outcome::Answer;
 use job_outcome::Tally;
-use run_state::Progress;
 use mesh_topology::Indices;
 use mesh_topology::Topology;
+use run_state::Progress;
 ghost use mathlib.Core.Path.{_≡_};
 ghost use lib.ListN.{length};
 ghost use Rattle.grid.specs.Index.{total};

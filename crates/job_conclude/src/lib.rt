@@ -1,9 +1,9 @@
 // What follows the run, and the queue with it. A part of the port: users call `sdf`.
 use grid::Grid;
 use job_outcome::Answer;
-use run_state::Progress;
 use mesh_topology::Indices;
 use mesh_topology::Topology;
+use run_state::Progress;
 ghost use Rattle.lists.specs.Turns.{told};
 ghost use Rattle.mesh.specs.Mesh.{meshOf};
 ghost use Rattle.run_state.specs.Told.{orderIn, stateOf, Fit, Ran};

@@ -1,8 +1,8 @@
 // The whole job, with its refusals (document 01, "Reply numbers" and "The run"): what users call as
 // `sdf::generate_grid_sdf`. It is refused before anything is changed, or accepted and run. A part of the port:
 // users call `sdf`.
-use job_checks::Lengths;
 use grid::Grid;
+use job_checks::Lengths;
 use mesh_topology::Indices;
 use mesh_topology::Topology;
 ghost use Rattle.job_checks.specs.Job.{jobOf, lentOf};

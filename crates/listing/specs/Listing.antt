@@ -13,9 +13,12 @@ use Rattle.grid.specs.Index.{total}
 use Rattle.grid.specs.Layers.{layers}
 use Rattle.job_outcome.specs.declared.Answer.{Answer}
 use Rattle.job_outcome.specs.declared.Answer.the-variants.{Refused, Done}
+use Rattle.mesh_topology.specs.declared.Indices.{Indices}
 use Rattle.job_checks.specs.Job.{Job, Lent, jobOf}
 use Rattle.job_outcome.specs.Outcome.{Outcome, outcome}
 use Rattle.text.specs.declared.Three.{Three}
+use Rattle.text.specs.declared.Head.{Head}
+use Rattle.text.specs.declared.Tail.{Tail}
 use Rattle.text.specs.Words.{space, decimal, hex8, spaced, line, linesBelow}
 use Rattle.text.specs.TextJob.{TextJob, Readable, jobText, indexList, givenOf, flat}
 
@@ -28,36 +31,42 @@ floatsOf bs = map (ofBits binary32) bs
 abbrev pub pointOf : Three → Point
 pointOf t = vec (ofBits binary32 (t .x)) (ofBits binary32 (t .y)) (ofBits binary32 (t .z))
 
-abbrev pub gridOf : TextJob → Grid
-gridOf j =
+abbrev pub gridOf : Head → Grid
+gridOf h =
     record {
-      «first_cell» = pointOf (j .first);
-      «cell_size» = pointOf (j .size);
-      «count_x» = j .count .x;
-      «count_y» = j .count .y;
-      «count_z» = j .count .z;
+      «first_cell» = pointOf (h .first);
+      «cell_size» = pointOf (h .size);
+      «count_x» = h .count .x;
+      «count_y» = h .count .y;
+      «count_z» = h .count .z;
     }
 
-abbrev pub askedJob : TextJob → Job
-askedJob j =
-    jobOf (gridOf j) (floatsOf (flat (j .vertices))) (j .topology) (givenOf (j .indices)) (indexList (j .indices)) (j .limit)
+-- by the parts of a text, with the floats of its coordinates
+abbrev pub jobBy : Head → List Float → Indices → List ℕ → Tail → Job
+jobBy h vertices given indices t = jobOf (gridOf h) vertices (h .topology) given indices (t .limit)
 
--- buffers of the lengths that refusal 5 asks for, and a queue of the room that the text gives; nothing depends on what they hold
-abbrev pub lentFor : TextJob → Lent
-lentFor j =
-    let cells = total (gridOf j) in
+abbrev pub askedJob : TextJob → Job
+askedJob j = jobBy (j .head) (floatsOf (flat (j .vertices))) (givenOf (j .indices)) (indexList (j .indices)) (j .tail)
+
+-- buffers for so many cells, layers and entries
+abbrev pub lentBy : ℕ → ℕ → ℕ → Lent
+lentBy cells layers entries =
     record {
       field = replicate cells f0;
       names = replicate cells 0;
       crossings = replicate (3 * cells) 0;
-      rows = replicate (layers (gridOf j)) 0;
-      distances = replicate (j .room) 0;
-      cells = replicate (j .room) 0;
-      triangles = replicate (j .room) 0;
+      rows = replicate layers 0;
+      distances = replicate entries 0;
+      cells = replicate entries 0;
+      triangles = replicate entries 0;
     }
 
+-- of the lengths that refusal 5 asks for, and a queue of the room that the text gives; nothing depends on what they hold
+abbrev pub lentFor : Head → Tail → Lent
+lentFor h t = lentBy (total (gridOf h)) (layers (gridOf h)) (t .room)
+
 abbrev pub outcomeOf : TextJob → Outcome
-outcomeOf j = outcome (askedJob j) (lentFor j)
+outcomeOf j = outcome (askedJob j) (lentFor (j .head) (j .tail))
 
 -- ---- the listing
 

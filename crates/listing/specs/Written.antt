@@ -7,6 +7,7 @@ use lib.Ieee.{Float}
 use Rattle.job_outcome.specs.declared.Answer.{Answer}
 use Rattle.job_checks.specs.Job.{Lent, lentOf}
 use Rattle.job_outcome.specs.Outcome.{peakOf}
+use Rattle.text.specs.Limits.{mostCells, byteRoom}
 use Rattle.text_write.specs.Put.{Put}
 use Rattle.listing.specs.declared.Written.{Written}
 use Rattle.listing.specs.declared.Written.the-variants.{Nothing, Bytes}
@@ -16,12 +17,12 @@ use Rattle.listing.specs.Listing.{listed}
 abbrev pub shown : List Float → List ℕ → List ℕ → Lent
 shown field names rows = lentOf field names [] rows [] [] []
 
--- "512 cells", as many names, and no more layers than that; and 32,768 bytes, which hold any listing of these
+-- "512 cells", as many names, and no more layers than that; and bytes that hold any listing of these
 pub record RoomToList (field : List Float) (names rows out : List ℕ) : Type 0 where
-  pub room : 32768 ≤ length out
-  pub cells-few : length field ≤ 512
+  pub room : byteRoom ≤ length out
+  pub cells-few : length field ≤ mostCells
   pub all-named : length names ≡ length field
-  pub rows-few : length rows ≤ 512
+  pub rows-few : length rows ≤ mostCells
 
 -- what can be written: the numbers of a text are at most 4,294,967,295
 pub record Listable (a : Answer) (field : List Float) (names rows out : List ℕ) : Type 0 where

@@ -1,13 +1,14 @@
 // The lines of the cells and of the layers.
+use text::Form;
 use text_write::put_all;
-use text_write::put_decimal_then;
-use text_write::put_hex8_then;
+use text_write::put_value_then;
 ghost use Prim.Native.Nat.{_+_, _*_, _≤_, _<_};
 ghost use lib.ListN.{length};
 ghost use lib.Ieee.{binary32, toBits};
 ghost use mathlib.Core.Path.{_≡_};
 ghost use mathlib.Core.List.{[], _++_, _∷_};
 ghost use Rattle.text.specs.Words.{space, decimal, hex8, spaced, line, linesBelow};
+ghost use Rattle.text.specs.Limits.{mostCells};
 ghost use Rattle.text_write.specs.Put.{Put};
 ghost use Rattle.listing.specs.Listing.{cellLine, rowLine};
 ghost use Rattle.listing.specs.Written.{shown};
@@ -24,13 +25,15 @@ fn bits_of(x: f32) -> u32
 
 fn put_cell(out: &mut [u8], at: usize, index: u32, distance: u32, name: u32) -> usize
     requires { ⌜ at + 36 ≤ length (now out) ⌝ }
-    ensures { λ r. ⌜ Put (now (out .entry)) at (line "cell=" (spaced (decimal index) (hex8 distance) (decimal name))) (now (out .exit)) r ⌝ }
+    ensures { λ r.
+        let cell = line "cell=" (spaced (decimal index) (hex8 distance) (decimal name)) in
+        ⌜ Put (now (out .entry)) at cell (now (out .exit)) r ⌝ }
     ensures { λ r. ⌜ r ≤ at + 36 ⌝ }
 {
     let a = put_all(out, at, b"cell=");
-    let b = put_decimal_then(out, a, index, 32);
-    let c = put_hex8_then(out, b, distance, 32);
-    put_decimal_then(out, c, name, 10)
+    let b = put_value_then(out, a, index, Form::Decimal, 32);
+    let c = put_value_then(out, b, distance, Form::Hex8, 32);
+    put_value_then(out, c, name, Form::Decimal, 10)
 }
 
 fn put_row(out: &mut [u8], at: usize, layer: u32, count: u32) -> usize
@@ -39,15 +42,17 @@ fn put_row(out: &mut [u8], at: usize, layer: u32, count: u32) -> usize
     ensures { λ r. ⌜ r ≤ at + 26 ⌝ }
 {
     let a = put_all(out, at, b"row=");
-    let b = put_decimal_then(out, a, layer, 32);
-    put_decimal_then(out, b, count, 10)
+    let b = put_value_then(out, a, layer, Form::Decimal, 32);
+    put_value_then(out, b, count, Form::Decimal, 10)
 }
 
 pub fn put_cells(out: &mut [u8], at: usize, field: &[f32], names: &[u32]) -> usize
-    requires { ⌜ length (now field) ≤ 512 ⌝ }
+    requires { ⌜ length (now field) ≤ mostCells ⌝ }
     requires { ⌜ length (now names) ≡ length (now field) ⌝ }
     requires { ⌜ at + 36 * length (now field) ≤ length (now out) ⌝ }
-    ensures { λ r. ⌜ Put (now (out .entry)) at (linesBelow (cellLine (shown (now (field .entry)) (now (names .entry)) [])) (length (now (field .entry)))) (now (out .exit)) r ⌝ }
+    ensures { λ r.
+        let cell = cellLine (shown (now (field .entry)) (now (names .entry)) []) in
+        ⌜ Put (now (out .entry)) at (linesBelow cell (length (now (field .entry)))) (now (out .exit)) r ⌝ }
     ensures { λ r. ⌜ r ≤ at + 36 * length (now (field .entry)) ⌝ }
 {
     let mut i = 0;
@@ -60,9 +65,11 @@ pub fn put_cells(out: &mut [u8], at: usize, field: &[f32], names: &[u32]) -> usi
 }
 
 pub fn put_rows(out: &mut [u8], at: usize, rows: &[u32]) -> usize
-    requires { ⌜ length (now rows) ≤ 512 ⌝ }
+    requires { ⌜ length (now rows) ≤ mostCells ⌝ }
     requires { ⌜ at + 26 * length (now rows) ≤ length (now out) ⌝ }
-    ensures { λ r. ⌜ Put (now (out .entry)) at (linesBelow (rowLine (shown [] [] (now (rows .entry)))) (length (now (rows .entry)))) (now (out .exit)) r ⌝ }
+    ensures { λ r.
+        let row = rowLine (shown [] [] (now (rows .entry))) in
+        ⌜ Put (now (out .entry)) at (linesBelow row (length (now (rows .entry)))) (now (out .exit)) r ⌝ }
     ensures { λ r. ⌜ r ≤ at + 26 * length (now (rows .entry)) ⌝ }
 {
     let mut z = 0;

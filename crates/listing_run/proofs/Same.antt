@@ -29,12 +29,13 @@ use Rattle.job_outcome.specs.Outcome.{Outcome, Gives, ended, runOf, unlessRefus
 use Rattle.job_checks.proofs.Accepted.{accepted}
 use Rattle.job_clear.proofs.Lengths.{lengths-same}
 use Rattle.job_outcome.proofs.Outcomes.{same-ended, same-run}
-use Rattle.listing.specs.Listing.{floatsOf, listed}
+use Rattle.text.specs.Limits.{mostCells, mostEntries, crossingRoom}
+use Rattle.listing.specs.Listing.{floatsOf, lentBy, listed}
 use Rattle.text_write.specs.Put.{Put}
 use Rattle.text_write.proofs.Puts.{said}
 use Rattle.listing.specs.Written.{shown, RoomToList, Listable}
 use Rattle.entries_own.specs.Own.{GivesFour}
-use Rattle.listing_run.specs.Parts.{listedOf, lentBy}
+use Rattle.listing_run.specs.Parts.{listedOf, Sizes}
 
 -- a listing shows no other buffers
 pub as-shown : (a : Answer) (b : Lent) → listed a (shown (b .field) (b .names) (b .rows)) ≡ listed a b
@@ -98,7 +99,7 @@ module _ {o : Outcome} {answer : Answer} {field : List Float} {names crossings r
   given-listed p =
       said ((λ i. listed (given .answers i) (shown (given .field-left i) (given .names-left i) (given .rows-left i))) ∙ as-shown (o .answer) (o .left)) refl p
 
-  pub can-be-listed : {old-field : List Float} {old-names old-rows out : List ℕ} → peakOf (o .answer) ≤ 2048 → RoomToList old-field old-names old-rows out
+  pub can-be-listed : {old-field : List Float} {old-names old-rows out : List ℕ} → peakOf (o .answer) ≤ mostEntries → RoomToList old-field old-names old-rows out
       → length field ≡ length old-field → length names ≡ length old-names → length rows ≡ length old-rows → Listable answer field names rows out
   can-be-listed low few f n r =
       record {
@@ -114,32 +115,48 @@ prefix l n m e h = length-take-le n l (omega arith)
 pub as-long : {A : Type 0} (l : List A) (a : A) (n m : ℕ) → m ≡ length l → n ≤ m → length (take n l) ≡ length (replicate n a)
 as-long l a n m e h = prefix l n m e h ∙ sym (length-replicate n a)
 
--- such buffers have room for a listing
-pub few-cut : (field : List Float) (names rows : List ℕ) {out : List ℕ} (cells layers : ℕ) → 512 ≡ length field → 512 ≡ length names → 512 ≡ length rows
-    → cells ≤ 512 → layers ≤ 512 → 32768 ≤ length out → RoomToList (take cells field) (take cells names) (take layers rows) out
-few-cut field names rows cells layers f n r hc hl room =
-    let long = prefix field cells 512 f hc in
-    record { room = room; cells-few = omega (arith, long, hc); all-named = prefix names cells 512 n hc ∙ sym long; rows-few = omega (arith, prefix rows layers 512 r hl, hl) }
+-- the buffers that the program has
+pub record Whole (field : List Float) (names crossings rows : List ℕ) : Type 0 where
+  pub field-long : mostCells ≡ length field
+  pub names-long : mostCells ≡ length names
+  pub crossings-long : crossingRoom ≡ length crossings
+  pub rows-long : mostCells ≡ length rows
 
--- what is listed over buffers that are cut to a job's size, and any queue of the room
-pub cut-listed : (j : Job) (field : List Float) (names crossings rows ds cs ts : List ℕ) (cells layers room : ℕ) {old new : List ℕ} {n : ℕ}
-    → 512 ≡ length field → 512 ≡ length names → 1536 ≡ length crossings → 512 ≡ length rows → length ds ≡ room → length cs ≡ room → length ts ≡ room
-    → cells ≤ 512 → layers ≤ 512
-    → Put old 0 (listedOf j (lentOf (take cells field) (take cells names) (take (3 * cells) crossings) (take layers rows) ds cs ts)) new n
-    → Put old 0 (listedOf j (lentBy cells layers room)) new n
-cut-listed j field names crossings rows ds cs ts cells layers room f n k r d c t hc hl p =
-    let cut = lentOf (take cells field) (take cells names) (take (3 * cells) crossings) (take layers rows) ds cs ts in
-    let made = lentBy cells layers room in
-    let zero-long : length {A = ℕ} (replicate room 0) ≡ room = length-replicate room 0 in
-    said
-    (same-listed j cut made
-    (lengths-same cut made (as-long field f0 cells 512 f hc) (as-long names 0 cells 512 n hc) (as-long crossings 0 (3 * cells) 1536 k (omega arith))
-    (as-long rows 0 layers 512 r hl)
-    (d ∙ sym zero-long)
-    (c ∙ sym zero-long)
-    (t ∙ sym zero-long)))
-    refl
-    p
+module _ {field : List Float} {names crossings rows : List ℕ} (w : Whole field names crossings rows) {cells layers room : ℕ} {out : List ℕ} (h : Sizes cells layers room out) where
+  -- cut to a job's size they have room for a listing
+  pub few-cut : RoomToList (take cells field) (take cells names) (take layers rows) out
+  few-cut =
+      let long = prefix field cells mostCells (w .field-long) (h .cells-few) in
+      record {
+        room = h .room;
+        cells-few = omega (arith, long, h .cells-few);
+        all-named = prefix names cells mostCells (w .names-long) (h .cells-few) ∙ sym long;
+        rows-few = omega (arith, prefix rows layers mostCells (w .rows-long) (h .layers-few), h .layers-few);
+      }
+
+  -- what is listed over them, cut to a job's size, and any queue of the room
+  pub cut-listed : (j : Job) (ds cs ts : List ℕ) {old new : List ℕ} {n : ℕ}
+      → length ds ≡ room
+      → length cs ≡ room
+      → length ts ≡ room
+      → Put old 0 (listedOf j (lentOf (take cells field) (take cells names) (take (3 * cells) crossings) (take layers rows) ds cs ts)) new n
+      → Put old 0 (listedOf j (lentBy cells layers room)) new n
+  cut-listed j ds cs ts d c t p =
+      let cut = lentOf (take cells field) (take cells names) (take (3 * cells) crossings) (take layers rows) ds cs ts in
+      let made = lentBy cells layers room in
+      let zero-long : length {A = ℕ} (replicate room 0) ≡ room = length-replicate room 0 in
+      said
+      (same-listed j cut made
+      (lengths-same cut made
+      (as-long field f0 cells mostCells (w .field-long) (h .cells-few))
+      (as-long names 0 cells mostCells (w .names-long) (h .cells-few))
+      (as-long crossings 0 (3 * cells) crossingRoom (w .crossings-long) (omega (arith, h .cells-few)))
+      (as-long rows 0 layers mostCells (w .rows-long) (h .layers-few))
+      (d ∙ sym zero-long)
+      (c ∙ sym zero-long)
+      (t ∙ sym zero-long)))
+      refl
+      p
 
 -- ---- a grid with no cells
 
@@ -155,16 +172,16 @@ pub refused-first : (j : Job) (b c : Lent) → total (j .grid) ≡ 0 → listedO
 unfolding listedOf outcome unlessRefused listed refusalBy
 refused-first j b c e = rw (no-cells (j .grid) e)
 
--- with at most 512 cells, more than 512 layers are those of a grid with no cells
-wide : (m z : ℕ) → m * z ≤ 512 → 512 < z → m * z ≡ 0
+-- with few cells, more layers are those of a grid with no cells
+wide : (m z : ℕ) → m * z ≤ mostCells → mostCells < z → m * z ≡ 0
 wide zero z h k = zero-mul z
 wide (suc m) z h k = absurd (omega (arith, suc-mul m z))
 
-pub same-layers : (j : Job) (m z layers room : ℕ) → total (j .grid) ≡ m * z → m * z ≤ 512 → (z ≤ 512 → layers ≡ z)
+pub same-layers : (j : Job) (m z layers room : ℕ) → total (j .grid) ≡ m * z → m * z ≤ mostCells → (z ≤ mostCells → layers ≡ z)
     → listedOf j (lentBy (m * z) layers room) ≡ listedOf j (lentBy (m * z) z room)
-same-layers j m z layers room t h e = by (decLt 512 z)
+same-layers j m z layers room t h e = by (decLt mostCells z)
   where
-    by : Dec (512 < z) → listedOf j (lentBy (m * z) layers room) ≡ listedOf j (lentBy (m * z) z room)
+    by : Dec (mostCells < z) → listedOf j (lentBy (m * z) layers room) ≡ listedOf j (lentBy (m * z) z room)
     by (yes w) = refused-first j (lentBy (m * z) layers room) (lentBy (m * z) z room) (t ∙ wide m z h w)
     by (no w) = ap (λ (k : ℕ). listedOf j (lentBy (m * z) k room)) (e (omega arith))
 

@@ -1,8 +1,10 @@
 // The whole listing of an answer, written into lent bytes. A part of the port: users run the job program.
+use job_outcome::Answer;
 use listing::Written;
 use listing::put_cells;
 use listing::put_rows;
-use job_outcome::Answer;
+use text::BYTE_ROOM;
+use text::MOST_CELLS;
 use text_write::put_number;
 ghost use Prim.Native.Nat.{_≤_, _<_};
 ghost use lib.ListN.{length};
@@ -22,7 +24,9 @@ fn put_done(
     rows: &[u32],
 ) -> usize
     requires { ⌜ RoomToList (now field) (now names) (now rows) (now out) ⌝ }
-    ensures { λ r. ⌜ Put (now (out .entry)) 0 (listed (Done (record { pops = pops; peak = peak })) (shown (now (field .entry)) (now (names .entry)) (now (rows .entry)))) (now (out .exit)) r ⌝ }
+    ensures { λ r.
+        let left = shown (now (field .entry)) (now (names .entry)) (now (rows .entry)) in
+        ⌜ Put (now (out .entry)) 0 (listed (Done (record { pops = pops; peak = peak })) left) (now (out .exit)) r ⌝ }
 {
     let a = put_number(out, 0, b"answer=", 0);
     let b = put_number(out, a, b"pops=", pops);
@@ -31,8 +35,8 @@ fn put_done(
     put_rows(out, d, rows)
 }
 
-// Writes the listing of an answer and of what its job left, where it has at most 512 cells and layers, and
-// `out` is at least 32,768 bytes long, which hold any such listing. Else it writes nothing.
+// Writes the listing of an answer and of what its job left, where it has no more cells and layers than the program
+// takes, and `out` is at least 32,768 bytes long, which hold any such listing. Else it writes nothing.
 pub fn write_listing(
     answer: Answer,
     field: &[f32],
@@ -42,16 +46,16 @@ pub fn write_listing(
 ) -> Written
     ensures { λ r. ⌜ WritesListing answer (now (field .entry)) (now (names .entry)) (now (rows .entry)) (now (out .entry)) (now (out .exit)) r ⌝ }
 {
-    if out.len() < 32768 {
+    if out.len() < BYTE_ROOM {
         return Written::Nothing;
     }
-    if 512 < field.len() {
+    if MOST_CELLS < field.len() {
         return Written::Nothing;
     }
     if names.len() != field.len() {
         return Written::Nothing;
     }
-    if 512 < rows.len() {
+    if MOST_CELLS < rows.len() {
         return Written::Nothing;
     }
     match answer {

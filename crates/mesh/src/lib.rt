@@ -7,10 +7,10 @@ ghost use lib.ListN.{length};
 ghost use Rattle.mesh_topology.specs.Topology.{trianglesOf, kth};
 ghost use Rattle.mesh_topology.specs.Refusals.{allBelowCount};
 ghost use Rattle.mesh.specs.Mesh.{Mesh, Sound, meshOf, vertexCount, trianglesIn, vertexAt, cornersOf, cornersAt};
-use point::Point;
 use mesh_topology::Indices;
 use mesh_topology::Topology;
 use mesh_topology::Triangle;
+use point::Point;
 
 // The corners of a triangle.
 pub struct Corners {

@@ -2,17 +2,19 @@
 // flat queue and over a row of records, and both listings are held to the stored one, byte for byte. The stored
 // listings are the unmodified Rust's and the model's (samples/README.md has the format). Prints a line for each
 // difference, and last how many jobs there were and how many differences in both.
+use text::BYTE_ROOM;
 ghost use mathlib.Core.Path.{_≡_};
 ghost use mathlib.Core.Bool.{true};
 ghost use Prim.Native.Nat.{_+_, _*_, _<_, _≤_};
 ghost use lib.ListN.{length};
 ghost use Rattle.io.specs.Counts.{Counts};
+ghost use Rattle.text.specs.Limits.{byteRoom};
 ghost use Rattle.listing.specs.Listing.{Prints};
 
-fn room() -> [u8; 32768]
-    ensures { λ r. ⌜ 32768 ≡ length r ⌝ }
+fn room() -> [u8; BYTE_ROOM]
+    ensures { λ r. ⌜ byteRoom ≡ length r ⌝ }
 {
-    [0; 32768]
+    [0; BYTE_ROOM]
 }
 
 fn line_room() -> [u8; 128]
@@ -92,8 +94,10 @@ fn read_part(buf: &mut [u8], n: usize) -> usize
 
 // Whether the text is answered by the stored listing, over a row of records or over a flat queue.
 fn is_owed(text: &[u8], owed: &[u8], out: &mut [u8], records: bool) -> bool
-    requires { ⌜ 32768 ≤ length (now out) ⌝ }
-    ensures { λ r. ⌜ (r ≡ true → Prints (now (text .entry)) (now (owed .entry))) × (Prints (now (text .entry)) (now (owed .entry)) → r ≡ true) ⌝ }
+    requires { ⌜ byteRoom ≤ length (now out) ⌝ }
+    ensures { λ r.
+        let owes = Prints (now (text .entry)) (now (owed .entry)) in
+        ⌜ (r ≡ true → owes) × (owes → r ≡ true) ⌝ }
 {
     let n = text_answer::run_text_by(text, out, records);
     check::same(&out[..n], owed)

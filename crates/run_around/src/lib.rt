@@ -2,9 +2,9 @@
 // triangle, squared (document 01, "The run", 3). A part of the port: users call `sdf`.
 use grid::Cell;
 use grid::Grid;
-use queue::Entry;
 use mesh_topology::Indices;
 use mesh_topology::Topology;
+use queue::Entry;
 ghost use mathlib.Core.Path.{_≡_};
 ghost use mathlib.Core.Bool.{true};
 ghost use Prim.Native.Nat.{_<_};

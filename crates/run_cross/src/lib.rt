@@ -2,12 +2,12 @@
 // run", 4). The triangle is outside and the lines are inside, so that what depends on the triangle alone, or on the
 // triangle and one of a line's two numbers, is worked out once. A part of the port: users call `sdf`. `run_cross_lines` says
 // which cells a line along an axis has, `run_cross_marks` which lines of a row may be hit, and `run_cross_hits` counts them.
+use geo_ray::Cast;
 use grid::Grid;
 use mesh::Corners;
-use point::Axis;
-use geo_ray::Cast;
 use mesh_topology::Indices;
 use mesh_topology::Topology;
+use point::Axis;
 ghost use mathlib.Core.Path.{_≡_};
 ghost use mathlib.Core.Bool.{true};
 ghost use Prim.Native.Nat.{_*_, _≤_};

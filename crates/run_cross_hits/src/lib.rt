@@ -1,9 +1,9 @@
 // The hits on the lines of a row: each adds one to the counts of the cells that it reaches. Only the lines that may
 // be hit are asked. A part of the port: users call `sdf`.
-use grid::Grid;
-use point::Axis;
 use geo_ray::RayHit;
 use geo_ray::Three;
+use grid::Grid;
+use point::Axis;
 ghost use mathlib.Core.Path.{_≡_};
 ghost use mathlib.Core.Bool.{true};
 ghost use Prim.Native.Nat.{_*_, _<_, _≤_};

@@ -1,10 +1,10 @@
 // Which lines of a row may be hit: of the crossing pass what depends on the triangle and one of a line's two
 // numbers is worked out once, and a loop over the lines of a row only tells which may be hit. It has no branch, so
 // that it is compiled to vector code. A part of the port: users call `sdf`.
-use grid::Grid;
-use point::Axis;
 use geo_ray::Cast;
 use geo_ray::Three;
+use grid::Grid;
+use point::Axis;
 ghost use mathlib.Core.Path.{_≡_};
 ghost use mathlib.Core.Bool.{true, false};
 ghost use Prim.Native.Nat.{ℕ, _<_, _≤_};

@@ -1,9 +1,9 @@
 // The run over the lent field, names and queue (document 01, "The run", 1 to 3): seeding, then queueing,
 // then spreading. A part of the port: users call `sdf`.
 use grid::Grid;
-use run_state::Progress;
 use mesh_topology::Indices;
 use mesh_topology::Topology;
+use run_state::Progress;
 ghost use lib.ListN.{length};
 ghost use Rattle.lists.specs.Turns.{andThen};
 ghost use Rattle.mesh.specs.Mesh.{meshOf};

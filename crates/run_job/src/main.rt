@@ -1,12 +1,14 @@
 // The job program (document 01, "One job, one listing"): standard input is a job's text, and its listing goes
 // to standard output, or `answer=9`. All that it decides is `text_answer::run_text`.
+use text::BYTE_ROOM;
 ghost use mathlib.Core.Path.{_≡_};
 ghost use lib.ListN.{length};
+ghost use Rattle.text.specs.Limits.{byteRoom};
 
-fn room() -> [u8; 32768]
-    ensures { λ r. ⌜ 32768 ≡ length r ⌝ }
+fn room() -> [u8; BYTE_ROOM]
+    ensures { λ r. ⌜ byteRoom ≡ length r ⌝ }
 {
-    [0; 32768]
+    [0; BYTE_ROOM]
 }
 
 fn main() {

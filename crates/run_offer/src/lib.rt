@@ -1,10 +1,10 @@
 // Offers: the triangle of an entry that was taken is offered to the cells around its cell, and a cell that finds
 // it nearer takes it and queues an entry (document 01, "The run", 3). A part of the port: users call `sdf`.
 use grid::Grid;
-use queue::Entry;
-use run_state::Progress;
 use mesh_topology::Indices;
 use mesh_topology::Topology;
+use queue::Entry;
+use run_state::Progress;
 ghost use mathlib.Core.Path.{_≡_};
 ghost use Prim.Native.Nat.{_<_};
 ghost use lib.ListN.{length};

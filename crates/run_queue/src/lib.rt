@@ -1,10 +1,10 @@
 // Queueing: each cell below f32::MAX becomes one entry, by cell index (document 01, "The run", 2). A part of the
 // port: users call `sdf`.
 use grid::Grid;
-use queue::Entry;
-use run_state::Progress;
 use mesh_topology::Indices;
 use mesh_topology::Topology;
+use queue::Entry;
+use run_state::Progress;
 ghost use mathlib.Core.Path.{_≡_};
 ghost use Prim.Native.Nat.{_^_, _<_, max};
 ghost use lib.ListN.{length};

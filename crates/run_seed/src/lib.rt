@@ -45,7 +45,15 @@ fn seed_line(
     let mut z = lo;
     while z <= hi {
         let last = last_of_four(z, hi);
-        let r = run_seed_cells::offer_four(field, names, grid, f, k, Cell { x: x, y: y, z: z }, last);
+        let r = run_seed_cells::offer_four(
+            field,
+            names,
+            grid,
+            f,
+            k,
+            Cell { x: x, y: y, z: z },
+            last,
+        );
         if r != 0 {
             return r;
         }

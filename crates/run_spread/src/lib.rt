@@ -2,9 +2,9 @@
 // cell, until none waits (document 01, "The run", 3). Older entries of a cell are not removed and still
 // spread: what its cell holds by now is not asked when an entry is taken. A part of the port: users call `sdf`.
 use grid::Grid;
-use run_state::Progress;
 use mesh_topology::Indices;
 use mesh_topology::Topology;
+use run_state::Progress;
 ghost use mathlib.Core.Path.{_≡_};
 ghost use Prim.Native.Nat.{_<_};
 ghost use lib.ListN.{length};

@@ -11,14 +11,14 @@ mod questions;
 
 // ---- what is asked about, and answered with
 
-pub use float_order::Comparison;
-pub use float_order::Order;
 pub use ask_geo::RayHit;
 pub use ask_geo::TriangleBox;
 pub use ask_geo::asked::BoxAnswer as TriangleBoxAnswer;
 pub use ask_geo::asked::DistanceAnswer;
 pub use ask_geo::asked::PointAnswer as ClosestPointAnswer;
 pub use ask_geo::asked::RayAnswer;
+pub use float_order::Comparison;
+pub use float_order::Order;
 pub use grid::BoundingBox;
 pub use grid::BoxAnswer as GridBoxAnswer;
 pub use grid::Cell;
@@ -37,13 +37,13 @@ pub use point::Point;
 
 // ---- the whole job
 
+pub use entries_generate::generate_grid_sdf_records;
 pub use job_generate::Answer;
 pub use job_generate::Tally;
 pub use job_generate::generate_grid_sdf;
-pub use entries_generate::generate_grid_sdf_records;
-pub use queue::Entry;
 pub use mesh_topology::Indices;
 pub use mesh_topology::Topology;
+pub use queue::Entry;
 
 // ---- the questions
 

@@ -2,11 +2,11 @@
 // `requires`. The grid answers 1 for a grid out of bounds, then 4 for a cell or an index outside the
 // counts; the geometry 2 for a coordinate that is not finite or above 2,097,152 in magnitude, then 6 for
 // a NaN in its result; the comparison 6 for a NaN. The root takes any number.
-use float_order::Comparison;
 use ask_geo::asked::BoxAnswer as TriangleBoxAnswer;
 use ask_geo::asked::DistanceAnswer;
 use ask_geo::asked::PointAnswer as ClosestPointAnswer;
 use ask_geo::asked::RayAnswer;
+use float_order::Comparison;
 use grid::BoxAnswer as GridBoxAnswer;
 use grid::Cell;
 use grid::CellAnswer;

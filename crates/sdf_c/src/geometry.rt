@@ -55,12 +55,7 @@ pub extern "C" fn sdf_closest_point_triangle(
 ) -> SdfPointAnswer
     ensures { λ r. ⌜ r ≡ C.closestForC (askedTriangle (pointIn p) (pointIn a) (pointIn b) (pointIn c)) ⌝ }
 {
-    c_geo::closest_answer(sdf::closest_point_triangle(
-        p.point(),
-        a.point(),
-        b.point(),
-        c.point(),
-    ))
+    c_geo::closest_answer(sdf::closest_point_triangle(p.point(), a.point(), b.point(), c.point()))
 }
 
 #[no_mangle]
@@ -72,12 +67,7 @@ pub extern "C" fn sdf_point_triangle_distance(
 ) -> SdfDistanceAnswer
     ensures { λ r. ⌜ r ≡ C.distanceForC (askedDistance (pointIn p) (pointIn a) (pointIn b) (pointIn c)) ⌝ }
 {
-    c_geo::distance_answer(sdf::point_triangle_distance(
-        p.point(),
-        a.point(),
-        b.point(),
-        c.point(),
-    ))
+    c_geo::distance_answer(sdf::point_triangle_distance(p.point(), a.point(), b.point(), c.point()))
 }
 
 // `axis` is 0 for x, 1 for y, and any other number for z.

@@ -1,6 +1,7 @@
 -- A reader reads a format: what it takes is the format of the value that it gives, with the rest behind it, and it takes the format of every
 -- value that is meant. From these two a format has one value, and readers that follow each other need no more than each other's laws:
--- so every line of the text is read by the same few laws.
+-- so every line of the text is read by the same few laws. A line that may be left out is read before what does not begin as it does: the line
+-- that must follow it, or the end of the text.
 use Prim.Native.Nat.{ℕ}
 use native.Mathlib.Omega.{arith}
 use mathlib.Core.Path.{_≡_, refl, sym, ap, _∙_, subst}
@@ -8,12 +9,20 @@ use mathlib.Core.Bool.{Bool, true, false, cond, true≢false}
 use mathlib.Core.Logic.{_⊎_, inl, inr, ⊎-elim}
 use mathlib.Core.List.{List, [], _∷_, _++_, append-assoc, append-nil}
 use borrow.Author.Tests.{eqb-true, eq-eqb}
-use Rattle.text.specs.Reader.{Got, took, nothing, follow, kept, orTry, wordAt}
+use Rattle.text.specs.Reader.{Got, took, nothing, follow, kept, orTry, wordAt, atEnd}
 
--- of the values that are `In`
-pub record Reads {A : Type 0} (In : A → Type 0) (f : A → List ℕ) (p : List ℕ → Got A) : Type 0 where
+-- of the values that are `In`, before the rests that are `Rest`
+pub record ReadsBefore {A : Type 0} (Rest : List ℕ → Type 0) (In : A → Type 0) (f : A → List ℕ) (p : List ℕ → Got A) : Type 0 where
   pub sound : (s : List ℕ) (a : A) (r : List ℕ) → p s ≡ took a r → In a × (s ≡ f a ++ r)
-  pub complete : (a : A) (r : List ℕ) → In a → p (f a ++ r) ≡ took a r
+  pub complete : (a : A) (r : List ℕ) → In a → Rest r → p (f a ++ r) ≡ took a r
+
+-- before any rest
+abbrev pub Reads : {A : Type 0} → (A → Type 0) → (A → List ℕ) → (List ℕ → Got A) → Type 0
+Reads In f p = ReadsBefore (λ r. Unit) In f p
+
+-- where the text ends
+abbrev pub ReadsLast : {A : Type 0} → (A → Type 0) → (A → List ℕ) → (List ℕ → Got A) → Type 0
+ReadsLast In f p = ReadsBefore (λ r. r ≡ []) In f p
 
 -- ---- what the steps of a reader came to
 
@@ -68,25 +77,29 @@ module _ {A B : Type 0} (f : A → List ℕ → Got B) where
 
 -- ---- readers of formats
 
-module _ {A : Type 0} {In : A → Type 0} {f : A → List ℕ} {p : List ℕ → Got A} where
+module _ {A : Type 0} {Rest : List ℕ → Type 0} {In : A → Type 0} {f : A → List ℕ} {p : List ℕ → Got A} where
   -- the same values and the same format in other words
   pub reshaped : {In' : A → Type 0} {f' : A → List ℕ}
-      → Reads In f p
+      → ReadsBefore Rest In f p
       → ((a : A) → In a → In' a)
       → ((a : A) → In' a → In a)
       → ((a : A) → In' a → f a ≡ f' a)
-      → Reads In' f' p
+      → ReadsBefore Rest In' f' p
   reshaped {f' = f'} reads to from same =
       record {
         sound =
             λ s a r e.
             let h = reads .sound s a r e in
             (to a (h .0), h .1 ∙ ap (λ (l : List ℕ). l ++ r) (same a (to a (h .0))));
-        complete = λ a r i. ap (λ (l : List ℕ). p (l ++ r)) (sym (same a i)) ∙ reads .complete a r (from a i);
+        complete = λ a r i b. ap (λ (l : List ℕ). p (l ++ r)) (sym (same a i)) ∙ reads .complete a r (from a i) b;
       }
 
+  -- before some of the rests
+  pub narrowed : {Rest' : List ℕ → Type 0} → ReadsBefore Rest In f p → ((r : List ℕ) → Rest' r → Rest r) → ReadsBefore Rest' In f p
+  narrowed reads some = record { sound = reads .sound; complete = λ a r i b. reads .complete a r i (some r b) }
+
   -- only the values that pass a test
-  pub kept-reads : (t : A → Bool) → Reads In f p → Reads (λ a. In a × (t a ≡ true)) f (λ s. kept t (p s))
+  pub kept-reads : (t : A → Bool) → ReadsBefore Rest In f p → ReadsBefore Rest (λ a. In a × (t a ≡ true)) f (λ s. kept t (p s))
   kept-reads t reads =
       record {
         sound =
@@ -94,16 +107,17 @@ module _ {A : Type 0} {In : A → Type 0} {f : A → List ℕ} {p : List ℕ →
             let k = kept-took t (p s) a r e in
             let h = reads .sound s a r (k .1) in
             ((h .0, k .0), h .1);
-        complete = λ a r i. keeps t (p (f a ++ r)) a r (i .1) (reads .complete a r (i .0));
+        complete = λ a r i b. keeps t (p (f a ++ r)) a r (i .1) (reads .complete a r (i .0) b);
       }
 
-  -- a format that begins a longer one: of the values j, whose part `part j` it writes
-  pub chain : {J : Type 0} {InJ : J → Type 0} {g : J → List ℕ} (part : J → A) (q : A → List ℕ → Got J)
-      → Reads In f p
+  -- a format that begins a longer one: of the values j, whose part `part j` it writes, before what the others write
+  pub chain-before : {Rest' : List ℕ → Type 0} {J : Type 0} {InJ : J → Type 0} {g : J → List ℕ} (part : J → A) (q : A → List ℕ → Got J)
+      → ReadsBefore Rest In f p
+      → ((j : J) (r : List ℕ) → InJ j → Rest' r → Rest (g j ++ r))
       → ((j : J) → InJ j → In (part j))
-      → ((a : A) → In a → Reads (λ j. InJ j × (part j ≡ a)) g (q a))
-      → Reads InJ (λ j. f (part j) ++ g j) (λ s. follow (p s) q)
-  chain {g = g} part q reads meant rest =
+      → ((a : A) → In a → ReadsBefore Rest' (λ j. InJ j × (part j ≡ a)) g (q a))
+      → ReadsBefore Rest' InJ (λ j. f (part j) ++ g j) (λ s. follow (p s) q)
+  chain-before {g = g} part q reads before meant rest =
       record {
         sound =
             λ s j r e.
@@ -117,14 +131,45 @@ module _ {A : Type 0} {In : A → Type 0} {f : A → List ℕ} {p : List ℕ →
                   ∙ sym (append-assoc (f (part j)) (g j) r),
             );
         complete =
-            λ j r i.
+            λ j r i b.
             ap (λ (l : List ℕ). follow (p l) q) (append-assoc (f (part j)) (g j) r)
-            ∙ follows q (reads .complete (part j) (g j ++ r) (meant j i))
-            ∙ rest (part j) (meant j i) .complete j r (i, refl);
+            ∙ follows q (reads .complete (part j) (g j ++ r) (meant j i) (before j r i b))
+            ∙ rest (part j) (meant j i) .complete j r (i, refl) b;
       }
 
+module _ {A : Type 0} {In : A → Type 0} {f : A → List ℕ} {p : List ℕ → Got A} where
+  -- a format that is read before any rest
+  pub chain : {Rest : List ℕ → Type 0} {J : Type 0} {InJ : J → Type 0} {g : J → List ℕ} (part : J → A) (q : A → List ℕ → Got J)
+      → Reads In f p
+      → ((j : J) → InJ j → In (part j))
+      → ((a : A) → In a → ReadsBefore Rest (λ j. InJ j × (part j ≡ a)) g (q a))
+      → ReadsBefore Rest InJ (λ j. f (part j) ++ g j) (λ s. follow (p s) q)
+  chain part q reads meant rest = chain-before part q reads (λ j r i b. tt) meant rest
+
+  -- a whole text: the last part, and the end behind it
+  module _ (reads : ReadsLast In f p) where
+    pub whole-sound : (s : List ℕ) (a : A) (r : List ℕ) → follow (p s) atEnd ≡ took a r → In a × (s ≡ f a)
+    unfolding atEnd
+    whole-sound s a r e =
+        let k = follow-took atEnd (p s) a r e in
+        let l = ends (k .0) (k .1) a r (k .3) in
+        let h = reads .sound s (k .0) (k .1) (k .2) in
+        subst (λ (b : A). In b × (s ≡ f b)) (l .0) (h .0, h .1 ∙ ap (λ (t : List ℕ). f (k .0) ++ t) (l .1) ∙ append-nil (f (k .0)))
+      where
+        ends : (b : A) (l : List ℕ) (a : A) (r : List ℕ) → atEnd b l ≡ took a r → (b ≡ a) × (l ≡ [])
+        ends b [] a r e = (cc, refl)
+        ends b (c ∷ l) a r e = never refl e
+
+    pub whole-complete : (a : A) → In a → follow (p (f a)) atEnd ≡ took a []
+    unfolding atEnd
+    whole-complete a i =
+        ap (λ (l : List ℕ). follow (p l) atEnd) (sym (append-nil (f a))) ∙ follows atEnd (reads .complete a [] i refl)
+
 -- the end of a chain: all parts of the value are known
-pub finished : {J : Type 0} {InJ : J → Type 0} (c : J) → InJ c → ((j : J) → InJ j → j ≡ c) → Reads InJ (λ j. []) (λ s. took c s)
+pub finished : {Rest : List ℕ → Type 0} {J : Type 0} {InJ : J → Type 0} (c : J)
+    → InJ c
+    → ((j : J) → InJ j → j ≡ c)
+    → ReadsBefore Rest InJ (λ j. []) (λ s. took c s)
 finished {InJ = InJ} c i one =
     record {
       sound =
@@ -132,15 +177,15 @@ finished {InJ = InJ} c i one =
           let same : c ≡ j = cc in
           let rest : s ≡ r = cc in
           (subst InJ same i, rest);
-      complete = λ j r h. ap (λ k. took k r) (sym (one j h));
+      complete = λ j r h b. ap (λ k. took k r) (sym (one j h));
     }
 
 -- one format or another, where the first reader does not take the second's values
-pub either-reads : {A : Type 0} {In₁ In₂ : A → Type 0} {f : A → List ℕ} {p q : List ℕ → Got A}
-    → Reads In₁ f p
-    → Reads In₂ f q
-    → ((a : A) (r : List ℕ) → In₂ a → p (f a ++ r) ≡ nothing)
-    → Reads (λ a. In₁ a ⊎ In₂ a) f (λ s. orTry (p s) (q s))
+pub either-reads : {A : Type 0} {Rest : List ℕ → Type 0} {In₁ In₂ : A → Type 0} {f : A → List ℕ} {p q : List ℕ → Got A}
+    → ReadsBefore Rest In₁ f p
+    → ReadsBefore Rest In₂ f q
+    → ((a : A) (r : List ℕ) → In₂ a → Rest r → p (f a ++ r) ≡ nothing)
+    → ReadsBefore Rest (λ a. In₁ a ⊎ In₂ a) f (λ s. orTry (p s) (q s))
 unfolding orTry
 either-reads {f = f} {p = p} {q = q} one two apart =
     record {
@@ -149,11 +194,66 @@ either-reads {f = f} {p = p} {q = q} one two apart =
           ⊎-elim (λ g. let h = one .sound s a r g in (inl (h .0), h .1)) (λ g. let h = two .sound s a r g in (inr (h .0), h .1))
           (either-took (p s) (q s) a r e);
       complete =
-          λ a r i.
-          ⊎-elim (λ h. ap (λ g. orTry g (q (f a ++ r))) (one .complete a r h))
-          (λ h. ap (λ g. orTry g (q (f a ++ r))) (apart a r h) ∙ two .complete a r h)
+          λ a r i b.
+          ⊎-elim (λ h. ap (λ g. orTry g (q (f a ++ r))) (one .complete a r h b))
+          (λ h. ap (λ g. orTry g (q (f a ++ r))) (apart a r h b) ∙ two .complete a r h b)
           i;
     }
+
+-- ---- a line that may be left out
+
+-- the value of its line, or that it was left out
+pub data Said (A : Type 0) : Type 0 where
+  said : A → Said A
+  unsaid : Said A
+
+module _ {A : Type 0} where
+  abbrev pub saidText : (A → List ℕ) → Said A → List ℕ
+  saidText f (said a) = f a
+  saidText f unsaid = []
+
+  abbrev pub InSaid : (A → Type 0) → Said A → Type 0
+  InSaid In (said a) = In a
+  InSaid In unsaid = Unit
+
+  unfoldable pub optional : (List ℕ → Got A) → List ℕ → Got (Said A)
+  optional p s = orTry (follow (p s) (λ a s. took (said a) s)) (took unsaid s)
+
+  module _ {In : A → Type 0} {f : A → List ℕ} {p : List ℕ → Got A} (reads : Reads In f p) where
+    -- before what its reader does not take
+    pub option-reads : ReadsBefore (λ r. p r ≡ nothing) (InSaid In) (saidText f) (optional p)
+    unfolding optional orTry follow
+    option-reads = record { sound = λ s x r e. by s x r (p s) refl e; complete = complete }
+      where
+        optionOf : Got A → List ℕ → Got (Said A)
+        optionOf g s = orTry (follow g (λ a s. took (said a) s)) (took unsaid s)
+
+        by : (s : List ℕ) (x : Said A) (r : List ℕ) (g : Got A) → p s ≡ g → optionOf g s ≡ took x r → InSaid In x × (s ≡ saidText f x ++ r)
+        by s x r (took a t) q e =
+            let same : said a ≡ x = cc in
+            let rest : t ≡ r = cc in
+            let h = reads .sound s a t q in
+            subst (λ (y : Said A). InSaid In y × (s ≡ saidText f y ++ r)) same (h .0, h .1 ∙ ap (λ (l : List ℕ). f a ++ l) rest)
+        by s x r nothing q e =
+            let same : unsaid ≡ x = cc in
+            let rest : s ≡ r = cc in
+            subst (λ (y : Said A). InSaid In y × (s ≡ saidText f y ++ r)) same (tt, rest)
+
+        complete : (x : Said A) (r : List ℕ) → InSaid In x → p r ≡ nothing → optional p (saidText f x ++ r) ≡ took x r
+        complete (said a) r i b = ap (λ (g : Got A). optionOf g (f a ++ r)) (reads .complete a r i tt)
+        complete unsaid r i b = ap (λ (g : Got A). optionOf g r) b
+
+    -- it is read with the part that must follow it
+    pub option-then : {Rest : List ℕ → Type 0} {J : Type 0} {InJ : J → Type 0} {g : J → List ℕ} (part : J → Said A) (q : Said A → List ℕ → Got J)
+        → ((j : J) (r : List ℕ) → InJ j → p (g j ++ r) ≡ nothing)
+        → ((j : J) → InJ j → InSaid In (part j))
+        → ((a : Said A) → InSaid In a → ReadsBefore Rest (λ j. InJ j × (part j ≡ a)) g (q a))
+        → ReadsBefore Rest InJ (λ j. saidText f (part j) ++ g j) (λ s. follow (optional p s) q)
+    option-then part q apart meant rest = chain-before part q option-reads (λ j r i b. apart j r i) meant rest
+
+    -- the last one is read with the end of the text
+    pub option-last : p [] ≡ nothing → ReadsLast (InSaid In) (saidText f) (optional p)
+    option-last none = narrowed option-reads (λ r e. ap p e ∙ none)
 
 -- ---- words, and a word before a format
 
@@ -173,7 +273,7 @@ finds [] u r = refl
 finds (c ∷ w) u r = rw (eq-eqb c c refl) (finds w u r)
 
 pub word-reads : (w : List ℕ) → Reads (λ (u : Unit). Unit) (λ u. w) (wordAt w)
-word-reads w = record { sound = λ s u r e. (tt, found w s u r e); complete = λ u r i. finds w u r }
+word-reads w = record { sound = λ s u r e. (tt, found w s u r e); complete = λ u r i b. finds w u r }
 
 pub keyed-reads : {A : Type 0} {In : A → Type 0} {f : A → List ℕ} {p : List ℕ → Got A} (key : List ℕ)
     → Reads In f p

@@ -16,6 +16,7 @@ use Rattle.text.specs.declared.Three.{Three}
 use Rattle.text.specs.declared.Head.{Head}
 use Rattle.text.specs.declared.Tail.{Tail}
 use Rattle.text.specs.Words.{bytes, space, lf, decimal, hex8, digits, spaced, line, lines}
+use Rattle.text.specs.Limits.{mostVertices, mostIndices, mostCells, mostEntries, indexRoom}
 use Rattle.text.specs.TextJob.{
   TextJob,
   TextIndices,
@@ -24,14 +25,22 @@ use Rattle.text.specs.TextJob.{
   numbers,
   floats,
   topologyText,
+  headText,
   vertexLine,
+  verticesText,
   indexLine,
   indicesText,
+  tailText,
   jobText,
   Word,
   Words,
   All,
   indexList,
+  cellsOf,
+  HeadFits,
+  VerticesFit,
+  IndicesFit,
+  TailFits,
   Readable,
 }
 use Rattle.text.specs.Reader.{
@@ -60,10 +69,9 @@ use Rattle.text.specs.Reader.{
   tailAt,
   assembled,
   jobAt,
-  atEnd,
   wholeJob,
 }
-use Rattle.text.proofs.Formats.{Reads, reshaped, kept-reads, chain, finished, either-reads, keyed-reads, constant-reads, follow-took, follows, follows-not, never}
+use Rattle.text.proofs.Formats.{Reads, ReadsLast, reshaped, narrowed, kept-reads, chain, finished, either-reads, whole-sound, whole-complete, keyed-reads, constant-reads, follows-not, never}
 use Rattle.text.proofs.Numbers.{number-reads, bits-reads, starts}
 use Rattle.text.proofs.Lines.{lines-reads}
 
@@ -109,11 +117,11 @@ floats-line : (key : String) → Reads Words (λ t. line key (floats t)) (floats
 unfolding floatsLine
 floats-line key = line-reads floats key (three-reads {p = bitsAt} hex8 (λ stop h. bits-reads stop))
 
-count-line : Reads (λ c. Words c × (c .x * c .y * c .z ≤ 512)) (λ c. line "count=" (numbers c)) countLine
+count-line : Reads (λ c. Words c × (cellsOf c ≤ mostCells)) (λ c. line "count=" (numbers c)) countLine
 unfolding countLine
 count-line =
-    reshaped (kept-reads fewCells (line-reads numbers "count=" (three-reads decimal number-reads))) (λ c i. (i .0, leb-true _ 512 (i .1)))
-    (λ c i. (i .0, le-leb _ 512 (i .1)))
+    reshaped (kept-reads fewCells (line-reads numbers "count=" (three-reads decimal number-reads))) (λ c i. (i .0, leb-true _ mostCells (i .1)))
+    (λ c i. (i .0, le-leb _ mostCells (i .1)))
     (λ c i. refl)
 
 topology-line : Reads (λ t. Unit) (λ t. line "topology=" (topologyText t)) topologyLine
@@ -121,7 +129,7 @@ unfolding topologyLine line wordAt follow
 topology-line =
     reshaped
     (either-reads (constant-reads (bytes "topology=list\n") TriangleList refl) (constant-reads (bytes "topology=strip\n") TriangleStrip refl)
-    (λ t r i. apart t r i))
+    (λ t r i b. apart t r i))
     (λ t h. tt)
     (λ t h. one t)
     (λ t h. refl)
@@ -137,109 +145,102 @@ topology-line =
 
 -- ---- the parts of a job
 
-Few : List Three → Type 0
-Few vs = (length vs ≤ 256) × All Words vs
-
-verticesText : List Three → List ℕ
-verticesText vs = line "vertices=" (decimal (length vs)) ++ lines vertexLine vs
-
-vertices-read : Reads Few verticesText verticesAt
-unfolding verticesAt Few verticesText
+vertices-read : Reads VerticesFit verticesText verticesAt
+unfolding verticesAt verticesText
 vertices-read =
-    chain length _ (number-line "vertices=" 256 (omega arith)) (λ vs h. h .0)
+    chain length _ (number-line "vertices=" mostVertices (omega arith)) (λ vs h. h .few)
     (λ n i.
-    reshaped (lines-reads (floats-line "v=") n) (λ vs h. ((subst (λ (k : ℕ). k ≤ 256) (sym (h .0)) i, h .1), h .0)) (λ vs h. (h .1, h .0 .1))
+    reshaped (lines-reads (floats-line "v=") n)
+    (λ vs h. (record { few = subst (λ (k : ℕ). k ≤ mostVertices) (sym (h .0)) i; fit = h .1 }, h .0))
+    (λ vs h. (h .1, h .0 .fit))
     (λ vs h. refl))
 
--- indices that are given
-Many : TextIndices → Type 0
-Many none = ⊥
-Many (these is) = (length is ≤ 768) × All Word is
+-- the buffer for indices holds those of either topology
+pub most-held : (t : Topology) → mostIndices t ≤ indexRoom
+most-held TriangleList = omega arith
+most-held TriangleStrip = omega arith
 
-given-read : Reads Many indicesText (λ s. follow (numberLine (bytes "indices=") 768 s) (λ n s. follow (linesAt n indexAt s) (λ is s. took (these is) s)))
-unfolding Many indicesText
-given-read =
-    reshaped
-    (chain {g = λ l. lines indexLine (indexList l) ++ []} (λ (l : TextIndices). length (indexList l)) _ (number-line "indices=" 768 (omega arith)) (λ l h. few l h)
-    (λ n i.
-    chain indexList _ (lines-reads index n) (λ l h. (h .1, fit l (h .0)))
-    (λ is k. finished (these is) (((subst (λ (m : ℕ). m ≤ 768) (sym (k .0)) i, k .1), k .0), refl) (λ l h. same l is (h .0 .0) (h .1)))))
-    (λ l h. h)
-    (λ l h. h)
-    (λ l h. text l h)
-  where
-    index : Reads Word indexLine indexAt
-    index = reshaped (number-line "i=" 4294967295 (omega arith)) (λ n h. omega arith) (λ n h. omega arith) (λ n h. refl)
+module _ (t : Topology) where
+  -- indices that are given
+  Many : TextIndices → Type 0
+  Many none = ⊥
+  Many (these is) = IndicesFit t (these is)
 
-    few : (l : TextIndices) → Many l → length (indexList l) ≤ 768
-    few none h = absurd h
-    few (these is) h = h .0
+  given-read : Reads Many indicesText
+      (λ s. follow (numberLine (bytes "indices=") (mostIndices t) s) (λ n s. follow (linesAt n indexAt s) (λ is s. took (these is) s)))
+  unfolding Many indicesText
+  given-read =
+      reshaped
+      (chain {g = λ l. lines indexLine (indexList l) ++ []} (λ (l : TextIndices). length (indexList l)) _
+      (number-line "indices=" (mostIndices t) (omega (arith, most-held t)))
+      (λ l h. few l h)
+      (λ n i.
+      chain indexList _ (lines-reads index n) (λ l h. (h .1, fit l (h .0)))
+      (λ is k.
+      finished (these is) ((record { few = subst (λ (m : ℕ). m ≤ mostIndices t) (sym (k .0)) i; fit = k .1 }, k .0), refl)
+      (λ l h. same l is (h .0 .0) (h .1)))))
+      (λ l h. h)
+      (λ l h. h)
+      (λ l h. text l h)
+    where
+      index : Reads Word indexLine indexAt
+      index = reshaped (number-line "i=" 4294967295 (omega arith)) (λ n h. omega arith) (λ n h. omega arith) (λ n h. refl)
 
-    fit : (l : TextIndices) → Many l → All Word (indexList l)
-    fit none h = absurd h
-    fit (these is) h = h .1
+      few : (l : TextIndices) → Many l → length (indexList l) ≤ mostIndices t
+      few none h = absurd h
+      few (these is) h = h .few
 
-    same : (l : TextIndices) (is : List ℕ) → Many l → indexList l ≡ is → l ≡ these is
-    same none is h e = absurd h
-    same (these js) is h e = ap these e
+      fit : (l : TextIndices) → Many l → All Word (indexList l)
+      fit none h = absurd h
+      fit (these is) h = h .fit
 
-    text : (l : TextIndices) → Many l → line "indices=" (decimal (length (indexList l))) ++ (lines indexLine (indexList l) ++ []) ≡ indicesText l
-    text none h = absurd h
-    text (these is) h = ap (λ (k : List ℕ). line "indices=" (decimal (length is)) ++ k) (append-nil (lines indexLine is))
+      same : (l : TextIndices) (is : List ℕ) → Many l → indexList l ≡ is → l ≡ these is
+      same none is h e = absurd h
+      same (these js) is h e = ap these e
+
+      text : (l : TextIndices) → Many l → line "indices=" (decimal (length (indexList l))) ++ (lines indexLine (indexList l) ++ []) ≡ indicesText l
+      text none h = absurd h
+      text (these is) h = ap (λ (k : List ℕ). line "indices=" (decimal (length is)) ++ k) (append-nil (lines indexLine is))
 
 -- the digit that a count begins with is not the n of `none`
 not-none : (c : ℕ) (s : List ℕ) → c < 58 → wordAt (bytes "indices=none\n") (bytes "indices=" ++ (c ∷ s)) ≡ nothing
 unfolding wordAt
 not-none c s h = rw (ne-eqb c 110 (λ e. omega arith))
 
-Fitting : TextIndices → Type 0
-Fitting l = (length (indexList l) ≤ 768) × All Word (indexList l)
-
 digits-then : (is : List ℕ) (r : List ℕ)
     → indicesText (these is) ++ r ≡ bytes "indices=" ++ (decimal (length is) ++ (lf ∷ (lines indexLine is ++ r)))
 unfolding indicesText line
 digits-then is r = simp append-assoc
 
-apart : (l : TextIndices) (r : List ℕ) → Many l → follow (wordAt (bytes "indices=none\n") (indicesText l ++ r)) (λ u s. took none s) ≡ nothing
-unfolding Many
-apart none r h = absurd h
-apart (these is) r h =
-    let d = starts 9 (length is) (omega arith) in
-    let rest = lf ∷ (lines indexLine is ++ r) in
-    follows-not _
-    (ap (wordAt (bytes "indices=none\n")) (digits-then is r ∙ ap (λ (l : List ℕ). bytes "indices=" ++ (l ++ rest)) (d .2))
-    ∙ not-none (d .0) (d .1 ++ rest) (d .3))
+module _ (t : Topology) where
+  apart : (l : TextIndices) (r : List ℕ)
+      → Many t l
+      → follow (wordAt (bytes "indices=none\n") (indicesText l ++ r)) (λ u s. took none s) ≡ nothing
+  unfolding Many
+  apart none r h = absurd h
+  apart (these is) r h =
+      let d = starts 9 (length is) (omega (arith, h .few, most-held t)) in
+      let rest = lf ∷ (lines indexLine is ++ r) in
+      follows-not _
+      (ap (wordAt (bytes "indices=none\n")) (digits-then is r ∙ ap (λ (l : List ℕ). bytes "indices=" ++ (l ++ rest)) (d .2))
+      ∙ not-none (d .0) (d .1 ++ rest) (d .3))
 
-indices-read : Reads Fitting indicesText indicesAt
-unfolding indicesAt Fitting Many All indicesText line
-indices-read =
-    reshaped (either-reads (constant-reads (bytes "indices=none\n") none refl) given-read apart) (λ l h. fits l h) (λ l h. one l h)
-    (λ l h. refl)
-  where
-    fits : (l : TextIndices) → (l ≡ none) ⊎ Many l → Fitting l
-    fits none h = (omega arith, tt)
-    fits (these is) (inl e) = absurd (let z : _≡_ {A = ℕ} 0 1 = cc in omega arith)
-    fits (these is) (inr h) = h
+  indices-read : Reads (IndicesFit t) indicesText (indicesAt t)
+  unfolding indicesAt Many All indicesText line
+  indices-read =
+      reshaped (either-reads (constant-reads (bytes "indices=none\n") none refl) (given-read t) (λ l r h b. apart l r h)) (λ l h. fits l h) (λ l h. one l h)
+      (λ l h. refl)
+    where
+      fits : (l : TextIndices) → (l ≡ none) ⊎ Many t l → IndicesFit t l
+      fits none h = record { few = omega arith; fit = tt }
+      fits (these is) (inl e) = absurd (let z : _≡_ {A = ℕ} 0 1 = cc in omega arith)
+      fits (these is) (inr h) = h
 
-    one : (l : TextIndices) → Fitting l → (l ≡ none) ⊎ Many l
-    one none h = inl refl
-    one (these is) h = inr h
+      one : (l : TextIndices) → IndicesFit t l → (l ≡ none) ⊎ Many t l
+      one none h = inl refl
+      one (these is) h = inr h
 
--- the lines before the vertices
-record Sound (h : Head) : Type 0 where
-  counts-fit : Words (h .count)
-  cells-few : h .count .x * h .count .y * h .count .z ≤ 512
-  first-fits : Words (h .first)
-  size-fits : Words (h .size)
-
-headText : Head → List ℕ
-headText h =
-    line "count=" (numbers (h .count))
-    ++ line "first=" (floats (h .first))
-    ++ line "size=" (floats (h .size))
-    ++ line "topology=" (topologyText (h .topology))
-
-head-read : Reads Sound headText headAt
+head-read : Reads HeadFits headText headAt
 unfolding headAt headText
 head-read =
     reshaped
@@ -261,96 +262,55 @@ head-read =
     (λ h i. i)
     (λ h i. simp (append-assoc, append-nil))
 
--- the lines after the indices
-record Bounded (t : Tail) : Type 0 where
-  room-fits : t .room ≤ 2048
-  limit-fits : t .limit < 2 ^ 32
-
-tailText : Tail → List ℕ
-tailText t = line "queue=" (decimal (t .room)) ++ line "pops=" (decimal (t .limit))
-
-tail-read : Reads Bounded tailText tailAt
+tail-read : Reads TailFits tailText tailAt
 unfolding tailAt tailText
 tail-read =
     reshaped
-    (chain {g = λ t. line "pops=" (decimal (t .limit)) ++ []} (λ (t : Tail). t .room) _ (number-line "queue=" 2048 (omega arith)) (λ t i. i .room-fits)
+    (chain {g = λ t. line "pops=" (decimal (t .limit)) ++ []} (λ (t : Tail). t .room) _ (number-line "queue=" mostEntries (omega arith))
+    (λ t i. i .room-few)
     (λ room ir.
     chain (λ (t : Tail). t .limit) _ (number-line "pops=" 4294967295 (omega arith)) (λ t i. let w = i .0 .limit-fits in omega arith)
     (λ limit il.
-    finished (tail room limit) ((record { room-fits = ir; limit-fits = omega arith }, refl), refl) (λ t i. rw (← i .0 .1, ← i .1)))))
+    finished (tail room limit) ((record { room-few = ir; limit-fits = omega arith }, refl), refl) (λ t i. rw (← i .0 .1, ← i .1)))))
     (λ t i. i)
     (λ t i. i)
     (λ t i. simp append-nil)
 
 -- ---- the whole
 
-headOf : TextJob → Head
-headOf j = head (j .count) (j .first) (j .size) (j .topology)
-
-tailOf : TextJob → Tail
-tailOf j = tail (j .room) (j .limit)
-
 pub job-reads : Reads Readable jobText jobAt
-unfolding jobAt jobText headOf tailOf headText verticesText tailText Few Fitting
+unfolding jobAt jobText
 job-reads =
     reshaped
-    (chain {g = λ j. verticesText (j .vertices) ++ (indicesText (j .indices) ++ (tailText (tailOf j) ++ []))} headOf _ head-read
-    (λ j i. record { counts-fit = i .counts-fit; cells-few = i .cells-few; first-fits = i .first-fits; size-fits = i .size-fits })
+    (chain {g = λ j. verticesText (j .vertices) ++ (indicesText (j .indices) ++ (tailText (j .tail) ++ []))} (λ (j : TextJob). j .head) _ head-read
+    (λ j i. i .head-fits)
     (λ h ih.
-    chain {g = λ j. indicesText (j .indices) ++ (tailText (tailOf j) ++ [])} (λ (j : TextJob). j .vertices) _ vertices-read
-    (λ j i. (i .0 .vertices-few, i .0 .vertices-fit))
+    chain {g = λ j. indicesText (j .indices) ++ (tailText (j .tail) ++ [])} (λ (j : TextJob). j .vertices) _ vertices-read
+    (λ j i. i .0 .vertices-fit)
     (λ vs iv.
-    chain {g = λ j. tailText (tailOf j) ++ []} (λ (j : TextJob). j .indices) _ indices-read
-    (λ j i. (i .0 .0 .indices-few, i .0 .0 .indices-fit))
+    chain {g = λ j. tailText (j .tail) ++ []} (λ (j : TextJob). j .indices) _ (indices-read (h .topology))
+    (λ j i. subst (λ (k : Head). IndicesFit (k .topology) (j .indices)) (i .0 .1) (i .0 .0 .indices-fit))
     (λ is ii.
-    chain tailOf _ tail-read (λ j i. let r = i .0 .0 .0 in record { room-fits = r .room-fits; limit-fits = r .limit-fits })
+    chain (λ (j : TextJob). j .tail) _ tail-read (λ j i. i .0 .0 .0 .tail-fits)
     (λ t it.
-    finished (assembled h vs is t) (
-      (
-        (
-          (
-            record {
-              counts-fit = ih .counts-fit;
-              cells-few = ih .cells-few;
-              first-fits = ih .first-fits;
-              size-fits = ih .size-fits;
-              vertices-few = iv .0;
-              vertices-fit = iv .1;
-              indices-few = ii .0;
-              indices-fit = ii .1;
-              room-fits = it .room-fits;
-              limit-fits = it .limit-fits;
-            },
-            refl,
-          ),
-          refl,
-        ),
-        refl,
-      ),
-      refl,
-    )
+    finished (assembled h vs is t)
+    ((((record { head-fits = ih; vertices-fit = iv; indices-fit = ii; tail-fits = it }, refl), refl), refl), refl)
     (λ j i. rw (← i .0 .0 .0 .1, ← i .0 .0 .1, ← i .0 .1, ← i .1)))))))
     (λ j i. i)
     (λ j i. i)
     (λ j i. simp (append-assoc, append-nil))
 
+last : ReadsLast Readable jobText jobAt
+last = narrowed job-reads (λ r e. tt)
+
 -- what is taken whole is the text of a job within the limits
 pub whole-taken : (s : List ℕ) (j : TextJob) (r : List ℕ) → wholeJob s ≡ took j r → Readable j × (s ≡ jobText j)
-unfolding wholeJob atEnd
-whole-taken s j r e =
-    let k = follow-took atEnd (jobAt s) j r e in
-    let a = ends (k .0) (k .1) j r (k .3) in
-    let h = job-reads .sound s (k .0) (k .1) (k .2) in
-    subst (λ (i : TextJob). Readable i × (s ≡ jobText i)) (a .0) (h .0, h .1 ∙ ap (λ (l : List ℕ). jobText (k .0) ++ l) (a .1) ∙ append-nil (jobText (k .0)))
-  where
-    ends : (i : TextJob) (l : List ℕ) (j : TextJob) (r : List ℕ) → atEnd i l ≡ took j r → (i ≡ j) × (l ≡ [])
-    ends i [] j r e = (cc, refl)
-    ends i (b ∷ l) j r e = never refl e
+unfolding wholeJob
+whole-taken = whole-sound last
 
 pub whole-takes : (j : TextJob) → Readable j → wholeJob (jobText j) ≡ took j []
-unfolding wholeJob atEnd
-whole-takes j i =
-    ap (λ (l : List ℕ). wholeJob l) (sym (append-nil (jobText j))) ∙ follows atEnd (job-reads .complete j [] i)
+unfolding wholeJob
+whole-takes = whole-complete last
 
 -- what is refused is the text of no such job
 pub whole-refused : (s : List ℕ) → wholeJob s ≡ nothing → (j : TextJob) → Readable j → s ≡ jobText j → ⊥

@@ -41,11 +41,11 @@ module _ {A : Type 0} {In : A → Type 0} {f : A → List ℕ} {p : List ℕ →
   lines-complete (suc n) [] r i = absurd (omega (arith, i .0))
   lines-complete (suc n) (a ∷ l) r i =
       ap (λ (q : List ℕ). linesAt (suc n) p q) (append-assoc (f a) (lines f l) r)
-      ∙ follows _ (reads .complete a (lines f l ++ r) (i .1 .0))
+      ∙ follows _ (reads .complete a (lines f l ++ r) (i .1 .0) tt)
       ∙ follows _ (lines-complete n l r (omega (arith, i .0), i .1 .1))
 
   pub lines-reads : (n : ℕ) → Reads (λ l. (length l ≡ n) × All In l) (lines f) (linesAt n p)
-  lines-reads n = record { sound = lines-sound n; complete = lines-complete n }
+  lines-reads n = record { sound = lines-sound n; complete = λ l r i b. lines-complete n l r i }
 
 -- ---- a loop over n lines: `done` are the i that it has read
 

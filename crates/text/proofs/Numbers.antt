@@ -161,7 +161,7 @@ module _ (stop : ℕ) (stops : stop < 48) where
       record {
         sound = number-sound;
         complete =
-            λ n r w. ap (numberAt stop) (append-assoc (decimal n) (stop ∷ []) r) ∙ reads-on 9 n (stop ∷ r) (omega arith) w ∙ ended n r;
+            λ n r w b. ap (numberAt stop) (append-assoc (decimal n) (stop ∷ []) r) ∙ reads-on 9 n (stop ∷ r) (omega arith) w ∙ ended n r;
       }
 
 -- ---- hex numbers
@@ -236,5 +236,5 @@ module _ (stop : ℕ) where
       record {
         sound = bits-sound;
         complete =
-            λ b r w. ap (bitsAt stop) (append-assoc (hex8 b) (stop ∷ []) r) ∙ hex-reads-on 8 0 b (stop ∷ r) w ∙ hex-ended b r;
+            λ n r w b. ap (bitsAt stop) (append-assoc (hex8 n) (stop ∷ []) r) ∙ hex-reads-on 8 0 n (stop ∷ r) w ∙ hex-ended n r;
       }

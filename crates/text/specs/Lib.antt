@@ -1,3 +1,4 @@
 pub mod Words
+pub mod Limits
 pub mod TextJob
 pub mod Reader

@@ -6,11 +6,14 @@ use mathlib.Core.List.{List, [], _∷_}
 use lib.Dec.{eqb, leb, ltb}
 use Rattle.mesh_topology.specs.declared.Topology.{Topology}
 use Rattle.mesh_topology.specs.declared.Topology.the-variants.{TriangleList, TriangleStrip}
+use Rattle.text.specs.declared.Form.{Form}
+use Rattle.text.specs.declared.Form.the-variants.{Decimal, Hex8}
 use Rattle.text.specs.declared.Three.{Three}
 use Rattle.text.specs.declared.Head.{Head}
 use Rattle.text.specs.declared.Tail.{Tail}
 use Rattle.text.specs.Words.{bytes, space, lf}
-use Rattle.text.specs.TextJob.{TextJob, TextIndices, none, these}
+use Rattle.text.specs.Limits.{mostVertices, mostIndices, mostCells, mostEntries}
+use Rattle.text.specs.TextJob.{TextJob, TextIndices, none, these, cellsOf}
 
 -- what stands at the front of a text: a value, and what follows it; or no such value
 pub data Got (A : Type 0) : Type 0 where
@@ -73,6 +76,11 @@ hexAt stop (suc n) v (b ∷ s) = cond (ltb (hexValue b) 16) (hexAt stop n (16 * 
 abbrev pub bitsAt : ℕ → List ℕ → Got ℕ
 bitsAt stop s = hexAt stop 8 0 s
 
+-- a number in either form, and the byte `stop`
+abbrev pub valueAt : Form → ℕ → List ℕ → Got ℕ
+valueAt Decimal = numberAt
+valueAt Hex8 = bitsAt
+
 -- ---- lines
 
 abbrev pub three : ℕ → ℕ → ℕ → Three
@@ -92,7 +100,7 @@ floatsLine key s = follow (wordAt key s) (λ _ s. threeNumbers bitsAt s)
 
 -- "512 cells"
 abbrev pub fewCells : Three → Bool
-fewCells c = leb (c .x * c .y * c .z) 512
+fewCells c = leb (cellsOf c) mostCells
 
 unfoldable pub countLine : List ℕ → Got Three
 countLine s = kept fewCells (follow (wordAt (bytes "count=") s) (λ _ s. threeNumbers numberAt s))
@@ -125,43 +133,35 @@ abbrev pub vertexLineAt : List ℕ → Got Three
 vertexLineAt s = floatsLine (bytes "v=") s
 
 unfoldable pub verticesAt : List ℕ → Got (List Three)
-verticesAt s = follow (numberLine (bytes "vertices=") 256 s) (λ n s. linesAt n vertexLineAt s)
+verticesAt s = follow (numberLine (bytes "vertices=") mostVertices s) (λ n s. linesAt n vertexLineAt s)
 
 abbrev pub indexAt : List ℕ → Got ℕ
 indexAt s = numberLine (bytes "i=") 4294967295 s
 
-unfoldable pub indicesAt : List ℕ → Got TextIndices
-indicesAt s =
+-- of a topology
+unfoldable pub indicesAt : Topology → List ℕ → Got TextIndices
+indicesAt t s =
     orTry (follow (wordAt (bytes "indices=none\n") s) (λ _ s. took none s))
-    (follow (numberLine (bytes "indices=") 768 s) (λ n s. follow (linesAt n indexAt s) (λ is s. took (these is) s)))
+    (follow (numberLine (bytes "indices=") (mostIndices t) s)
+    (λ n s. follow (linesAt n indexAt s) (λ is s. took (these is) s)))
 
 abbrev pub tail : ℕ → ℕ → Tail
 tail room limit = record { room = room; limit = limit }
 
 unfoldable pub tailAt : List ℕ → Got Tail
 tailAt s =
-    follow (numberLine (bytes "queue=") 2048 s)
+    follow (numberLine (bytes "queue=") mostEntries s)
     (λ room s. follow (numberLine (bytes "pops=") 4294967295 s) (λ limit s. took (tail room limit) s))
 
 abbrev pub assembled : Head → List Three → TextIndices → Tail → TextJob
-assembled h vs is t =
-    record {
-      count = h .count;
-      first = h .first;
-      size = h .size;
-      topology = h .topology;
-      vertices = vs;
-      indices = is;
-      room = t .room;
-      limit = t .limit;
-    }
+assembled h vs is t = record { head = h; vertices = vs; indices = is; tail = t }
 
 unfoldable pub jobAt : List ℕ → Got TextJob
 jobAt s =
     follow (headAt s)
     (λ h s.
     follow (verticesAt s)
-    (λ vs s. follow (indicesAt s) (λ is s. follow (tailAt s) (λ t s. took (assembled h vs is t) s))))
+    (λ vs s. follow (indicesAt (h .topology) s) (λ is s. follow (tailAt s) (λ t s. took (assembled h vs is t) s))))
 
 -- "nothing after the last"
 unfoldable pub atEnd : {A : Type 0} → A → List ℕ → Got A

@@ -8,8 +8,13 @@ use Rattle.mesh_topology.specs.declared.Topology.{Topology}
 use Rattle.mesh_topology.specs.declared.Topology.the-variants.{TriangleList, TriangleStrip}
 use Rattle.mesh_topology.specs.declared.Indices.{Indices}
 use Rattle.mesh_topology.specs.declared.Indices.the-variants.{Given, None}
+use Rattle.text.specs.declared.Form.{Form}
+use Rattle.text.specs.declared.Form.the-variants.{Decimal, Hex8}
 use Rattle.text.specs.declared.Three.{Three}
+use Rattle.text.specs.declared.Head.{Head}
+use Rattle.text.specs.declared.Tail.{Tail}
 use Rattle.text.specs.Words.{bytes, decimal, hex8, spaced, line, lines}
+use Rattle.text.specs.Limits.{mostVertices, mostIndices, mostCells, mostEntries}
 
 -- "Indices may be `indices=none` with no `i` lines."
 pub data TextIndices : Type 0 where
@@ -17,31 +22,46 @@ pub data TextIndices : Type 0 where
   these : List ℕ → TextIndices
 
 pub record TextJob : Type 0 where
-  pub count : Three
-  -- the bits of the first cell's centre and of the cell size
-  pub first : Three
-  pub size : Three
-  pub topology : Topology
+  -- the counts, the bits of the first cell's centre and of the cell size, and the topology
+  pub head : Head
   -- the bits of each vertex
   pub vertices : List Three
   pub indices : TextIndices
   -- the queue room and the pop limit
-  pub room : ℕ
-  pub limit : ℕ
+  pub tail : Tail
+
+-- a number in either form
+abbrev pub spelled : Form → ℕ → List ℕ
+spelled Decimal n = decimal n
+spelled Hex8 n = hex8 n
+
+abbrev pub threeText : Form → Three → List ℕ
+threeText f t = spaced (spelled f (t .x)) (spelled f (t .y)) (spelled f (t .z))
 
 abbrev pub numbers : Three → List ℕ
-numbers t = spaced (decimal (t .x)) (decimal (t .y)) (decimal (t .z))
+numbers t = threeText Decimal t
 
 abbrev pub floats : Three → List ℕ
-floats t = spaced (hex8 (t .x)) (hex8 (t .y)) (hex8 (t .z))
+floats t = threeText Hex8 t
 
 -- "The topology is `list` or `strip`."
 abbrev pub topologyText : Topology → List ℕ
 topologyText TriangleList = bytes "list"
 topologyText TriangleStrip = bytes "strip"
 
+-- the lines before the vertices
+unfoldable pub headText : Head → List ℕ
+headText h =
+    line "count=" (numbers (h .count))
+    ++ line "first=" (floats (h .first))
+    ++ line "size=" (floats (h .size))
+    ++ line "topology=" (topologyText (h .topology))
+
 abbrev pub vertexLine : Three → List ℕ
 vertexLine v = line "v=" (floats v)
+
+unfoldable pub verticesText : List Three → List ℕ
+verticesText vs = line "vertices=" (decimal (length vs)) ++ lines vertexLine vs
 
 abbrev pub indexLine : ℕ → List ℕ
 indexLine i = line "i=" (decimal i)
@@ -50,18 +70,13 @@ unfoldable pub indicesText : TextIndices → List ℕ
 indicesText none = line "indices=" (bytes "none")
 indicesText (these is) = line "indices=" (decimal (length is)) ++ lines indexLine is
 
+-- the lines after the indices
+unfoldable pub tailText : Tail → List ℕ
+tailText t = line "queue=" (decimal (t .room)) ++ line "pops=" (decimal (t .limit))
+
 -- the lines "in a fixed order", "nothing after the last"
 unfoldable pub jobText : TextJob → List ℕ
-jobText j =
-    line "count=" (numbers (j .count))
-    ++ line "first=" (floats (j .first))
-    ++ line "size=" (floats (j .size))
-    ++ line "topology=" (topologyText (j .topology))
-    ++ line "vertices=" (decimal (length (j .vertices)))
-    ++ lines vertexLine (j .vertices)
-    ++ indicesText (j .indices)
-    ++ line "queue=" (decimal (j .room))
-    ++ line "pops=" (decimal (j .limit))
+jobText j = headText (j .head) ++ verticesText (j .vertices) ++ indicesText (j .indices) ++ tailText (j .tail)
 
 -- ---- what it stands for
 
@@ -95,15 +110,32 @@ unfoldable pub All : {A : Type 0} → (A → Type 0) → List A → Type 0
 All P [] = Unit
 All P (x ∷ xs) = P x × All P xs
 
--- "Its own limits: 256 vertices, 768 indices, 512 cells, 2,048 entries." Cells are the product of the counts, which may be 0.
+-- "Its own limits: 256 vertices, 768 indices, 512 cells, 2,048 entries." (Limits.antt), by the parts of a text
+
+-- cells are the product of the counts, which may be 0
+abbrev pub cellsOf : Three → ℕ
+cellsOf n = n .x * n .y * n .z
+
+pub record HeadFits (h : Head) : Type 0 where
+  pub counts-fit : Words (h .count)
+  pub cells-few : cellsOf (h .count) ≤ mostCells
+  pub first-fits : Words (h .first)
+  pub size-fits : Words (h .size)
+
+pub record VerticesFit (vs : List Three) : Type 0 where
+  pub few : length vs ≤ mostVertices
+  pub fit : All Words vs
+
+pub record IndicesFit (t : Topology) (l : TextIndices) : Type 0 where
+  pub few : length (indexList l) ≤ mostIndices t
+  pub fit : All Word (indexList l)
+
+pub record TailFits (t : Tail) : Type 0 where
+  pub room-few : t .room ≤ mostEntries
+  pub limit-fits : Word (t .limit)
+
 pub record Readable (j : TextJob) : Type 0 where
-  pub counts-fit : Words (j .count)
-  pub cells-few : j .count .x * j .count .y * j .count .z ≤ 512
-  pub first-fits : Words (j .first)
-  pub size-fits : Words (j .size)
-  pub vertices-few : length (j .vertices) ≤ 256
-  pub vertices-fit : All Words (j .vertices)
-  pub indices-few : length (indexList (j .indices)) ≤ 768
-  pub indices-fit : All Word (indexList (j .indices))
-  pub room-fits : j .room ≤ 2048
-  pub limit-fits : Word (j .limit)
+  pub head-fits : HeadFits (j .head)
+  pub vertices-fit : VerticesFit (j .vertices)
+  pub indices-fit : IndicesFit (j .head .topology) (j .indices)
+  pub tail-fits : TailFits (j .tail)

@@ -4,47 +4,44 @@ use native.Mathlib.Omega.{arith}
 use mathlib.Core.Path.{_≡_, refl, sym, ap, _∙_, subst}
 use mathlib.Core.List.{List}
 use lib.ListN.{length, take}
-use Rattle.job_checks.specs.Job.{jobOf}
-use Rattle.text.specs.declared.Three.{Three}
-use Rattle.text.specs.TextJob.{TextJob, Readable, jobText}
+use lib.Seq.{length-take-le}
+use Rattle.text.specs.declared.Head.{Head}
+use Rattle.text.specs.declared.Tail.{Tail}
+use Rattle.text.specs.Limits.{mostCells, mostEntries, coordinateRoom, byteRoom}
+use Rattle.text.specs.TextJob.{TextJob, cellsOf, Readable, jobText}
 use Rattle.text.proofs.Job.{one-job}
 use Rattle.text_read_job.specs.declared.Asked.{Asked}
 use Rattle.text_read_job.specs.Reading.{HoldsJob}
 use Rattle.text_write.specs.Put.{Put}
 use Rattle.text_write.proofs.Puts.{said}
-use Rattle.grid.specs.Layers.{layers}
-use Rattle.listing.specs.Listing.{floatsOf, listing, Prints, listing-of, unreadable}
-use Rattle.listing_run.specs.Parts.{listedOf, gridBy, lentBy}
+use Rattle.listing.specs.Listing.{floatsOf, jobBy, lentFor, listing, Prints, listing-of, unreadable}
+use Rattle.listing_run.specs.Parts.{listedOf, heldJob, Small}
 use Rattle.text_answer.specs.Answering.{Answered}
 
-abbrev cellsOf : Three → ℕ
-cellsOf n = n .x * n .y * n .z
-
 module _ {j : TextJob} {a : Asked} {vertices indices : List ℕ} (h : HoldsJob j a vertices indices) where
-  -- the listing of the parts is that of the job
-  parts-listed : listedOf (jobOf (gridBy (a .count) (a .first) (a .size)) (floatsOf (take (3 * a .vertices) vertices)) (a .topology) (a .given) (take (a .indices) indices) (a .limit))
-      (lentBy (cellsOf (a .count)) (layers (gridBy (a .count) (a .first) (a .size))) (a .room))
-      ≡ listing j
+  -- the job that the record holds, over buffers for it
+  abbrev pub held : List ℕ
+  held = listedOf (heldJob a (floatsOf (take (3 * a .vertices) vertices)) (take (a .indices) indices)) (lentFor (a .head) (a .tail))
+
+  -- is listed as its text asks
+  held-listed : held ≡ listing j
   unfolding listedOf
-  parts-listed =
+  held-listed =
       λ i.
-      listedOf (jobOf (gridBy (h .count-is i) (h .first-is i) (h .size-is i)) (floatsOf (h .vertices-are i)) (h .topology-is i) (h .given-is i) (h .indices-are i) (h .limit-is i))
-      (lentBy (cellsOf (h .count-is i)) (layers (gridBy (h .count-is i) (h .first-is i) (h .size-is i))) (h .room-is i))
+      listedOf (jobBy (h .head-is i) (floatsOf (h .vertices-are i)) (h .given-is i) (h .indices-are i) (h .tail-is i))
+      (lentFor (h .head-is i) (h .tail-is i))
 
-  pub few-cells : Readable j → cellsOf (a .count) ≤ 512
-  few-cells r = subst (λ (n : Three). cellsOf n ≤ 512) (sym (h .count-is)) (r .cells-few)
+  pub small : {out : List ℕ} → Readable j → coordinateRoom ≤ length vertices → byteRoom ≤ length out → Small a (take (3 * a .vertices) vertices) out
+  small r long room =
+      record {
+        cells-few = subst (λ (k : Head). cellsOf (k .count) ≤ mostCells) (sym (h .head-is)) (r .head-fits .cells-few);
+        coordinates-few = omega (arith, length-take-le (3 * a .vertices) vertices (omega (arith, h .vertices-few)), h .vertices-few);
+        entries-few = subst (λ (k : Tail). k .room ≤ mostEntries) (sym (h .tail-is)) (r .tail-fits .room-few);
+        room = room;
+      }
 
-  pub few-entries : Readable j → a .room ≤ 2048
-  few-entries r = omega (arith, h .room-is, r .room-fits)
-
-  pub answered : {text old new : List ℕ} {n : ℕ} → Readable j → text ≡ jobText j
-      → Put old 0
-      (listedOf (jobOf (gridBy (a .count) (a .first) (a .size)) (floatsOf (take (3 * a .vertices) vertices)) (a .topology) (a .given) (take (a .indices) indices) (a .limit))
-      (lentBy (cellsOf (a .count)) (layers (gridBy (a .count) (a .first) (a .size))) (a .room)))
-      new
-      n
-      → Answered text old new n
-  answered r e p = record { output = listing j; prints = listing-of j r e refl; put = said parts-listed refl p }
+  pub answered : {text old new : List ℕ} {n : ℕ} → Readable j → text ≡ jobText j → Put old 0 held new n → Answered text old new n
+  answered r e p = record { output = listing j; prints = listing-of j r e refl; put = said held-listed refl p }
 
 -- "One call has one possible outcome": an input has one output
 pub one-output : {input : List ℕ} (o p : List ℕ) → Prints input o → Prints input p → o ≡ p

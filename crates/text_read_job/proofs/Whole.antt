@@ -5,8 +5,10 @@ use native.Mathlib.Omega.{arith}
 use mathlib.Core.Path.{_≡_, refl, sym, ap, _∙_, subst}
 use mathlib.Core.List.{List, [], _∷_}
 use lib.ListN.{length, take, drop}
+use Rattle.mesh_topology.specs.declared.Topology.{Topology}
 use Rattle.mesh_topology.specs.declared.Indices.{Indices}
 use Rattle.mesh_topology.specs.declared.Indices.the-variants.{Given, None}
+use Rattle.text.specs.Limits.{mostVertices, mostIndices, coordinateRoom}
 use Rattle.text.specs.TextJob.{TextJob, Readable, jobText, givenOf, indexList}
 use Rattle.text.specs.Reader.{took, nothing, jobAt, atEnd, wholeJob}
 use Rattle.text.proofs.Job.{whole-taken, whole-refused}
@@ -23,18 +25,18 @@ given-told : (g : Indices) (l : List ℕ) → g ≡ givenOf (listedAs g l)
 given-told Given l = refl
 given-told None l = refl
 
-indices-told : (g : Indices) (n : ℕ) (l : List ℕ) → stored g n → take n l ≡ indexList (listedAs g (take n l))
-indices-told Given n l h = refl
-indices-told None n l h = ap (λ (k : ℕ). take k l) h
+indices-told : (t : Topology) (g : Indices) (n : ℕ) (l : List ℕ) → stored t g n → take n l ≡ indexList (listedAs g (take n l))
+indices-told t Given n l h = refl
+indices-told t None n l h = ap (λ (k : ℕ). take k l) h
 
-few-told : (g : Indices) (n : ℕ) → stored g n → n ≤ 768
-few-told Given n h = h
-few-told None n h = omega arith
+few-told : (t : Topology) (g : Indices) (n : ℕ) → stored t g n → n ≤ mostIndices t
+few-told t Given n h = h
+few-told t None n h = omega arith
 
 -- all parts were taken, and the text ends there
 pub tells : (text : List ℕ) (k : ℕ) (vertices indices : List ℕ) (a : Asked)
-    → 768 ≤ length vertices
-    → stored (a .given) (a .indices)
+    → coordinateRoom ≤ length vertices
+    → stored (a .head .topology) (a .given) (a .indices)
     → length text ≤ k
     → took (jobIn a vertices indices) (drop k text) ≡ jobAt text
     → Reads text vertices indices (Job a)
@@ -43,22 +45,18 @@ tells text k vertices indices a long n end e =
     let j = jobIn a vertices indices in
     let whole : took j [] ≡ wholeJob text = ap (λ (s : List ℕ). atEnd j s) (sym (past text k end)) ∙ onward atEnd e in
     let h = whole-taken text j [] (sym whole) in
-    let few : a .vertices ≤ 256 = subst (λ (m : ℕ). m ≤ 256) (threes-length (a .vertices) vertices) (h .0 .vertices-few) in (
+    let few : a .vertices ≤ mostVertices = subst (λ (m : ℕ). m ≤ mostVertices) (threes-length (a .vertices) vertices) (h .0 .vertices-fit .few) in (
       j,
       h .0,
       h .1,
       record {
-        count-is = refl;
-        first-is = refl;
-        size-is = refl;
-        topology-is = refl;
+        head-is = refl;
         vertices-are = sym (threes-flat (a .vertices) vertices (omega arith));
         vertices-few = few;
         given-is = given-told (a .given) _;
-        indices-are = indices-told (a .given) (a .indices) indices n;
-        indices-few = few-told (a .given) (a .indices) n;
-        room-is = refl;
-        limit-is = refl;
+        indices-are = indices-told (a .head .topology) (a .given) (a .indices) indices n;
+        indices-few = few-told (a .head .topology) (a .given) (a .indices) n;
+        tail-is = refl;
       },
     )
 

@@ -4,6 +4,7 @@ use Prim.Native.Nat.{ℕ, _*_, _≤_}
 use mathlib.Core.Path.{_≡_}
 use mathlib.Core.List.{List}
 use lib.ListN.{take}
+use Rattle.text.specs.Limits.{mostVertices, mostIndices}
 use Rattle.text.specs.TextJob.{TextJob, Readable, jobText, flat, givenOf, indexList}
 use Rattle.text_read_job.specs.declared.Asked.{Asked}
 use Rattle.text_read_job.specs.declared.Reading.{Reading}
@@ -11,17 +12,13 @@ use Rattle.text_read_job.specs.declared.Reading.the-variants.{Job, Unrea
 
 -- the record and the lent slices hold the job
 pub record HoldsJob (j : TextJob) (a : Asked) (vertices indices : List ℕ) : Type 0 where
-  pub count-is : a .count ≡ j .count
-  pub first-is : a .first ≡ j .first
-  pub size-is : a .size ≡ j .size
-  pub topology-is : a .topology ≡ j .topology
+  pub head-is : a .head ≡ j .head
   pub vertices-are : take (3 * a .vertices) vertices ≡ flat (j .vertices)
-  pub vertices-few : a .vertices ≤ 256
+  pub vertices-few : a .vertices ≤ mostVertices
   pub given-is : a .given ≡ givenOf (j .indices)
   pub indices-are : take (a .indices) indices ≡ indexList (j .indices)
-  pub indices-few : a .indices ≤ 768
-  pub room-is : a .room ≡ j .room
-  pub limit-is : a .limit ≡ j .limit
+  pub indices-few : a .indices ≤ mostIndices (a .head .topology)
+  pub tail-is : a .tail ≡ j .tail
 
 -- A text is read as the job within the limits that it is the text of, and where it is the text of no such job, it is unreadable. A text is that
 -- of one job at most (`one-job`, crates/text/proofs/Job.antt).

@@ -6,29 +6,26 @@
 //   reader_lines   lines by their keys
 //   reader_parts   the head, the vertices, the indices, the tail
 //   job            the whole text: the job that it is the text of, or that it is none
+use mesh_topology::Indices;
+use text::Head;
+use text::Tail;
 use text_read_parts::Back;
 use text_read_parts::Front;
 use text_read_parts::Row;
 use text_read_words::Number;
-use text::Three;
-use mesh_topology::Indices;
-use mesh_topology::Topology;
 ghost use Prim.Native.Nat.{_≤_};
 ghost use lib.ListN.{length};
+ghost use Rattle.text.specs.Limits.{coordinateRoom, indexRoom};
 ghost use Rattle.text_read_job.specs.Reading.{Reads};
 
 // A job as its text gives it. Floats are bit patterns. The vertices, three numbers each, and the indices
 // stand in the lent slices, so many of them; without indices there are 0.
 pub struct Asked {
-    pub count: Three,
-    pub first: Three,
-    pub size: Three,
-    pub topology: Topology,
+    pub head: Head,
     pub vertices: usize,
     pub given: Indices,
     pub indices: usize,
-    pub room: u32,
-    pub limit: u32,
+    pub tail: Tail,
 }
 
 // What a text is read as. `Unreadable` is document 01's answer 9.
@@ -37,9 +34,10 @@ pub enum Reading {
     Unreadable,
 }
 
-// Reads a whole text. The lent slices have room for 256 vertices, three numbers each, and for 768 indices.
+// Reads a whole text. The lent slices have room for as many vertices, three numbers each, and as many indices as
+// the program takes.
 pub fn read_job(text: &[u8], vertices: &mut [u32], indices: &mut [u32]) -> Reading
-    requires { ⌜ (768 ≤ length (now vertices)) × (768 ≤ length (now indices)) ⌝ }
+    requires { ⌜ (coordinateRoom ≤ length (now vertices)) × (indexRoom ≤ length (now indices)) ⌝ }
     ensures { λ r. ⌜ Reads (now (text .entry)) (now (vertices .exit)) (now (indices .exit)) r ⌝ }
 {
     let Front::Is {
@@ -56,11 +54,12 @@ pub fn read_job(text: &[u8], vertices: &mut [u32], indices: &mut [u32]) -> Readi
     else {
         return Reading::Unreadable;
     };
+    let topology = head.topology;
     let Row::Are {
         given,
         count,
         next: behind_indices,
-    } = text_read_parts::indices(text, behind_vertices, indices)
+    } = text_read_parts::indices(text, behind_vertices, topology, indices)
     else {
         return Reading::Unreadable;
     };
@@ -70,19 +69,11 @@ pub fn read_job(text: &[u8], vertices: &mut [u32], indices: &mut [u32]) -> Readi
     if next < text.len() {
         return Reading::Unreadable;
     }
-    let cells = head.count;
-    let first = head.first;
-    let size = head.size;
-    let topology = head.topology;
     Reading::Job(Asked {
-        count: cells,
-        first,
-        size,
-        topology,
+        head,
         vertices: value as usize,
         given,
         indices: count,
-        room: tail.room,
-        limit: tail.limit,
+        tail,
     })
 }

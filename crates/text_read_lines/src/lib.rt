@@ -1,14 +1,15 @@
 // The lines of the job's text: a key, and what stands behind it (document 01, "One job, one listing"). A
 // part of the reader: callers use `text_read_job::read_job`.
-use text_read_words::Form;
+use mesh_topology::Topology;
+use text::Form;
+use text::MOST_CELLS;
+use text::Three;
 use text_read_words::Next;
 use text_read_words::Number;
-use text::Three;
-use mesh_topology::Topology;
 ghost use mathlib.Core.Path.{_≡_};
 ghost use lib.ListN.{drop};
-ghost use Rattle.text.specs.Reader.{threeNumbers, numberLine, floatsLine, fewCells, countLine, topologyLine};
-ghost use Rattle.text_read_words.specs.Told.{gotNumber, readerOf};
+ghost use Rattle.text.specs.Reader.{valueAt, threeNumbers, numberLine, floatsLine, fewCells, countLine, topologyLine};
+ghost use Rattle.text_read_words.specs.Told.{gotNumber};
 ghost use Rattle.text_read_lines.specs.Told.{gotTriple, gotShape};
 
 // Three numbers, and the place behind them.
@@ -25,7 +26,7 @@ pub enum Shape {
 
 // Three numbers to the end of the line.
 fn three_values(text: &[u8], at: usize, form: Form) -> Triple
-    ensures { λ r. ⌜ gotTriple (now (text .entry)) r ≡ threeNumbers (readerOf form) (drop at (now (text .entry))) ⌝ }
+    ensures { λ r. ⌜ gotTriple (now (text .entry)) r ≡ threeNumbers (valueAt form) (drop at (now (text .entry))) ⌝ }
 {
     let Number::Is {
         value: x,
@@ -76,16 +77,17 @@ pub fn floats_line(text: &[u8], at: usize, key: &[u8]) -> Triple
     three_values(text, behind, Form::Hex8)
 }
 
-// Whether there are at most 512 cells. The product of three counts may have 96 bits: above 512 the product of
-// two is not multiplied further.
+// Whether there are few cells. The product of three counts may have 96 bits: above the limit the product of two
+// is not multiplied further.
 fn few_cells(count: Three) -> bool
     ensures { λ r. ⌜ r ≡ fewCells count ⌝ }
 {
     let layer = (count.x as u64) * (count.y as u64);
-    if 512 < layer {
+    let most = MOST_CELLS as u64;
+    if most < layer {
         return count.z == 0;
     }
-    layer * (count.z as u64) <= 512
+    layer * (count.z as u64) <= most
 }
 
 // The line of the counts.

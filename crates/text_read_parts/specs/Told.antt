@@ -3,11 +3,13 @@ use Prim.Native.Nat.{ℕ, zero, suc, _+_, _*_, _≤_}
 use mathlib.Core.Path.{_≡_}
 use mathlib.Core.List.{List, [], _∷_, _++_}
 use lib.ListN.{getD, take, drop}
+use Rattle.mesh_topology.specs.declared.Topology.{Topology}
 use Rattle.mesh_topology.specs.declared.Indices.{Indices}
 use Rattle.mesh_topology.specs.declared.Indices.the-variants.{Given, None}
 use Rattle.text.specs.declared.Three.{Three}
 use Rattle.text.specs.declared.Head.{Head}
 use Rattle.text.specs.declared.Tail.{Tail}
+use Rattle.text.specs.Limits.{mostIndices}
 use Rattle.text.specs.TextJob.{TextIndices, none, these}
 use Rattle.text.specs.Reader.{Got, took, nothing, three}
 use Rattle.text_read_words.specs.declared.Number.{Number}
@@ -47,14 +49,14 @@ gotRow out text (Row.Are given n k) = took (listedAs given (take n out)) (drop k
 gotRow out text Row.Not = nothing
 
 -- how many can have been stored
-abbrev pub stored : Indices → ℕ → Type 0
-stored Given n = n ≤ 768
-stored None n = n ≡ 0
+abbrev pub stored : Topology → Indices → ℕ → Type 0
+stored t Given n = n ≤ mostIndices t
+stored t None n = n ≡ 0
 
-abbrev pub storedIn : Row → Type 0
-storedIn (Row.Are given n k) = stored given n
-storedIn Row.Not = Unit
+abbrev pub storedIn : Topology → Row → Type 0
+storedIn t (Row.Are given n k) = stored t given n
+storedIn t Row.Not = Unit
 
-pub record RowIs (out text : List ℕ) (r : Row) (found : Got TextIndices) : Type 0 where
+pub record RowIs (t : Topology) (out text : List ℕ) (r : Row) (found : Got TextIndices) : Type 0 where
   pub is : gotRow out text r ≡ found
-  pub few : storedIn r
+  pub few : storedIn t r

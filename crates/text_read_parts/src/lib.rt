@@ -1,15 +1,20 @@
 // The parts of the job's text: the lines before the vertices, the vertices, the indices, and the lines
 // after them (document 01, "One job, one listing"). A part of the reader: callers use `text_read_job::read_job`.
+use mesh_topology::Indices;
+use mesh_topology::Topology;
+use text::Head;
+use text::MOST_ENTRIES;
+use text::MOST_VERTICES;
+use text::Tail;
+use text::most_indices;
 use text_read_lines::Shape;
 use text_read_lines::Triple;
 use text_read_words::Next;
 use text_read_words::Number;
-use text::Head;
-use text::Tail;
-use mesh_topology::Indices;
 ghost use mathlib.Core.Path.{_≡_};
 ghost use Prim.Native.Nat.{_*_, _≤_};
 ghost use lib.ListN.{length, take, drop};
+ghost use Rattle.text.specs.Limits.{coordinateRoom, indexRoom};
 ghost use Rattle.text.specs.Reader.{headAt, vertexLineAt, verticesAt, indexAt, indicesAt, tailAt, linesAt};
 ghost use Rattle.text_read_words.specs.Told.{gotNext, gotNumber};
 ghost use Rattle.text_read_lines.specs.Told.{gotTriple};
@@ -101,15 +106,15 @@ fn vertex_lines(text: &[u8], at: usize, n: usize, out: &mut [u32]) -> Next
     Next::At(k)
 }
 
-// How many vertices there are, at most 256, and their lines.
+// How many vertices there are, and their lines.
 pub fn vertices(text: &[u8], at: usize, out: &mut [u32]) -> Number
-    requires { ⌜ 768 ≤ length (now out) ⌝ }
+    requires { ⌜ coordinateRoom ≤ length (now out) ⌝ }
     ensures { λ r. ⌜ gotVertices (now (out .exit)) (now (text .entry)) r ≡ verticesAt (drop at (now (text .entry))) ⌝ }
 {
     let Number::Is {
         value,
         next: behind,
-    } = text_read_lines::number_line(text, at, b"vertices=", 256)
+    } = text_read_lines::number_line(text, at, b"vertices=", MOST_VERTICES)
     else {
         return Number::Not;
     };
@@ -143,10 +148,10 @@ fn index_lines(text: &[u8], at: usize, n: usize, out: &mut [u32]) -> Next
     Next::At(k)
 }
 
-// That there are no indices; or how many, at most 768, and their lines.
-pub fn indices(text: &[u8], at: usize, out: &mut [u32]) -> Row
-    requires { ⌜ 768 ≤ length (now out) ⌝ }
-    ensures { λ r. ⌜ RowIs (now (out .exit)) (now (text .entry)) r (indicesAt (drop at (now (text .entry)))) ⌝ }
+// That there are no indices; or how many, as many as the topology may have, and their lines.
+pub fn indices(text: &[u8], at: usize, topology: Topology, out: &mut [u32]) -> Row
+    requires { ⌜ indexRoom ≤ length (now out) ⌝ }
+    ensures { λ r. ⌜ RowIs topology (now (out .exit)) (now (text .entry)) r (indicesAt topology (drop at (now (text .entry)))) ⌝ }
 {
     if let Next::At(next) = text_read_words::after(text, at, b"indices=none\n") {
         return Row::Are {
@@ -158,7 +163,7 @@ pub fn indices(text: &[u8], at: usize, out: &mut [u32]) -> Row
     let Number::Is {
         value,
         next: behind,
-    } = text_read_lines::number_line(text, at, b"indices=", 768)
+    } = text_read_lines::number_line(text, at, b"indices=", most_indices(topology))
     else {
         return Row::Not;
     };
@@ -179,7 +184,7 @@ pub fn tail(text: &[u8], at: usize) -> Back
     let Number::Is {
         value: room,
         next: behind,
-    } = text_read_lines::number_line(text, at, b"queue=", 2048)
+    } = text_read_lines::number_line(text, at, b"queue=", MOST_ENTRIES)
     else {
         return Back::Not;
     };

@@ -2,13 +2,11 @@
 use Prim.Native.Nat.{ℕ}
 use mathlib.Core.List.{List}
 use lib.ListN.{drop}
-use Rattle.text.specs.Reader.{Got, took, nothing, numberAt, bitsAt}
+use Rattle.text.specs.Reader.{Got, took, nothing}
 use Rattle.text_read_words.specs.declared.Next.{Next}
 use Rattle.text_read_words.specs.declared.Next.the-variants.{At, Not}
 use Rattle.text_read_words.specs.declared.Number.{Number}
 use Rattle.text_read_words.specs.declared.Number.the-variants as Number
-use Rattle.text_read_words.specs.declared.Form.{Form}
-use Rattle.text_read_words.specs.declared.Form.the-variants.{Decimal, Hex8}
 
 -- a value that the place alone tells
 abbrev pub gotNext : {A : Type 0} → A → List ℕ → Next → Got A
@@ -18,8 +16,3 @@ gotNext a text Not = nothing
 abbrev pub gotNumber : List ℕ → Number → Got ℕ
 gotNumber text (Number.Is v k) = took v (drop k text)
 gotNumber text Number.Not = nothing
-
--- the reader on lists for each form
-abbrev pub readerOf : Form → ℕ → List ℕ → Got ℕ
-readerOf Decimal = numberAt
-readerOf Hex8 = bitsAt

@@ -1,10 +1,11 @@
 // What a line of the job's text is made of: words and numbers (document 01, "One job, one listing"). Each
 // function looks at one place of the text, and tells what stands there and the place behind it. A part of
 // the reader: callers use `text_read_job::read_job`.
+use text::Form;
 ghost use mathlib.Core.Path.{_≡_};
 ghost use lib.ListN.{drop};
-ghost use Rattle.text.specs.Reader.{hexValue, wordAt, numberAt, bitsAt};
-ghost use Rattle.text_read_words.specs.Told.{gotNext, gotNumber, readerOf};
+ghost use Rattle.text.specs.Reader.{hexValue, wordAt, numberAt, bitsAt, valueAt};
+ghost use Rattle.text_read_words.specs.Told.{gotNext, gotNumber};
 
 // The place behind what was looked for.
 pub enum Next {
@@ -16,12 +17,6 @@ pub enum Next {
 pub enum Number {
     Is { value: u32, next: usize },
     Not,
-}
-
-// How a number is written: in decimal, or as eight hex digits.
-pub enum Form {
-    Decimal,
-    Hex8,
 }
 
 // The value of a lower-case hex digit, and 16 of any other byte.
@@ -129,7 +124,7 @@ fn hex8(text: &[u8], at: usize, stop: u8) -> Number
 
 // A number in either form, and the byte `stop`.
 pub fn value(text: &[u8], at: usize, stop: u8, form: Form) -> Number
-    ensures { λ r. ⌜ gotNumber (now (text .entry)) r ≡ readerOf form stop (drop at (now (text .entry))) ⌝ }
+    ensures { λ r. ⌜ gotNumber (now (text .entry)) r ≡ valueAt form stop (drop at (now (text .entry))) ⌝ }
 {
     match form {
         Form::Decimal => decimal(text, at, stop),

@@ -6,10 +6,6 @@ mod numbers;
 
 pub use bytes::put;
 pub use bytes::put_all;
-pub use lines::put_floats;
 pub use lines::put_number;
-pub use lines::put_numbers;
-pub use numbers::put_decimal;
-pub use numbers::put_decimal_then;
-pub use numbers::put_hex8;
-pub use numbers::put_hex8_then;
+pub use lines::put_three;
+pub use numbers::put_value_then;

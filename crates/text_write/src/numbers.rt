@@ -1,12 +1,14 @@
 // Numbers, spelled as a text has them: decimal without leading zeros, and eight lower-case hex digits.
 use crate::bytes::put;
+use text::Form;
 ghost use Prim.Native.Nat.{_+_, _<_, _≤_};
 ghost use lib.ListN.{length};
 ghost use mathlib.Core.Path.{_≡_};
 ghost use mathlib.Core.List.{[], _∷_, _++_};
 ghost use Rattle.text.specs.Words.{digits, decimal, hexDigit, hex, hex8};
+ghost use Rattle.text.specs.TextJob.{spelled};
 ghost use Rattle.text_write.specs.Put.{Put};
-ghost use Rattle.text_write.specs.Digits.{FewDigits};
+ghost use Rattle.text_write.specs.Digits.{FewDigits, width};
 
 // The digits of n, of which at most k stand before the last.
 fn put_digits(out: &mut [u8], at: usize, n: u32, k: usize) -> usize
@@ -21,7 +23,7 @@ fn put_digits(out: &mut [u8], at: usize, n: u32, k: usize) -> usize
     put(out, next, 48 + (n % 10) as u8)
 }
 
-pub fn put_decimal(out: &mut [u8], at: usize, n: u32) -> usize
+fn put_decimal(out: &mut [u8], at: usize, n: u32) -> usize
     requires { ⌜ at + 10 ≤ length (now out) ⌝ }
     ensures { λ r. ⌜ Put (now (out .entry)) at (decimal n) (now (out .exit)) r ⌝ }
     ensures { λ r. ⌜ r ≤ at + 10 ⌝ }
@@ -48,7 +50,7 @@ fn put_hex(out: &mut [u8], at: usize, b: u32, k: usize) -> usize
     put(out, next, hex_digit(b % 16))
 }
 
-pub fn put_hex8(out: &mut [u8], at: usize, b: u32) -> usize
+fn put_hex8(out: &mut [u8], at: usize, b: u32) -> usize
     requires { ⌜ at + 8 ≤ length (now out) ⌝ }
     ensures { λ r. ⌜ Put (now (out .entry)) at (hex8 b) (now (out .exit)) r ⌝ }
     ensures { λ r. ⌜ r ≤ at + 8 ⌝ }
@@ -56,22 +58,23 @@ pub fn put_hex8(out: &mut [u8], at: usize, b: u32) -> usize
     put_hex(out, at, b, 8)
 }
 
-// A number, and the byte after it: a space or the line's end.
-
-pub fn put_decimal_then(out: &mut [u8], at: usize, n: u32, b: u8) -> usize
-    requires { ⌜ at + 11 ≤ length (now out) ⌝ }
-    ensures { λ r. ⌜ Put (now (out .entry)) at (decimal n ++ b ∷ []) (now (out .exit)) r ⌝ }
-    ensures { λ r. ⌜ r ≤ at + 11 ⌝ }
+fn put_value(out: &mut [u8], at: usize, n: u32, form: Form) -> usize
+    requires { ⌜ at + width form ≤ length (now out) ⌝ }
+    ensures { λ r. ⌜ Put (now (out .entry)) at (spelled form n) (now (out .exit)) r ⌝ }
+    ensures { λ r. ⌜ r ≤ at + width form ⌝ }
 {
-    let next = put_decimal(out, at, n);
-    put(out, next, b)
+    match form {
+        Form::Decimal => put_decimal(out, at, n),
+        Form::Hex8 => put_hex8(out, at, n),
+    }
 }
 
-pub fn put_hex8_then(out: &mut [u8], at: usize, n: u32, b: u8) -> usize
-    requires { ⌜ at + 9 ≤ length (now out) ⌝ }
-    ensures { λ r. ⌜ Put (now (out .entry)) at (hex8 n ++ b ∷ []) (now (out .exit)) r ⌝ }
-    ensures { λ r. ⌜ r ≤ at + 9 ⌝ }
+// A number, and the byte after it: a space or the line's end.
+pub fn put_value_then(out: &mut [u8], at: usize, n: u32, form: Form, b: u8) -> usize
+    requires { ⌜ at + width form + 1 ≤ length (now out) ⌝ }
+    ensures { λ r. ⌜ Put (now (out .entry)) at (spelled form n ++ b ∷ []) (now (out .exit)) r ⌝ }
+    ensures { λ r. ⌜ r ≤ at + width form + 1 ⌝ }
 {
-    let next = put_hex8(out, at, n);
+    let next = put_value(out, at, n, form);
     put(out, next, b)
 }

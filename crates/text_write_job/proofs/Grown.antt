@@ -1,4 +1,4 @@
--- A line more of a list that grows at its end; and the parts of a job's text, one after the other. Assumes nothing.
+-- A line more of a list that grows at its end. Assumes nothing.
 use Prim.Native.Nat.{ℕ, suc, _+_, _*_, _≤_, _<_}
 use native.Mathlib.Omega.{arith}
 use native.Mathlib.Numerals.{add-one}
@@ -6,19 +6,17 @@ use mathlib.Core.Path.{_≡_, refl, sym, ap, _∙_}
 use mathlib.Core.List.{List, [], _∷_, _++_, append-assoc, append-nil}
 use lib.ListN.{length, take, getD}
 use lib.Seq.{take-suc}
+use Rattle.mesh_topology.specs.declared.Topology.{Topology}
 use Rattle.mesh_topology.specs.declared.Indices.{Indices}
 use Rattle.mesh_topology.specs.declared.Indices.the-variants.{Given, None}
-use Rattle.text.specs.declared.Three.{Three}
 use Rattle.text.specs.Words.{lines}
+use Rattle.text.specs.Limits.{indexRoom}
 use Rattle.text.specs.Reader.{three}
-use Rattle.text.specs.TextJob.{vertexLine, indicesText, jobText}
-use Rattle.text_read_parts.specs.Told.{threesIn, listedAs}
-use Rattle.text_read_parts.proofs.Threes.{threes-length}
-use Rattle.text_read_job.specs.declared.Asked.{Asked}
-use Rattle.text_read_job.specs.Told.{jobIn}
+use Rattle.text_read_parts.specs.Told.{threesIn}
+use Rattle.text.proofs.Job.{most-held}
 use Rattle.text_write.specs.Put.{Put}
 use Rattle.text_write.proofs.Puts.{nothing, andThen, said}
-use Rattle.text_write_job.specs.Parts.{headLines, tailLines, mostIndices}
+use Rattle.text_write_job.specs.Written.{mostGiven}
 
 lines-more : {A : Type 0} (f : A → List ℕ) (l : List A) (x : A) → lines f l ++ f x ≡ lines f (l ++ x ∷ [])
 unfolding lines
@@ -43,13 +41,6 @@ vertex-more i vertices = sym (ap (λ (k : ℕ). threesIn k vertices) (add-one i)
 pub index-more : (i : ℕ) (indices : List ℕ) → i < length indices → take i indices ++ getD indices i 0 ∷ [] ≡ take (i + 1) indices
 index-more i indices h = rw add-one (sym (take-suc indices i 0 h))
 
-pub few-indices : (g : Indices) (n : ℕ) → n ≤ mostIndices g → n ≤ 768
-few-indices Given n h = h
-few-indices None n h = omega arith
-
-pub whole-text : (a : Asked) (vertices indices : List ℕ)
-    → ((headLines a ++ lines vertexLine (threesIn (a .vertices) vertices)) ++ indicesText (listedAs (a .given) (take (a .indices) indices)))
-    ++ tailLines (a .room) (a .limit)
-    ≡ jobText (jobIn a vertices indices)
-unfolding jobText
-whole-text a vertices indices = rw (threes-length (a .vertices) vertices) (simp append-assoc)
+pub few-indices : (t : Topology) (g : Indices) (n : ℕ) → n ≤ mostGiven t g → n ≤ indexRoom
+few-indices t Given n h = omega (arith, most-held t)
+few-indices t None n h = omega arith

@@ -1,19 +1,20 @@
 // The parts of the text, in its order: the lines before the vertices, the vertices, the indices, the tail.
-use text_read_job::Asked;
-use text::Three;
 use mesh_topology::Indices;
 use mesh_topology::Topology;
+use text::Form;
+use text::Head;
+use text::Tail;
+use text::Three;
 use text_write::put_all;
-use text_write::put_floats;
 use text_write::put_number;
-use text_write::put_numbers;
+use text_write::put_three;
 ghost use Prim.Native.Nat.{_+_, _*_, _≤_};
 ghost use lib.ListN.{length, take};
 ghost use Rattle.text.specs.Words.{line, lines};
-ghost use Rattle.text.specs.TextJob.{topologyText, vertexLine, indexLine, indicesText};
+ghost use Rattle.text.specs.Limits.{mostVertices, indexRoom};
+ghost use Rattle.text.specs.TextJob.{topologyText, headText, vertexLine, verticesText, indexLine, indicesText, tailText};
 ghost use Rattle.text_read_parts.specs.Told.{threesIn, listedAs};
 ghost use Rattle.text_write.specs.Put.{Put};
-ghost use Rattle.text_write_job.specs.Parts.{headLines, tailLines};
 
 fn put_topology(out: &mut [u8], at: usize, topology: Topology) -> usize
     requires { ⌜ at + 15 ≤ length (now out) ⌝ }
@@ -26,27 +27,25 @@ fn put_topology(out: &mut [u8], at: usize, topology: Topology) -> usize
     }
 }
 
-// The lines before the first vertex, at the first byte.
-pub fn put_head(out: &mut [u8], asked: Asked) -> usize
-    requires { ⌜ 139 ≤ length (now out) ⌝ }
-    requires { ⌜ asked .vertices ≤ 256 ⌝ }
-    ensures { λ r. ⌜ Put (now (out .entry)) 0 (headLines asked) (now (out .exit)) r ⌝ }
-    ensures { λ r. ⌜ r ≤ 139 ⌝ }
+// The lines before the vertices, at the first byte.
+pub fn put_head(out: &mut [u8], head: Head) -> usize
+    requires { ⌜ 119 ≤ length (now out) ⌝ }
+    ensures { λ r. ⌜ Put (now (out .entry)) 0 (headText head) (now (out .exit)) r ⌝ }
+    ensures { λ r. ⌜ r ≤ 119 ⌝ }
 {
-    let count = asked.count;
-    let first = asked.first;
-    let size = asked.size;
-    let topology = asked.topology;
-    let a = put_numbers(out, 0, b"count=", count);
-    let b = put_floats(out, a, b"first=", first);
-    let c = put_floats(out, b, b"size=", size);
-    let d = put_topology(out, c, topology);
-    put_number(out, d, b"vertices=", asked.vertices as u32)
+    let count = head.count;
+    let first = head.first;
+    let size = head.size;
+    let topology = head.topology;
+    let a = put_three(out, 0, b"count=", count, Form::Decimal);
+    let b = put_three(out, a, b"first=", first, Form::Hex8);
+    let c = put_three(out, b, b"size=", size, Form::Hex8);
+    put_topology(out, c, topology)
 }
 
 // A line for each of the first n vertices.
-pub fn put_vertices(out: &mut [u8], at: usize, vertices: &[u32], n: usize) -> usize
-    requires { ⌜ n ≤ 256 ⌝ }
+fn put_vertex_lines(out: &mut [u8], at: usize, vertices: &[u32], n: usize) -> usize
+    requires { ⌜ n ≤ mostVertices ⌝ }
     requires { ⌜ 3 * n ≤ length (now vertices) ⌝ }
     requires { ⌜ at + 29 * n ≤ length (now out) ⌝ }
     ensures { λ r. ⌜ Put (now (out .entry)) at (lines vertexLine (threesIn n (now (vertices .entry)))) (now (out .exit)) r ⌝ }
@@ -60,15 +59,27 @@ pub fn put_vertices(out: &mut [u8], at: usize, vertices: &[u32], n: usize) -> us
             y: vertices[3 * i + 1],
             z: vertices[3 * i + 2],
         };
-        next = put_floats(out, next, b"v=", v);
+        next = put_three(out, next, b"v=", v, Form::Hex8);
         i += 1;
     }
     next
 }
 
+// How many vertices there are, and the first n of them.
+pub fn put_vertices(out: &mut [u8], at: usize, vertices: &[u32], n: usize) -> usize
+    requires { ⌜ n ≤ mostVertices ⌝ }
+    requires { ⌜ 3 * n ≤ length (now vertices) ⌝ }
+    requires { ⌜ at + 20 + 29 * n ≤ length (now out) ⌝ }
+    ensures { λ r. ⌜ Put (now (out .entry)) at (verticesText (threesIn n (now (vertices .entry)))) (now (out .exit)) r ⌝ }
+    ensures { λ r. ⌜ r ≤ at + 20 + 29 * n ⌝ }
+{
+    let next = put_number(out, at, b"vertices=", n as u32);
+    put_vertex_lines(out, next, vertices, n)
+}
+
 // A line for each of the first n indices.
 fn put_index_lines(out: &mut [u8], at: usize, indices: &[u32], n: usize) -> usize
-    requires { ⌜ n ≤ 768 ⌝ }
+    requires { ⌜ n ≤ indexRoom ⌝ }
     requires { ⌜ n ≤ length (now indices) ⌝ }
     requires { ⌜ at + 13 * n ≤ length (now out) ⌝ }
     ensures { λ r. ⌜ Put (now (out .entry)) at (lines indexLine (take n (now (indices .entry)))) (now (out .exit)) r ⌝ }
@@ -85,7 +96,7 @@ fn put_index_lines(out: &mut [u8], at: usize, indices: &[u32], n: usize) -> usiz
 
 // How many indices there are, and the first n of them; or that there are none.
 pub fn put_indices(out: &mut [u8], at: usize, given: Indices, indices: &[u32], n: usize) -> usize
-    requires { ⌜ n ≤ 768 ⌝ }
+    requires { ⌜ n ≤ indexRoom ⌝ }
     requires { ⌜ n ≤ length (now indices) ⌝ }
     requires { ⌜ at + 19 + 13 * n ≤ length (now out) ⌝ }
     ensures { λ r. ⌜ Put (now (out .entry)) at (indicesText (listedAs given (take n (now (indices .entry))))) (now (out .exit)) r ⌝ }
@@ -101,10 +112,10 @@ pub fn put_indices(out: &mut [u8], at: usize, given: Indices, indices: &[u32], n
 }
 
 // The queue room and the pop limit.
-pub fn put_tail(out: &mut [u8], at: usize, room: u32, limit: u32) -> usize
+pub fn put_tail(out: &mut [u8], at: usize, tail: Tail) -> usize
     requires { ⌜ at + 33 ≤ length (now out) ⌝ }
-    ensures { λ r. ⌜ Put (now (out .entry)) at (tailLines room limit) (now (out .exit)) r ⌝ }
+    ensures { λ r. ⌜ Put (now (out .entry)) at (tailText tail) (now (out .exit)) r ⌝ }
 {
-    let next = put_number(out, at, b"queue=", room);
-    put_number(out, next, b"pops=", limit)
+    let next = put_number(out, at, b"queue=", tail.room);
+    put_number(out, next, b"pops=", tail.limit)
 }

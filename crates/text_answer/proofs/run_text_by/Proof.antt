@@ -1,141 +1,106 @@
 -- `text_answer::run_text_by` meets its contract, by what the text is read as. Assumes nothing.
-use Prim.Native.Nat.{_*_, _≤_}
+use Prim.Native.Nat.{ℕ, _*_, _≤_}
 use native.Mathlib.Omega.{arith}
 use mathlib.Core.Path.{refl, sym}
+use mathlib.Core.List.{List}
 use lib.ListN.{length}
 use lib.Seq.{length-take-le}
 use borrow.Author.Needs.{needs}
 use Rattle.text.specs.Words.{line}
+use Rattle.text.specs.Limits.{coordinateRoom, indexRoom}
+use Rattle.text.proofs.Job.{most-held}
+use Rattle.text_read_job.specs.declared.Asked.{Asked}
+use Rattle.text_read_job.specs.declared.Reading.the-variants.{Job}
+use Rattle.text_read_job.specs.Reading.{Reads}
 use Rattle.text_write.proofs.Puts.{cut, inside}
 use Rattle.listing.specs.Listing.{answerLine, unreadable}
-use Rattle.text_answer.proofs.Read.{few-cells, few-entries, answered}
+use Rattle.text_answer.proofs.Read.{small, answered}
 use Rattle.text_answer.proofs.run_text_by.Statement.{statement}
 use Rattle.text_answer.proofs.run_text_by.Tie as tie
 
 returns : tie.Need-returns
 returns c = ((omega arith, refl), ((λ h. absurd (omega (arith, h, c .if1 .taken))), (λ h. (refl, refl))))
 
-words-768-requires : tie.Need-words-768-requires
-words-768-requires c κs = search needs
+-- ---- a job was read
 
-words-768-requires-2 : tie.Need-words-768-requires-2
-words-768-requires-2 c κs = search needs
+-- the buffers have room; then the text was read; then it is known that it is a job
+abbrev roomy : tie.After-read-job → tie.Else1
+roomy c = c .before .before .before .before .before
 
-slice-aggregate-read-job : tie.Need-slice-aggregate-read-job
-slice-aggregate-read-job c = search needs
+abbrev read : tie.After-read → tie.After-read-job
+read c = c .before .before .before .before
 
-slice-aggregate-read-job-2 : tie.Need-slice-aggregate-read-job-2
-slice-aggregate-read-job-2 c = search needs
+abbrev asked : tie.After-read → Asked
+asked c = c .read .given .0 .0
 
-read-job-requires : tie.Need-read-job-requires
-read-job-requires c κs = search needs
+abbrev bits : tie.After-read → List ℕ
+bits c = read c .read-job .last .1 .0
 
-enum-told : tie.Need-enum-told
-enum-told c = search needs
+abbrev indices : tie.After-read → List ℕ
+indices c = read c .read-job .last .1 .1 .0
 
-slice-aggregate-put-number : tie.Need-slice-aggregate-put-number
-slice-aggregate-put-number c = search needs
+known : (c : tie.After-read) → Reads (roomy (read c) .before .before .before .args .text .now) (bits c) (indices c) (Job (asked c))
+known c = rw (c .read .given .1) at (c .before .before .before .before .read-job .ensures)
 
-put-number-requires : tie.Need-put-number-requires
-put-number-requires c κs = search needs
+bits-long : (c : tie.After-read) → coordinateRoom ≤ length (bits c)
+bits-long c = omega (arith, read c .read-job .kept .1 .0, read c .before .before .before .before .coordinate-words .ensures)
 
-enum-known-read : tie.Need-enum-known-read
-enum-known-read c = search needs
+bits-fit : (c : tie.After-read) → 3 * asked c .vertices ≤ length (bits c)
+bits-fit c = omega (arith, bits-long c, known c .3 .vertices-few)
+
+indices-fit : (c : tie.After-read) → asked c .indices ≤ length (indices c)
+indices-fit c =
+    omega
+    (arith, known c .3 .indices-few, most-held (asked c .head .topology), read c .read-job .kept .1 .1 .0, read c .before .before .before .index-words .ensures)
 
 mul-n : tie.Need-mul-n
-mul-n c =
-    let r = c .before .before in
-    let w = c .before .before .before .before .before .before .read-job in
-    let R = rw (r .read .given .1) at (w .ensures) in
-    record { fits = omega (arith, R .3 .vertices-few) }
-
-array-share-prefix-bits : tie.Need-array-share-prefix-bits
-array-share-prefix-bits c =
-    let r = c .before .before .before .before .before in
-    let w = c .before .before .before .before .before .before .before .before .before .read-job in
-    let R = rw (r .read .given .1) at (w .ensures) in
-    let a = r .read .given .0 .0 in
-    let h : 3 * a .vertices ≤ length (w .last .1 .0) = omega (arith, R .3 .vertices-few, w .kept .1 .0, c .before .before .before .before .before .before .before .before .before .before .before .before .before .words-768 .ensures) in
-    h
-
-slice-aggregate-answer-job : tie.Need-slice-aggregate-answer-job
-slice-aggregate-answer-job c =
-    let r = c .before .before .before .before .before .before in
-    let w = c .before .before .before .before .before .before .before .before .before .before .read-job in
-    let R = rw (r .read .given .1) at (w .ensures) in
-    let a = r .read .given .0 .0 in
-    let h : 3 * a .vertices ≤ length (w .last .1 .0) = omega (arith, R .3 .vertices-few, w .kept .1 .0, c .before .before .before .before .before .before .before .before .before .before .before .before .before .before .words-768 .ensures) in
-    sym (length-take-le (3 * a .vertices) (w .last .1 .0) h)
-
-array-share-prefix-indices : tie.Need-array-share-prefix-indices
-array-share-prefix-indices c =
-    let r = c .before .before .before .before .before .before in
-    let w = c .before .before .before .before .before .before .before .before .before .before .read-job in
-    let R = rw (r .read .given .1) at (w .ensures) in
-    let a = r .read .given .0 .0 in
-    let h : a .indices ≤ length (w .last .1 .1 .0) = omega (arith, R .3 .indices-few, w .kept .1 .1 .0, c .before .before .before .before .before .before .before .before .before .before .before .before .before .words-7682 .ensures) in
-    h
-
-slice-aggregate-answer-job-2 : tie.Need-slice-aggregate-answer-job-2
-slice-aggregate-answer-job-2 c =
-    let r = c .before .before .before .before .before .before .before in
-    let w = c .before .before .before .before .before .before .before .before .before .before .before .read-job in
-    let R = rw (r .read .given .1) at (w .ensures) in
-    let a = r .read .given .0 .0 in
-    let h : a .indices ≤ length (w .last .1 .1 .0) = omega (arith, R .3 .indices-few, w .kept .1 .1 .0, c .before .before .before .before .before .before .before .before .before .before .before .before .before .before .words-7682 .ensures) in
-    sym (length-take-le (a .indices) (w .last .1 .1 .0) h)
+mul-n c = record { fits = omega (arith, known (c .before .before) .3 .vertices-few) }
 
 answer-job-requires : tie.Need-answer-job-requires
 answer-job-requires c κs =
-    let r = c .before .before .before .before .before .before .before .before in
-    let w = c .before .before .before .before .before .before .before .before .before .before .before .before .read-job in
-    let R = rw (r .read .given .1) at (w .ensures) in
-    let a = r .read .given .0 .0 in
-    let h : 3 * a .vertices ≤ length (w .last .1 .0) = omega (arith, R .3 .vertices-few, w .kept .1 .0, c .before .before .before .before .before .before .before .before .before .before .before .before .before .before .before .before .words-768 .ensures) in
-    (few-cells (R .3) (R .1), omega (arith, length-take-le (3 * a .vertices) (w .last .1 .0) h, R .3 .vertices-few), few-entries (R .3) (R .1), c .before .before .before .before .before .before .before .before .before .before .before .before .before .before .before .before .before .if1 .left)
+    let r = c .before .before .before .before .before in
+    small (known r .3) (known r .1) (bits-long r) (roomy (read r) .if1 .left)
 
-same-length : tie.Need-same-length
-same-length c = search needs
+returns-3 : tie.Need-returns-3
+returns-3 c =
+    let p = c .before .before .answer-job .ensures in
+    let r = c .before .before .before .before .before .before .before .before in
+    let R = known r in
+    ((inside (omega arith) p, cut (omega arith) p), ((λ h. answered (R .3) (R .1) (R .2) p), (λ h. absurd (omega (arith, h, roomy (read r) .if1 .left)))))
+
+-- ---- the text of no job
 
 returns-2 : tie.Need-returns-2
 unfolding line
 returns-2 c =
-    let p = c .before .before .put-number .ensures .0 in
-    let none = rw (c .before .before .before .before .before .enum-told .given .1) at (c .before .before .before .before .before .before .before .before .before .read-job .ensures) in
-    ((inside (omega arith) p, cut (omega arith) p), ((λ h. record { output = answerLine 9; prints = unreadable none refl; put = p }), (λ h. absurd (omega (arith, h, c .before .before .before .before .before .before .before .before .before .before .before .before .before .before .if1 .left)))))
-
-same-length-2 : tie.Need-same-length-2
-same-length-2 c = search needs
-
-returns-3 : tie.Need-returns-3
-returns-3 c =
-    let r = c .before .before .before .before .before .before .before .before .before .before .before in
-    let w = c .before .before .before .before .before .before .before .before .before .before .before .before .before .before .before .read-job in
-    let R = rw (r .read .given .1) at (w .ensures) in
-    let p = c .before .before .answer-job .ensures in
-    ((inside (omega arith) p, cut (omega arith) p), ((λ h. answered (R .3) (R .1) (R .2) p), (λ h. absurd (omega (arith, h, c .before .before .before .before .before .before .before .before .before .before .before .before .before .before .before .before .before .before .before .before .if1 .left)))))
+    let n = c .before .before in
+    let t = n .before .before .before in
+    let w = t .before .before .before .before in
+    let p = n .put-number .ensures .0 in
+    let none = rw (t .enum-told .given .1) at (w .read-job .ensures) in
+    ((inside (omega arith) p, cut (omega arith) p), ((λ h. record { output = answerLine 9; prints = unreadable none refl; put = p }), (λ h. absurd (omega (arith, h, roomy w .if1 .left)))))
 
 pub run-text-by-spec : {M : Type 1} → statement M
 run-text-by-spec =
     tie.close
     (tie.spec
     returns
-    words-768-requires
-    words-768-requires-2
-    slice-aggregate-read-job
-    slice-aggregate-read-job-2
-    read-job-requires
-    enum-told
-    slice-aggregate-put-number
-    put-number-requires
-    enum-known-read
+    (λ c κs. tt)
+    (λ c κs. tt)
+    (λ c. search needs)
+    (λ c. search needs)
+    (λ c κs. search needs)
+    (λ c. search needs)
+    (λ c. search needs)
+    (λ c κs. search needs)
+    (λ c. search needs)
     mul-n
-    array-share-prefix-bits
-    slice-aggregate-answer-job
-    array-share-prefix-indices
-    slice-aggregate-answer-job-2
+    (λ c. bits-fit (c .before .before))
+    (λ c. sym (length-take-le _ _ (bits-fit (c .before .before .before))))
+    (λ c. indices-fit (c .before .before .before))
+    (λ c. sym (length-take-le _ _ (indices-fit (c .before .before .before .before))))
     answer-job-requires
-    same-length
+    (λ c. search needs)
     returns-2
-    same-length-2
+    (λ c. search needs)
     returns-3)

@@ -59,15 +59,14 @@ returns-5 c =
 returns-6 : tie.Need-returns-6
 unfolding jobAt
 returns-6 c =
-    let o = c .before .before .before in
-    let t = o .before .before in
+    let t = c .before .before in
     let g = t .before .before .before .before in
     let v = g .before .before .before .before .before .before .before in
     let h = v .before .before .before .before .before .before .before in
     let d = v .before .before .before .before in
     tells _ _ _ _ _ (omega (arith, d .vertices .kept, d .before .before .before .before .before .before .before .before .before .pre))
     (rw (g .given .given .1) at (g .before .before .before .before .indices .ensures .few))
-    (o .if1 .left)
+    (c .if1 .left)
     (onward _ (rw (t .tail2 .given .1) at (t .before .before .tail .ensures))
     ∙ onward _ (rw (g .given .given .1) at (g .before .before .before .before .indices .ensures .is))
     ∙ onward _ (rw (v .value .given .1) at (v .before .before .before .before .vertices .ensures))

@@ -1,4 +1,4 @@
--- `listing::cells::put_cell` meets its contract. Assumes nothing.
+-- `listing::cells::put_cell` meets its contract: the key and the three numbers stand one after the other. Assumes nothing.
 use mathlib.Core.Path.{refl}
 use borrow.Author.Needs.{needs}
 use Rattle.text.specs.Words.{bytes, decimal, hex8, line}
@@ -6,38 +6,25 @@ use Rattle.text_write.proofs.Puts.{said, andThen, three-words}
 use Rattle.listing.proofs.cells.put_cell.Statement.{statement}
 use Rattle.listing.proofs.cells.put_cell.Tie as tie
 
-slice-aggregate-put-all : tie.Need-slice-aggregate-put-all
-slice-aggregate-put-all c = search needs
-
-put-all-requires : tie.Need-put-all-requires
-put-all-requires c κs = search needs
-
-put-decimal-then-requires : tie.Need-put-decimal-then-requires
-put-decimal-then-requires c κs = search needs
-
-put-hex8-then-requires : tie.Need-put-hex8-then-requires
-put-hex8-then-requires c κs = search needs
-
-put-decimal-then-requires-2 : tie.Need-put-decimal-then-requires-2
-put-decimal-then-requires-2 c κs = search needs
-
-same-length : tie.Need-same-length
-same-length c = search needs
-
 returns : tie.Need-returns
 unfolding line
 returns c =
-    let s = c .before .before .before .before .before .before .before .before .before .before .before .before .before .before .before .before .before .before in
-    (said (three-words (bytes "cell=") (decimal (s .args .index)) (hex8 (s .args .distance)) (decimal (s .args .name))) refl (andThen (andThen (andThen (c .before .before .before .before .before .before .before .before .before .before .before .before .before .before .put-all .ensures) (c .before .before .before .before .before .before .before .before .before .before .put-decimal-then .ensures .0)) (c .before .before .before .before .before .before .put-hex8-then .ensures .0)) (c .before .before .put-decimal-then2 .ensures .0)), search needs)
+    let n = c .before .before in
+    let d = n .before .before .before .before in
+    let i = d .before .before .before .before in
+    let k = i .before .before .before .before in
+    let a = k .before .before .before .before .args in
+    let put = andThen (andThen (andThen (k .put-all .ensures) (i .put-value-then .ensures .0)) (d .put-value-then2 .ensures .0)) (n .put-value-then3 .ensures .0) in
+    (said (three-words (bytes "cell=") (decimal (a .index)) (hex8 (a .distance)) (decimal (a .name))) refl put, search needs)
 
 pub put-cell-spec : {M : Type 1} → statement M
 put-cell-spec =
     tie.close
     (tie.spec
-    slice-aggregate-put-all
-    put-all-requires
-    put-decimal-then-requires
-    put-hex8-then-requires
-    put-decimal-then-requires-2
-    same-length
+    (λ c. search needs)
+    (λ c κs. search needs)
+    (λ c κs. search needs)
+    (λ c κs. search needs)
+    (λ c κs. search needs)
+    (λ c. search needs)
     returns)

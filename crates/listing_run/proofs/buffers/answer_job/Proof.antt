@@ -1,114 +1,75 @@
 -- `listing_run::buffers::answer_job` meets its contract: the floats stand at the front of their buffer. Assumes nothing.
-use Prim.Native.Nat.{_*_}
+use Prim.Native.Nat.{ℕ, _*_}
 use native.Mathlib.Omega.{arith}
-use mathlib.Core.Path.{refl, sym, ap, ap₂, _∙_}
+use mathlib.Core.Path.{_≡_, refl, sym, ap, _∙_}
 use mathlib.Core.List.{List}
-use lib.ListN.{length, drop, length-append, length-map}
+use lib.ListN.{length, take, drop, length-append, length-map}
 use lib.Ieee.{Float, binary32, ofBits}
 use borrow.Author.Needs.{needs}
-use Rattle.grid.specs.declared.Grid.{Grid}
-use Rattle.job_checks.specs.Job.{Job, jobOf}
-use Rattle.listing.specs.Listing.{floatsOf}
+use Rattle.job_checks.specs.Job.{Job}
+use Rattle.text.specs.Limits.{coordinateRoom}
+use Rattle.listing.specs.Listing.{floatsOf, lentBy}
 use Rattle.text_write.proofs.Puts.{said}
-use Rattle.listing_run.specs.Parts.{listedOf, gridBy, lentBy}
-use Rattle.listing_run.proofs.Same.{prefix, same-layers, front-of, long-as, wide-product}
+use Rattle.listing_run.specs.Parts.{listedOf, heldJob}
+use Rattle.listing_run.proofs.Same.{prefix, same-layers, front-of, long-as}
 use Rattle.listing_run.proofs.buffers.answer_job.Statement.{statement}
 use Rattle.listing_run.proofs.buffers.answer_job.Tie as tie
 
-grid-of-requires : tie.Need-grid-of-requires
-grid-of-requires c κs = search needs
+-- from where the buffer for the floats is there, back to the entry; what of the buffer is behind the floats
+abbrev entry : tie.After-coordinate-floats → tie.Start
+entry c = c .before .before .before .before .before .before .before .before .before .before
 
-floats-768-requires : tie.Need-floats-768-requires
-floats-768-requires c κs = search needs
+abbrev behind : tie.After-coordinate-floats → List Float
+behind c = drop (length (entry c .args .bits .now)) (c .coordinate-floats .result)
 
-array-borrow-prefix-floats : tie.Need-array-borrow-prefix-floats
-array-borrow-prefix-floats c = search needs
-
-slice-aggregate-fill : tie.Need-slice-aggregate-fill
-slice-aggregate-fill c =
-    let s = c .before .before .before .before .before .before in
-    let a = c .before .floats-768 in
-    sym (prefix (a .result) (length (s .args .bits .now)) 768 (a .ensures) (s .pre .1))
-
-fill-requires : tie.Need-fill-requires
-fill-requires c κs =
-    let s = c .before .before .before .before .before .before in
-    let a = c .before .floats-768 in
-    prefix (a .result) (length (s .args .bits .now)) 768 (a .ensures) (s .pre .1)
-
-cast-total : tie.Need-cast-total
-cast-total c = search needs
-
-cast-total-2 : tie.Need-cast-total-2
-cast-total-2 c = search needs
-
-mul-total : tie.Need-mul-total
-mul-total c = record { fits = wide-product (search needs) (search needs) }
-
-cast-total-3 : tie.Need-cast-total-3
-cast-total-3 c = search needs
-
-mul-total-2 : tie.Need-mul-total-2
-mul-total-2 c = search needs
-
-layers-requires : tie.Need-layers-requires
-layers-requires c κs = tt
-
-layers-of-requires : tie.Need-layers-of-requires
-layers-of-requires c κs = search needs
+front-long : (c : tie.After-coordinate-floats)
+    → length (take (length (entry c .args .bits .now)) (c .coordinate-floats .result)) ≡ length (entry c .args .bits .now)
+front-long c = prefix (c .coordinate-floats .result) (length (entry c .args .bits .now)) coordinateRoom (c .coordinate-floats .ensures) (entry c .pre .coordinates-few)
 
 array-share-prefix-floats : tie.Need-array-share-prefix-floats
 array-share-prefix-floats c =
-    let s = c .before .before .before .before .before .before .before .before .before .before .before .before .before in
-    let f = c .before .before .before .before .before .before .fill in
-    omega (arith, length-append (f .last .1 .0) (drop (length (s .args .bits .now)) (c .before .before .before .before .before .before .before .before .floats-768 .result)), long-as (s .args .bits .now) (f .ensures))
+    let f = c .before .fill in
+    let w = c .before .before .before in
+    omega (arith, length-append (f .last .1 .0) (behind w), long-as (entry w .args .bits .now) (f .ensures))
 
 slice-aggregate-list-run : tie.Need-slice-aggregate-list-run
 slice-aggregate-list-run c =
-    let s = c .before .before .before .before .before .before .before .before .before .before .before .before .before .before in
-    let f = c .before .before .before .before .before .before .before .fill in
-    sym (ap length (front-of (s .args .bits .now) (drop (length (s .args .bits .now)) (c .before .before .before .before .before .before .before .before .before .floats-768 .result)) (f .ensures)) ∙ length-map (s .args .bits .now) (ofBits binary32))
-
-list-run-requires : tie.Need-list-run-requires
-list-run-requires c κs = search needs
-
-same-length : tie.Need-same-length
-same-length c = search needs
+    let f = c .before .before .fill in
+    let w = c .before .before .before .before in
+    let bits = entry w .args .bits .now in
+    sym (ap length (front-of bits (behind w) (f .ensures)) ∙ length-map bits (ofBits binary32))
 
 returns : tie.Need-returns
 returns c =
-    let s = c .before .before .before .before .before .before .before .before .before .before .before .before .before .before .before .before .before .before in
-    let a = s .args in
-    let n = a .count in
-    let f = c .before .before .before .before .before .before .before .before .before .before .before .fill in
-    let l = c .before .before .before .before .before .layers-of in
-    let t = c .before .before .before .before .before .before .layers in
-    let job : Grid → List Float → Job = λ g v. jobOf g v (a .topology) (a .given) (a .indices .now) (a .limit) in
+    let l = c .before .before in
+    let f = l .before .before .before .before in
+    let w = f .before .before in
+    let z = w .before .before in
+    let a = entry w .args in
+    let n = a .asked .head .count in
+    let total = z .before .cells-of in
+    let layers = z .rows-of in
+    let job : List Float → Job = λ v. heldJob (a .asked) v (a .indices .now) in
     said
-    (ap₂ (λ (g : Grid) (v : List Float). listedOf (job g v) (lentBy (n .x * n .y * n .z) (l .result) (a .room))) (c .before .before .before .before .before .before .before .before .before .before .before .before .before .before .grid-of .ensures)
-    (front-of (a .bits .now) (drop (length (a .bits .now)) (c .before .before .before .before .before .before .before .before .before .before .before .before .before .floats-768 .result)) (f .ensures))
-    ∙ same-layers (job (gridBy n (a .first) (a .size)) (floatsOf (a .bits .now))) (n .x * n .y) (n .z) (l .result) (a .room) refl (s .pre .0) (rw (t .ensures, c .before .before .before .before .before .before .before .before .before .before .before .before .before .before .grid-of .ensures) at (l .ensures .1)))
+    (ap (λ (v : List Float). listedOf (job v) (lentBy (total .result) (layers .result) (a .asked .tail .room))) (front-of (a .bits .now) (behind w) (f .fill .ensures))
+    ∙ ap (λ (k : ℕ). listedOf (job (floatsOf (a .bits .now))) (lentBy k (layers .result) (a .asked .tail .room))) (total .ensures)
+    ∙ same-layers (job (floatsOf (a .bits .now))) (n .x * n .y) (n .z) (layers .result) (a .asked .tail .room) refl (entry w .pre .cells-few) (layers .ensures .1))
     refl
-    (c .before .before .list-run .ensures)
+    (l .list-run .ensures)
 
 pub answer-job-spec : {M : Type 1} → statement M
 answer-job-spec =
     tie.close
     (tie.spec
-    grid-of-requires
-    floats-768-requires
-    array-borrow-prefix-floats
-    slice-aggregate-fill
-    fill-requires
-    cast-total
-    cast-total-2
-    mul-total
-    cast-total-3
-    mul-total-2
-    layers-requires
-    layers-of-requires
+    (λ c κs. search needs)
+    (λ c κs. tt)
+    (λ c. search needs)
+    (λ c κs. tt)
+    (λ c. search needs)
+    (λ c. sym (front-long (c .before)))
+    (λ c κs. front-long (c .before))
     array-share-prefix-floats
     slice-aggregate-list-run
-    list-run-requires
-    same-length
+    (λ c κs. search needs)
+    (λ c. search needs)
     returns)

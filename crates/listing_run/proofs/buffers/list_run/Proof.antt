@@ -4,202 +4,147 @@ use native.Mathlib.Omega.{arith}
 use mathlib.Core.Path.{_≡_, sym}
 use lib.ListN.{length, replicate, length-replicate, take}
 use borrow.Author.Needs.{needs}
-use Rattle.job_checks.specs.Job.{jobOf}
-use Rattle.listing_run.proofs.Same.{prefix, few-cut, cut-listed}
+use Rattle.text.specs.Limits.{mostCells, mostEntries, crossingRoom}
+use Rattle.listing_run.specs.Parts.{heldJob}
+use Rattle.listing_run.proofs.Same.{prefix, Whole, few-cut, cut-listed}
 use Rattle.listing_run.proofs.buffers.list_run.Statement.{statement}
 use Rattle.listing_run.proofs.buffers.list_run.Tie as tie
 
-floats-512-requires : tie.Need-floats-512-requires
-floats-512-requires c κs = search needs
+-- the place where the four buffers are there; and the entry, from there
+abbrev entry : tie.After-cell-words2 → tie.Start
+entry c = c .before .before .before .before .before .before .before
 
-words-512-requires : tie.Need-words-512-requires
-words-512-requires c κs = search needs
-
-words-1536-requires : tie.Need-words-1536-requires
-words-1536-requires c κs = search needs
-
-words-512-requires-2 : tie.Need-words-512-requires-2
-words-512-requires-2 c κs = search needs
-
-mul-counts : tie.Need-mul-counts
-mul-counts c = search needs
-
-array-borrow-prefix-field-room : tie.Need-array-borrow-prefix-field-room
-array-borrow-prefix-field-room c = search needs
+rooms : (c : tie.After-cell-words2) → Whole (c .before .before .before .cell-floats .result) (c .before .before .cell-words .result) (c .before .crossing-words .result) (c .cell-words2 .result)
+rooms c =
+    record {
+      field-long = c .before .before .before .cell-floats .ensures;
+      names-long = c .before .before .cell-words .ensures;
+      crossings-long = c .before .crossing-words .ensures;
+      rows-long = c .cell-words2 .ensures;
+    }
 
 slice-aggregate-field : tie.Need-slice-aggregate-field
 slice-aggregate-field c =
-    let s = c .before .before .before .before .before .before .before .before in
-    let a = c .before .before .before .before .floats-512 in
-    sym (prefix (a .result) (s .args .total) 512 (a .ensures) (omega (arith, s .pre .0)))
-
-array-borrow-prefix-names-room : tie.Need-array-borrow-prefix-names-room
-array-borrow-prefix-names-room c = search needs
+    let w = c .before in
+    let s = entry w in
+    sym (prefix _ (s .args .total) mostCells (rooms w .field-long) (s .pre .cells-few))
 
 slice-aggregate-names : tie.Need-slice-aggregate-names
 slice-aggregate-names c =
-    let s = c .before .before .before .before .before .before .before .before .before in
-    let a = c .before .before .before .before .words-512 in
-    sym (prefix (a .result) (s .args .total) 512 (a .ensures) (omega (arith, s .pre .0)))
-
-array-borrow-prefix-crossings-room : tie.Need-array-borrow-prefix-crossings-room
-array-borrow-prefix-crossings-room c = search needs
+    let w = c .before .before in
+    let s = entry w in
+    sym (prefix _ (s .args .total) mostCells (rooms w .names-long) (s .pre .cells-few))
 
 slice-aggregate-crossings : tie.Need-slice-aggregate-crossings
 slice-aggregate-crossings c =
-    let s = c .before .before .before .before .before .before .before .before .before .before in
-    let a = c .before .before .before .before .words-1536 in
-    sym (prefix (a .result) (3 * s .args .total) 1536 (a .ensures) (omega (arith, s .pre .0)))
-
-array-borrow-prefix-rows-room : tie.Need-array-borrow-prefix-rows-room
-array-borrow-prefix-rows-room c = search needs
+    let w = c .before .before .before in
+    let s = entry w in
+    sym (prefix _ (3 * s .args .total) crossingRoom (rooms w .crossings-long) (omega (arith, s .pre .cells-few)))
 
 slice-aggregate-rows : tie.Need-slice-aggregate-rows
 slice-aggregate-rows c =
-    let s = c .before .before .before .before .before .before .before .before .before .before .before in
-    let a = c .before .before .before .before .words-5122 in
-    sym (prefix (a .result) (s .args .layers) 512 (a .ensures) (omega (arith, s .pre .1)))
+    let w = c .before .before .before .before in
+    let s = entry w in
+    sym (prefix _ (s .args .layers) mostCells (rooms w .rows-long) (s .pre .layers-few))
+
+-- ---- over a row of records
 
 list-records-requires : tie.Need-list-records-requires
 list-records-requires c κs =
-    let s = c .before .before .before .before .before .before .before .before .before .before .before .before .before in
-    let a = s .args in
-    let f = c .before .before .before .before .before .before .before .before .before .floats-512 in
-    let n = c .before .before .before .before .before .before .before .before .words-512 in
-    let r = c .before .before .before .before .before .before .words-5122 in
-    (few-cut (f .result) (n .result) (r .result) (a .total) (a .layers) (f .ensures) (n .ensures) (r .ensures) (s .pre .0) (s .pre .1) (s .pre .3), s .pre .2)
-
-same-length : tie.Need-same-length
-same-length c = search needs
+    let w = c .before .before .before .before .before .before in
+    let s = entry w in
+    (few-cut (rooms w) (s .pre), s .pre .entries-few)
 
 returns : tie.Need-returns
 returns c =
-    let s = c .before .before .before .before .before .before .before .before .before .before .before .before .before .before .before .before .before .before .before .before in
+    let l = c .before .before .before .before .before .before in
+    let w = l .before .before .before .before .before .before .before in
+    let s = entry w in
     let a = s .args in
-    let f = c .before .before .before .before .before .before .before .before .before .before .before .before .before .before .before .before .floats-512 in
-    let n = c .before .before .before .before .before .before .before .before .before .before .before .before .before .before .before .words-512 in
-    let k = c .before .before .before .before .before .before .before .before .before .before .before .before .before .before .words-1536 in
-    let r = c .before .before .before .before .before .before .before .before .before .before .before .before .before .words-5122 in
     let zeros : length {A = ℕ} (replicate (a .room) 0) ≡ a .room = length-replicate (a .room) 0 in
-    cut-listed (jobOf (a .grid) (a .vertices .now) (a .topology) (a .given) (a .indices .now) (a .limit)) (f .result) (n .result) (k .result) (r .result) (replicate (a .room) 0) (replicate (a .room) 0) (replicate (a .room) 0)
-    (a .total)
-    (a .layers)
-    (a .room)
-    (f .ensures)
-    (n .ensures)
-    (k .ensures)
-    (r .ensures)
+    cut-listed (rooms w) (s .pre) (heldJob (a .asked) (a .vertices .now) (a .indices .now)) (replicate (a .room) 0) (replicate (a .room) 0) (replicate (a .room) 0)
     zeros
     zeros
     zeros
-    (s .pre .0)
-    (s .pre .1)
-    (c .before .before .before .before .before .before .list-records .ensures)
+    (l .list-records .ensures)
 
-words-2048-requires : tie.Need-words-2048-requires
-words-2048-requires c κs = search needs
+-- ---- over three buffers
 
-words-2048-requires-2 : tie.Need-words-2048-requires-2
-words-2048-requires-2 c κs = search needs
-
-words-2048-requires-3 : tie.Need-words-2048-requires-3
-words-2048-requires-3 c κs = search needs
-
-array-borrow-prefix-distances : tie.Need-array-borrow-prefix-distances
-array-borrow-prefix-distances c = search needs
+-- from where they are there, back to the four
+abbrev four : tie.After-entry-words3 → tie.After-cell-words2
+four c = c .before .before .before .before .before .before .before .before
 
 slice-aggregate-list-outcome : tie.Need-slice-aggregate-list-outcome
 slice-aggregate-list-outcome c =
-    let s = c .before .before .before .before .before .before .before .before .before .before .before .before .before .before .before .before in
-    let a = c .before .before .before .words-2048 in
-    sym (prefix (a .result) (s .args .room) 2048 (a .ensures) (omega (arith, s .pre .2)))
-
-array-borrow-prefix-cells : tie.Need-array-borrow-prefix-cells
-array-borrow-prefix-cells c = search needs
+    let q = c .before in
+    let s = entry (four q) in
+    sym (prefix _ (s .args .room) mostEntries (q .before .before .entry-words .ensures) (s .pre .entries-few))
 
 slice-aggregate-list-outcome-2 : tie.Need-slice-aggregate-list-outcome-2
 slice-aggregate-list-outcome-2 c =
-    let s = c .before .before .before .before .before .before .before .before .before .before .before .before .before .before .before .before .before in
-    let a = c .before .before .before .words-20482 in
-    sym (prefix (a .result) (s .args .room) 2048 (a .ensures) (omega (arith, s .pre .2)))
-
-array-borrow-prefix-triangles : tie.Need-array-borrow-prefix-triangles
-array-borrow-prefix-triangles c = search needs
+    let q = c .before .before in
+    let s = entry (four q) in
+    sym (prefix _ (s .args .room) mostEntries (q .before .entry-words2 .ensures) (s .pre .entries-few))
 
 slice-aggregate-list-outcome-3 : tie.Need-slice-aggregate-list-outcome-3
 slice-aggregate-list-outcome-3 c =
-    let s = c .before .before .before .before .before .before .before .before .before .before .before .before .before .before .before .before .before .before in
-    let a = c .before .before .before .words-20483 in
-    sym (prefix (a .result) (s .args .room) 2048 (a .ensures) (omega (arith, s .pre .2)))
+    let q = c .before .before .before in
+    let s = entry (four q) in
+    sym (prefix _ (s .args .room) mostEntries (q .entry-words3 .ensures) (s .pre .entries-few))
 
 list-outcome-requires : tie.Need-list-outcome-requires
 list-outcome-requires c κs =
-    let s = c .before .before .before .before .before .before .before .before .before .before .before .before .before .before .before .before .before .before .before in
-    let a = s .args in
-    let f = c .before .before .before .before .before .before .before .before .before .before .before .before .before .before .before .floats-512 in
-    let n = c .before .before .before .before .before .before .before .before .before .before .before .before .before .before .words-512 in
-    let r = c .before .before .before .before .before .before .before .before .before .before .before .before .words-5122 in
-    let d = c .before .before .before .before .before .before .words-2048 in
-    (few-cut (f .result) (n .result) (r .result) (a .total) (a .layers) (f .ensures) (n .ensures) (r .ensures) (s .pre .0) (s .pre .1) (s .pre .3), omega (arith, prefix (d .result) (a .room) 2048 (d .ensures) (s .pre .2), s .pre .2))
-
-same-length-2 : tie.Need-same-length-2
-same-length-2 c = search needs
+    let q = c .before .before .before .before in
+    let w = four q in
+    let s = entry w in
+    let d = q .before .before .entry-words in
+    (few-cut (rooms w) (s .pre), omega (arith, prefix (d .result) (s .args .room) mostEntries (d .ensures) (s .pre .entries-few), s .pre .entries-few))
 
 returns-2 : tie.Need-returns-2
 returns-2 c =
-    let s = c .before .before .before .before .before .before .before .before .before .before .before .before .before .before .before .before .before .before .before .before .before .before .before .before .before .before .before .before .before in
+    let l = c .before .before .before .before .before .before .before .before .before in
+    let q = l .before .before .before .before .before in
+    let w = four q in
+    let s = entry w in
     let a = s .args in
-    let f = c .before .before .before .before .before .before .before .before .before .before .before .before .before .before .before .before .before .before .before .before .before .before .before .before .before .floats-512 in
-    let n = c .before .before .before .before .before .before .before .before .before .before .before .before .before .before .before .before .before .before .before .before .before .before .before .before .words-512 in
-    let k = c .before .before .before .before .before .before .before .before .before .before .before .before .before .before .before .before .before .before .before .before .before .before .before .words-1536 in
-    let r = c .before .before .before .before .before .before .before .before .before .before .before .before .before .before .before .before .before .before .before .before .before .before .words-5122 in
-    let d = c .before .before .before .before .before .before .before .before .before .before .before .before .before .before .before .before .words-2048 in
-    let e = c .before .before .before .before .before .before .before .before .before .before .before .before .before .before .before .words-20482 in
-    let t = c .before .before .before .before .before .before .before .before .before .before .before .before .before .before .words-20483 in
-    cut-listed (jobOf (a .grid) (a .vertices .now) (a .topology) (a .given) (a .indices .now) (a .limit)) (f .result) (n .result) (k .result) (r .result) (take (a .room) (d .result)) (take (a .room) (e .result)) (take (a .room) (t .result))
-    (a .total)
-    (a .layers)
-    (a .room)
-    (f .ensures)
-    (n .ensures)
-    (k .ensures)
-    (r .ensures)
-    (prefix (d .result) (a .room) 2048 (d .ensures) (s .pre .2))
-    (prefix (e .result) (a .room) 2048 (e .ensures) (s .pre .2))
-    (prefix (t .result) (a .room) 2048 (t .ensures) (s .pre .2))
-    (s .pre .0)
-    (s .pre .1)
-    (c .before .before .before .before .before .before .before .before .before .list-outcome .ensures)
+    let d = q .before .before .entry-words in
+    let e = q .before .entry-words2 in
+    let t = q .entry-words3 in
+    cut-listed (rooms w) (s .pre) (heldJob (a .asked) (a .vertices .now) (a .indices .now)) (take (a .room) (d .result)) (take (a .room) (e .result)) (take (a .room) (t .result))
+    (prefix (d .result) (a .room) mostEntries (d .ensures) (s .pre .entries-few))
+    (prefix (e .result) (a .room) mostEntries (e .ensures) (s .pre .entries-few))
+    (prefix (t .result) (a .room) mostEntries (t .ensures) (s .pre .entries-few))
+    (l .list-outcome .ensures)
 
 pub list-run-spec : {M : Type 1} → statement M
 list-run-spec =
     tie.close
     (tie.spec
-    floats-512-requires
-    words-512-requires
-    words-1536-requires
-    words-512-requires-2
-    mul-counts
-    array-borrow-prefix-field-room
+    (λ c κs. tt)
+    (λ c κs. tt)
+    (λ c κs. tt)
+    (λ c κs. tt)
+    (λ c. search needs)
+    (λ c. search needs)
     slice-aggregate-field
-    array-borrow-prefix-names-room
+    (λ c. search needs)
     slice-aggregate-names
-    array-borrow-prefix-crossings-room
+    (λ c. search needs)
     slice-aggregate-crossings
-    array-borrow-prefix-rows-room
+    (λ c. search needs)
     slice-aggregate-rows
     list-records-requires
-    same-length
+    (λ c. search needs)
     returns
-    words-2048-requires
-    words-2048-requires-2
-    words-2048-requires-3
-    array-borrow-prefix-distances
+    (λ c κs. tt)
+    (λ c κs. tt)
+    (λ c κs. tt)
+    (λ c. search needs)
     slice-aggregate-list-outcome
-    array-borrow-prefix-cells
+    (λ c. search needs)
     slice-aggregate-list-outcome-2
-    array-borrow-prefix-triangles
+    (λ c. search needs)
     slice-aggregate-list-outcome-3
     list-outcome-requires
-    same-length-2
+    (λ c. search needs)
     returns-2)

@@ -9,15 +9,15 @@ use Rattle.text_write.proofs.lines.put_number.Tie as tie
 put-all-requires : tie.Need-put-all-requires
 put-all-requires c κs = search needs
 
-put-decimal-then-requires : tie.Need-put-decimal-then-requires
-put-decimal-then-requires c κs = search needs
+put-value-then-requires : tie.Need-put-value-then-requires
+put-value-then-requires c κs = search needs
 
 same-length : tie.Need-same-length
 same-length c = search needs
 
 returns : tie.Need-returns
-returns c = (said (simp append-assoc) refl (andThen (c .before .before .before .before .before .before .put-all .ensures) (c .before .before .put-decimal-then .ensures .0)), search needs)
+returns c = (said (simp append-assoc) refl (andThen (c .before .before .before .before .before .before .put-all .ensures) (c .before .before .put-value-then .ensures .0)), search needs)
 
 pub put-number-spec : {M : Type 1} → statement M
 put-number-spec =
-    tie.close (tie.spec put-all-requires put-decimal-then-requires same-length returns)
+    tie.close (tie.spec put-all-requires put-value-then-requires same-length returns)

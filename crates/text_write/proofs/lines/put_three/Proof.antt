@@ -1,0 +1,43 @@
+-- `text_write::lines::put_three` meets its contract: the key and the three numbers stand one after the other. Assumes nothing.
+use mathlib.Core.Path.{refl}
+use borrow.Author.Needs.{needs}
+use Rattle.text.specs.TextJob.{spelled}
+use Rattle.text_write.proofs.Puts.{said, andThen, three-words}
+use Rattle.text_write.proofs.lines.put_three.Statement.{statement}
+use Rattle.text_write.proofs.lines.put_three.Tie as tie
+
+put-all-requires : tie.Need-put-all-requires
+put-all-requires c κs = search needs
+
+put-value-then-requires : tie.Need-put-value-then-requires
+put-value-then-requires c κs = search needs
+
+put-value-then-requires-2 : tie.Need-put-value-then-requires-2
+put-value-then-requires-2 c κs = search needs
+
+put-value-then-requires-3 : tie.Need-put-value-then-requires-3
+put-value-then-requires-3 c κs = search needs
+
+same-length : tie.Need-same-length
+same-length c = search needs
+
+returns : tie.Need-returns
+returns c =
+    let z = c .before .before in
+    let y = z .before .before .before .before in
+    let x = y .before .before .before .before in
+    let k = x .before .before .before .before in
+    let a = k .before .before .before .before .args in
+    let put = andThen (andThen (andThen (k .put-all .ensures) (x .put-value-then .ensures .0)) (y .put-value-then2 .ensures .0)) (z .put-value-then3 .ensures .0) in
+    (said (three-words (a .key .now) (spelled (a .form) (a .t .x)) (spelled (a .form) (a .t .y)) (spelled (a .form) (a .t .z))) refl put, search needs)
+
+pub put-three-spec : {M : Type 1} → statement M
+put-three-spec =
+    tie.close
+    (tie.spec
+    put-all-requires
+    put-value-then-requires
+    put-value-then-requires-2
+    put-value-then-requires-3
+    same-length
+    returns)
