@@ -5,6 +5,7 @@ use grid::Grid;
 use mesh_topology::Indices;
 use mesh_topology::Topology;
 use queue::Entry;
+use terms::Terms;
 ghost use mathlib.Core.Path.{_≡_};
 ghost use Prim.Native.Nat.{_<_};
 ghost use lib.ListN.{length};
@@ -66,6 +67,7 @@ pub fn offers(
     field: &mut [f32],
     names: &mut [u32],
     e: Entry,
+    terms: Terms,
 ) -> Batch
     requires { ⌜ Ready grid (meshOf (now vertices) topology given (now indices)) × Known (total grid) (length (trianglesIn (meshOf (now vertices) topology given (now indices)))) e × (length (now field) ≡ total grid) × (length (now names) ≡ total grid) ⌝ }
     ensures { λ r. ⌜ PopOffered grid (meshOf (now (vertices .entry)) topology given (now (indices .entry))) e (now (field .entry)) (now (names .entry)) (now (field .exit)) (now (names .exit)) r ⌝ }

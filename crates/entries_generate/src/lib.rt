@@ -7,6 +7,7 @@ use job_outcome::Answer;
 use mesh_topology::Indices;
 use mesh_topology::Topology;
 use queue::Entry;
+use terms::Terms;
 ghost use mathlib.Core.Path.{_≡_};
 ghost use Rattle.job_checks.specs.Job.{jobOf};
 ghost use Rattle.job_outcome.specs.declared.Answer.the-variants.{Refused};
@@ -32,9 +33,13 @@ pub fn generate_grid_sdf_records(
     crossings: &mut [u32],
     rows: &mut [u32],
     queue: &mut [Entry],
-    limit: u32,
+    terms: Terms,
 ) -> Answer
-    ensures { λ r. ⌜ Gives (outcome (jobOf grid (now (vertices .entry)) topology given (now (indices .entry)) limit) (lentRow (now (field .entry)) (now (names .entry)) (now (crossings .entry)) (now (rows .entry)) (now (queue .entry)))) r (lentRow (now (field .exit)) (now (names .exit)) (now (crossings .exit)) (now (rows .exit)) (now (queue .exit))) ⌝ }
+    ensures { λ r.
+        let job = jobOf grid (now (vertices .entry)) topology given (now (indices .entry)) terms in
+        let lent = lentRow (now (field .entry)) (now (names .entry)) (now (crossings .entry)) (now (rows .entry)) (now (queue .entry)) in
+        let left = lentRow (now (field .exit)) (now (names .exit)) (now (crossings .exit)) (now (rows .exit)) (now (queue .exit)) in
+        ⌜ Gives (outcome job lent) r left ⌝ }
 {
     let begun = job_begin::begin(
         grid,
@@ -47,6 +52,7 @@ pub fn generate_grid_sdf_records(
         crossings.len(),
         rows.len(),
         queue.len(),
+        terms,
     );
     if begun.refused != 0 {
         return refused(begun.refused);
@@ -62,7 +68,7 @@ pub fn generate_grid_sdf_records(
         names,
         queue,
         begun.number,
-        limit,
+        terms,
     );
     let answer = job_close::close(
         grid,
@@ -74,6 +80,7 @@ pub fn generate_grid_sdf_records(
         names,
         crossings,
         rows,
+        terms,
         ran,
     );
     if ran.number == 0 {

@@ -6,6 +6,7 @@ use job_outcome::Answer;
 use mesh_topology::Indices;
 use mesh_topology::Topology;
 use queue::Entry;
+use terms::Terms;
 ghost use Prim.Native.Nat.{_≤_};
 ghost use Rattle.job_checks.specs.Job.{jobOf};
 ghost use Rattle.job_outcome.specs.Outcome.{outcome};
@@ -23,10 +24,13 @@ pub fn run_records(
     crossings: &mut [u32],
     rows: &mut [u32],
     room: usize,
-    limit: u32,
+    terms: Terms,
 ) -> Answer
     requires { ⌜ room ≤ 2048 ⌝ }
-    ensures { λ r. ⌜ GivesFour (outcome (jobOf grid (now (vertices .entry)) topology given (now (indices .entry)) limit) (lentOwn (now (field .entry)) (now (names .entry)) (now (crossings .entry)) (now (rows .entry)) room)) r (now (field .exit)) (now (names .exit)) (now (crossings .exit)) (now (rows .exit)) ⌝ }
+    ensures { λ r.
+        let job = jobOf grid (now (vertices .entry)) topology given (now (indices .entry)) terms in
+        let lent = lentOwn (now (field .entry)) (now (names .entry)) (now (crossings .entry)) (now (rows .entry)) room in
+        ⌜ GivesFour (outcome job lent) r (now (field .exit)) (now (names .exit)) (now (crossings .exit)) (now (rows .exit)) ⌝ }
 {
     let none = Entry {
         distance: 0,
@@ -45,6 +49,6 @@ pub fn run_records(
         crossings,
         rows,
         &mut queue[..room],
-        limit,
+        terms,
     )
 }

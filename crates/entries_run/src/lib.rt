@@ -5,6 +5,7 @@ use mesh_topology::Indices;
 use mesh_topology::Topology;
 use queue::Entry;
 use run_state::Progress;
+use terms::Terms;
 ghost use mathlib.Core.Path.{_≡_};
 ghost use lib.ListN.{length};
 ghost use Rattle.mesh.specs.Mesh.{meshOf};
@@ -39,10 +40,14 @@ pub fn run_row(
     names: &mut [u32],
     row: &mut [Entry],
     number: u32,
-    limit: u32,
+    terms: Terms,
 ) -> Progress
     requires { ⌜ Fit grid (meshOf (now vertices) topology given (now indices)) × Seeded grid (meshOf (now vertices) topology given (now indices)) number (now field) (now names) (now row) ⌝ }
-    ensures { λ r. ⌜ Leaves grid (meshOf (now (vertices .entry)) topology given (now (indices .entry))) (λ any. run (runInput grid (meshOf (now (vertices .entry)) topology given (now (indices .entry))) (length (now (row .entry))) limit)) (now (field .exit)) (now (names .exit)) (rowDistances (now (row .exit))) (rowCells (now (row .exit))) (rowTriangles (now (row .exit))) r ⌝ }
+    ensures { λ r.
+        let m = meshOf (now (vertices .entry)) topology given (now (indices .entry)) in
+        let left = now (row .exit) in
+        ⌜ Leaves grid m (λ any. run (runInput grid m (length (now (row .entry))) (terms .limit)))
+        (now (field .exit)) (now (names .exit)) (rowDistances left) (rowCells left) (rowTriangles left) r ⌝ }
 {
     let at = begun(number);
     if at.number != 0 {
@@ -63,6 +68,6 @@ pub fn run_row(
         names,
         row,
         queued,
-        limit,
+        terms,
     )
 }

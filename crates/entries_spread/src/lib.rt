@@ -4,13 +4,14 @@ use mesh_topology::Indices;
 use mesh_topology::Topology;
 use queue::Entry;
 use run_state::Progress;
+use terms::Terms;
 ghost use mathlib.Core.Path.{_≡_};
 ghost use Rattle.mesh.specs.Mesh.{meshOf};
 ghost use Rattle.run.specs.Run.{spreading};
 ghost use Rattle.run_state.specs.Told.{Ready};
 ghost use Rattle.entries_state.specs.Records.{HoldsRow, ToldRow};
 
-// Step 3 of the run: spreads what waits, until nothing does, with at most `limit` pops.
+// Step 3 of the run: spreads what waits, until nothing does, with at most as many pops as the limit.
 pub fn spread(
     grid: Grid,
     vertices: &[f32],
@@ -21,21 +22,34 @@ pub fn spread(
     names: &mut [u32],
     row: &mut [Entry],
     at: Progress,
-    limit: u32,
+    terms: Terms,
 ) -> Progress
     requires { ⌜ Ready grid (meshOf (now vertices) topology given (now indices)) × HoldsRow grid (meshOf (now vertices) topology given (now indices)) (now field) (now names) (now row) (at .waiting) × (at .number ≡ 0) × (at .pops ≡ 0) ⌝ }
-    ensures { λ r. ⌜ ToldRow grid (meshOf (now (vertices .entry)) topology given (now (indices .entry))) (λ g. spreading g limit) (now (field .entry)) (now (names .entry)) (now (row .entry)) at (now (field .exit)) (now (names .exit)) (now (row .exit)) r ⌝ }
+    ensures { λ r.
+        let m = meshOf (now (vertices .entry)) topology given (now (indices .entry)) in
+        ⌜ ToldRow grid m (λ g. spreading g (terms .limit)) (now (field .entry)) (now (names .entry)) (now (row .entry)) at
+        (now (field .exit)) (now (names .exit)) (now (row .exit)) r ⌝ }
 {
     let count = vertices.len() / 3;
     let mut run = at;
     while 0 < run.waiting {
         let n = run.waiting;
-        run = entries_state::popped(run, limit);
+        run = entries_state::popped(run, terms);
         if run.number != 0 {
             break;
         }
         let e = entries_take::take(row, n, topology, given, indices, count);
-        let b = entries_gather::offers(grid, vertices, topology, given, indices, field, names, e);
+        let b = entries_gather::offers(
+            grid,
+            vertices,
+            topology,
+            given,
+            indices,
+            field,
+            names,
+            e,
+            terms,
+        );
         run = entries_push_all::push_all(row, run, b, topology, given, indices, count);
         if run.number != 0 {
             break;

@@ -7,12 +7,16 @@ use denote.Struct.Laws.{owed}
 use Rattle.walking.proofs.Lends.{Kind, Valued}
 use Rattle.walking.proofs.ByValue.{a-struct, a-u32, a-usize}
 use Rattle.grid.proofs.Grid
+use Rattle.terms.proofs.Terms
 use Rattle.run_state.proofs.Progress
 use Rattle.entries_batch.proofs.Batch
 
 module _ {M : Type 1} {𝓤 : URA M} {H : Heap 𝓤} {A : Atoms 𝓤} (W : Given 𝓤 H A) where
   abbrev pub a-grid : Kind 𝓤 H A
   a-grid = a-struct W Grid.the-type Grid.Laws.the-laws Grid.Laws.the-plain Grid.Laws.the-copy
+
+  abbrev pub a-terms : Kind 𝓤 H A
+  a-terms = a-struct W Terms.the-type Terms.Laws.the-laws Terms.Laws.the-plain Terms.Laws.the-copy
 
   abbrev pub a-progress : Kind 𝓤 H A
   a-progress = a-struct W Progress.the-type Progress.Laws.the-laws Progress.Laws.the-plain Progress.Laws.the-copy

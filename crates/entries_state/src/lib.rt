@@ -3,6 +3,7 @@
 // names alone, as a batch; the batch is queued afterwards. Here are its counts; `entries_push_all` queues a batch,
 // `entries_queue` the cells, and `entries_spread` spreads. A part of the port: users call `sdf`.
 use run_state::Progress;
+use terms::Terms;
 ghost use mathlib.Core.Path.{_≡_};
 ghost use Prim.Native.Nat.{_≤_, _<_};
 ghost use Rattle.entries_state.specs.Records.{stoppedBy, poppedBy};
@@ -18,11 +19,11 @@ pub fn stopped(at: Progress, number: u32) -> Progress
 }
 
 // The counts with one more taken, or refused by 8 where the pops are spent.
-pub fn popped(at: Progress, limit: u32) -> Progress
-    requires { ⌜ (0 < at .waiting) × (at .pops ≤ limit) ⌝ }
-    ensures { λ r. ⌜ r ≡ poppedBy limit at ⌝ }
+pub fn popped(at: Progress, terms: Terms) -> Progress
+    requires { ⌜ (0 < at .waiting) × (at .pops ≤ terms .limit) ⌝ }
+    ensures { λ r. ⌜ r ≡ poppedBy (terms .limit) at ⌝ }
 {
-    if at.pops == limit {
+    if at.pops == terms.limit {
         return at.refused(8);
     }
     let left = at.waiting - 1;

@@ -4,6 +4,7 @@ use grid::Grid;
 use job_outcome::Answer;
 use mesh_topology::Indices;
 use mesh_topology::Topology;
+use terms::Terms;
 ghost use mathlib.Core.Path.{_≡_};
 ghost use Rattle.mesh.specs.Mesh.{meshOf};
 ghost use Rattle.run_state.specs.Told.{Fit};
@@ -27,12 +28,18 @@ fn cleared_job(
     distances: &mut [u32],
     cells: &mut [u32],
     triangles: &mut [u32],
-    limit: u32,
+    terms: Terms,
 ) -> Answer
     requires { ⌜ Fit grid (meshOf (now vertices) topology given (now indices)) ⌝ }
     requires { ⌜ Fresh grid (meshOf (now vertices) topology given (now indices)) (now field) (now names) (now distances) (now cells) (now triangles) ⌝ }
     requires { ⌜ Long grid (now crossings) (now rows) ⌝ }
-    ensures { λ r. ⌜ Gives (ended (jobOf grid (now (vertices .entry)) topology given (now (indices .entry)) limit) (lentOf (now (field .entry)) (now (names .entry)) (now (crossings .entry)) (now (rows .entry)) (now (distances .entry)) (now (cells .entry)) (now (triangles .entry))) (runOf (jobOf grid (now (vertices .entry)) topology given (now (indices .entry)) limit) (lentOf (now (field .entry)) (now (names .entry)) (now (crossings .entry)) (now (rows .entry)) (now (distances .entry)) (now (cells .entry)) (now (triangles .entry))))) r (lentOf (now (field .exit)) (now (names .exit)) (now (crossings .exit)) (now (rows .exit)) (now (distances .exit)) (now (cells .exit)) (now (triangles .exit))) ⌝ }
+    ensures { λ r.
+        let job = jobOf grid (now (vertices .entry)) topology given (now (indices .entry)) terms in
+        let lent = lentOf (now (field .entry)) (now (names .entry)) (now (crossings .entry)) (now (rows .entry))
+        (now (distances .entry)) (now (cells .entry)) (now (triangles .entry)) in
+        let left = lentOf (now (field .exit)) (now (names .exit)) (now (crossings .exit)) (now (rows .exit))
+        (now (distances .exit)) (now (cells .exit)) (now (triangles .exit)) in
+        ⌜ Gives (ended job lent (runOf job lent)) r left ⌝ }
 {
     let ran = run_field::run_field(
         grid,
@@ -45,7 +52,7 @@ fn cleared_job(
         distances,
         cells,
         triangles,
-        limit,
+        terms,
     );
     job_conclude::conclude(
         grid,
@@ -60,7 +67,7 @@ fn cleared_job(
         distances,
         cells,
         triangles,
-        limit,
+        terms,
         ran,
     )
 }
@@ -79,10 +86,18 @@ pub fn accepted_job(
     distances: &mut [u32],
     cells: &mut [u32],
     triangles: &mut [u32],
-    limit: u32,
+    terms: Terms,
 ) -> Answer
-    requires { ⌜ refusal (jobOf grid (now vertices) topology given (now indices) limit) (lentOf (now field) (now names) (now crossings) (now rows) (now distances) (now cells) (now triangles)) ≡ 0 ⌝ }
-    ensures { λ r. ⌜ Gives (ended (jobOf grid (now (vertices .entry)) topology given (now (indices .entry)) limit) (lentOf (now (field .entry)) (now (names .entry)) (now (crossings .entry)) (now (rows .entry)) (now (distances .entry)) (now (cells .entry)) (now (triangles .entry))) (runOf (jobOf grid (now (vertices .entry)) topology given (now (indices .entry)) limit) (lentOf (now (field .entry)) (now (names .entry)) (now (crossings .entry)) (now (rows .entry)) (now (distances .entry)) (now (cells .entry)) (now (triangles .entry))))) r (lentOf (now (field .exit)) (now (names .exit)) (now (crossings .exit)) (now (rows .exit)) (now (distances .exit)) (now (cells .exit)) (now (triangles .exit))) ⌝ }
+    requires { let job = jobOf grid (now vertices) topology given (now indices) terms in
+        let lent = lentOf (now field) (now names) (now crossings) (now rows) (now distances) (now cells) (now triangles) in
+        ⌜ refusal job lent ≡ 0 ⌝ }
+    ensures { λ r.
+        let job = jobOf grid (now (vertices .entry)) topology given (now (indices .entry)) terms in
+        let lent = lentOf (now (field .entry)) (now (names .entry)) (now (crossings .entry)) (now (rows .entry))
+        (now (distances .entry)) (now (cells .entry)) (now (triangles .entry)) in
+        let left = lentOf (now (field .exit)) (now (names .exit)) (now (crossings .exit)) (now (rows .exit))
+        (now (distances .exit)) (now (cells .exit)) (now (triangles .exit)) in
+        ⌜ Gives (ended job lent (runOf job lent)) r left ⌝ }
 {
     job_clear::clear_all(field, names, crossings, rows, distances, cells, triangles);
     cleared_job(
@@ -98,6 +113,6 @@ pub fn accepted_job(
         distances,
         cells,
         triangles,
-        limit,
+        terms,
     )
 }

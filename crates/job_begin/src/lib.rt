@@ -4,6 +4,7 @@ use grid::Grid;
 use job_checks::Lengths;
 use mesh_topology::Indices;
 use mesh_topology::Topology;
+use terms::Terms;
 ghost use Rattle.mesh.specs.Mesh.{meshOf};
 ghost use Rattle.job_begin.specs.Begins.{Begins};
 
@@ -25,6 +26,7 @@ pub fn begin(
     crossings: usize,
     rows: usize,
     room: usize,
+    terms: Terms,
 ) -> Begun
     ensures { λ r. ⌜ Begins grid (meshOf (now (vertices .entry)) topology given (now (indices .entry))) crossings rows room (now (field .entry)) (now (names .entry)) (now (field .exit)) (now (names .exit)) r ⌝ }
 {

@@ -5,6 +5,7 @@ use lib.Ieee.{Float}
 use Rattle.grid.specs.declared.Grid.{Grid}
 use Rattle.mesh_topology.specs.declared.Topology.{Topology}
 use Rattle.mesh_topology.specs.declared.Indices.{Indices}
+use Rattle.terms.specs.declared.Terms.{Terms}
 use Rattle.mesh.specs.Mesh.{Mesh, meshOf}
 
 pub record Job : Type 0 where
@@ -13,8 +14,8 @@ pub record Job : Type 0 where
   -- the pop limit
   pub limit : ℕ
 
-abbrev pub jobOf : Grid → List Float → Topology → Indices → List ℕ → ℕ → Job
-jobOf grid vertices topology given indices limit = record { grid = grid; mesh = meshOf vertices topology given indices; limit = limit }
+abbrev pub jobOf : Grid → List Float → Topology → Indices → List ℕ → Terms → Job
+jobOf grid vertices topology given indices terms = record { grid = grid; mesh = meshOf vertices topology given indices; limit = terms .limit }
 
 -- the lent buffers: the field, the names, the crossings, the rows, and the queue's distances, cells and triangles
 pub record Lent : Type 0 where

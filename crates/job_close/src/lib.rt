@@ -5,6 +5,7 @@ use job_outcome::Tally;
 use mesh_topology::Indices;
 use mesh_topology::Topology;
 use run_state::Progress;
+use terms::Terms;
 ghost use mathlib.Core.Path.{_≡_};
 ghost use lib.ListN.{length};
 ghost use Rattle.grid.specs.Index.{total};
@@ -45,6 +46,7 @@ pub fn close(
     names: &mut [u32],
     crossings: &mut [u32],
     rows: &mut [u32],
+    terms: Terms,
     ran: Progress,
 ) -> Answer
     requires { ⌜ Fit grid (meshOf (now vertices) topology given (now indices)) × (length (now field) ≡ total grid) × Long grid (now crossings) (now rows) ⌝ }

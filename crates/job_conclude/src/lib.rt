@@ -4,6 +4,7 @@ use job_outcome::Answer;
 use mesh_topology::Indices;
 use mesh_topology::Topology;
 use run_state::Progress;
+use terms::Terms;
 ghost use Rattle.lists.specs.Turns.{told};
 ghost use Rattle.mesh.specs.Mesh.{meshOf};
 ghost use Rattle.run_state.specs.Told.{orderIn, stateOf, Fit, Ran};
@@ -26,13 +27,22 @@ pub fn conclude(
     distances: &mut [u32],
     cells: &mut [u32],
     triangles: &mut [u32],
-    limit: u32,
+    terms: Terms,
     ran: Progress,
 ) -> Answer
     requires { ⌜ Fit grid (meshOf (now vertices) topology given (now indices)) ⌝ }
     requires { ⌜ Ran grid (meshOf (now vertices) topology given (now indices)) (now field) (now names) (now distances) (now cells) (now triangles) ran ⌝ }
     requires { ⌜ Long grid (now crossings) (now rows) ⌝ }
-    ensures { λ r. ⌜ Gives (ended (jobOf grid (now (vertices .entry)) topology given (now (indices .entry)) limit) (lentOf (now (field .entry)) (now (names .entry)) (now (crossings .entry)) (now (rows .entry)) (now (distances .entry)) (now (cells .entry)) (now (triangles .entry))) (told (ran .number) (stateOf (orderIn (meshOf (now (vertices .entry)) topology given (now (indices .entry)))) (now (field .entry)) (now (names .entry)) (now (distances .entry)) (now (cells .entry)) (now (triangles .entry)) ran))) r (lentOf (now (field .exit)) (now (names .exit)) (now (crossings .exit)) (now (rows .exit)) (now (distances .exit)) (now (cells .exit)) (now (triangles .exit))) ⌝ }
+    ensures { λ r.
+        let job = jobOf grid (now (vertices .entry)) topology given (now (indices .entry)) terms in
+        let lent = lentOf (now (field .entry)) (now (names .entry)) (now (crossings .entry)) (now (rows .entry))
+        (now (distances .entry)) (now (cells .entry)) (now (triangles .entry)) in
+        let left = lentOf (now (field .exit)) (now (names .exit)) (now (crossings .exit)) (now (rows .exit))
+        (now (distances .exit)) (now (cells .exit)) (now (triangles .exit)) in
+        let m = meshOf (now (vertices .entry)) topology given (now (indices .entry)) in
+        let state = stateOf (orderIn m) (now (field .entry)) (now (names .entry)) (now (distances .entry)) (now (cells .entry))
+        (now (triangles .entry)) ran in
+        ⌜ Gives (ended job lent (told (ran .number) state)) r left ⌝ }
 {
     let answer = job_close::close(
         grid,
@@ -44,6 +54,7 @@ pub fn conclude(
         names,
         crossings,
         rows,
+        terms,
         ran,
     );
     if ran.number != 0 {

@@ -5,6 +5,7 @@ use grid::Grid;
 use job_checks::Lengths;
 use mesh_topology::Indices;
 use mesh_topology::Topology;
+use terms::Terms;
 ghost use Rattle.job_checks.specs.Job.{jobOf, lentOf};
 ghost use Rattle.job_outcome.specs.Outcome.{Gives, outcome};
 pub use job_outcome::Answer;
@@ -24,9 +25,15 @@ pub fn generate_grid_sdf(
     distances: &mut [u32],
     cells: &mut [u32],
     triangles: &mut [u32],
-    limit: u32,
+    terms: Terms,
 ) -> Answer
-    ensures { λ r. ⌜ Gives (outcome (jobOf grid (now (vertices .entry)) topology given (now (indices .entry)) limit) (lentOf (now (field .entry)) (now (names .entry)) (now (crossings .entry)) (now (rows .entry)) (now (distances .entry)) (now (cells .entry)) (now (triangles .entry)))) r (lentOf (now (field .exit)) (now (names .exit)) (now (crossings .exit)) (now (rows .exit)) (now (distances .exit)) (now (cells .exit)) (now (triangles .exit))) ⌝ }
+    ensures { λ r.
+        let job = jobOf grid (now (vertices .entry)) topology given (now (indices .entry)) terms in
+        let lent = lentOf (now (field .entry)) (now (names .entry)) (now (crossings .entry)) (now (rows .entry))
+        (now (distances .entry)) (now (cells .entry)) (now (triangles .entry)) in
+        let left = lentOf (now (field .exit)) (now (names .exit)) (now (crossings .exit)) (now (rows .exit))
+        (now (distances .exit)) (now (cells .exit)) (now (triangles .exit)) in
+        ⌜ Gives (outcome job lent) r left ⌝ }
 {
     let lengths = Lengths {
         field: field.len(),
@@ -54,6 +61,6 @@ pub fn generate_grid_sdf(
         distances,
         cells,
         triangles,
-        limit,
+        terms,
     )
 }

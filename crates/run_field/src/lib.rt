@@ -4,6 +4,7 @@ use grid::Grid;
 use mesh_topology::Indices;
 use mesh_topology::Topology;
 use run_state::Progress;
+use terms::Terms;
 ghost use lib.ListN.{length};
 ghost use Rattle.lists.specs.Turns.{andThen};
 ghost use Rattle.mesh.specs.Mesh.{meshOf};
@@ -24,12 +25,17 @@ fn spread_seeds(
     distances: &mut [u32],
     cells: &mut [u32],
     triangles: &mut [u32],
-    limit: u32,
+    terms: Terms,
 ) -> Progress
     requires { ⌜ Ready grid (meshOf (now vertices) topology given (now indices)) ⌝ }
     requires { ⌜ Holds grid (meshOf (now vertices) topology given (now indices)) (now field) (now names) (now distances) (now cells) (now triangles) 0 ⌝ }
     requires { ⌜ Named grid (meshOf (now vertices) topology given (now indices)) (now field) (now names) ⌝ }
-    ensures { λ r. ⌜ Leaves grid (meshOf (now (vertices .entry)) topology given (now (indices .entry))) (λ any. andThen (queueing (runInput grid (meshOf (now (vertices .entry)) topology given (now (indices .entry))) (length (now (distances .entry))) any) (seeded (meshOf (now (vertices .entry)) topology given (now (indices .entry))) (now (field .entry)) (now (names .entry)) (now (distances .entry)) (now (cells .entry)) (now (triangles .entry)))) (spreading (runInput grid (meshOf (now (vertices .entry)) topology given (now (indices .entry))) (length (now (distances .entry))) any) limit)) (now (field .exit)) (now (names .exit)) (now (distances .exit)) (now (cells .exit)) (now (triangles .exit)) r ⌝ }
+    ensures { λ r.
+        let m = meshOf (now (vertices .entry)) topology given (now (indices .entry)) in
+        let ground = runInput grid m (length (now (distances .entry))) in
+        let s = seeded m (now (field .entry)) (now (names .entry)) (now (distances .entry)) (now (cells .entry)) (now (triangles .entry)) in
+        ⌜ Leaves grid m (λ any. andThen (queueing (ground any) s) (spreading (ground any) (terms .limit)))
+        (now (field .exit)) (now (names .exit)) (now (distances .exit)) (now (cells .exit)) (now (triangles .exit)) r ⌝ }
 {
     let begun = Progress {
         number: 0,
@@ -65,7 +71,7 @@ fn spread_seeds(
         cells,
         triangles,
         queued,
-        limit,
+        terms,
     )
 }
 
@@ -81,11 +87,14 @@ pub fn run_field(
     distances: &mut [u32],
     cells: &mut [u32],
     triangles: &mut [u32],
-    limit: u32,
+    terms: Terms,
 ) -> Progress
     requires { ⌜ Fit grid (meshOf (now vertices) topology given (now indices)) ⌝ }
     requires { ⌜ Fresh grid (meshOf (now vertices) topology given (now indices)) (now field) (now names) (now distances) (now cells) (now triangles) ⌝ }
-    ensures { λ r. ⌜ Leaves grid (meshOf (now (vertices .entry)) topology given (now (indices .entry))) (λ any. run (runInput grid (meshOf (now (vertices .entry)) topology given (now (indices .entry))) (length (now (distances .entry))) limit)) (now (field .exit)) (now (names .exit)) (now (distances .exit)) (now (cells .exit)) (now (triangles .exit)) r ⌝ }
+    ensures { λ r.
+        let m = meshOf (now (vertices .entry)) topology given (now (indices .entry)) in
+        ⌜ Leaves grid m (λ any. run (runInput grid m (length (now (distances .entry))) (terms .limit)))
+        (now (field .exit)) (now (names .exit)) (now (distances .exit)) (now (cells .exit)) (now (triangles .exit)) r ⌝ }
 {
     let number = run_seed::seed(field, names, grid, vertices, topology, given, indices);
     if number != 0 {
@@ -107,6 +116,6 @@ pub fn run_field(
         distances,
         cells,
         triangles,
-        limit,
+        terms,
     )
 }

@@ -5,6 +5,7 @@ use grid::Grid;
 use mesh_topology::Indices;
 use mesh_topology::Topology;
 use run_state::Progress;
+use terms::Terms;
 ghost use mathlib.Core.Path.{_≡_};
 ghost use Prim.Native.Nat.{_<_};
 ghost use lib.ListN.{length};
@@ -85,7 +86,7 @@ fn pop(
     )
 }
 
-// Step 3 of the run: spreads what waits, until nothing does, with at most `limit` pops.
+// Step 3 of the run: spreads what waits, until nothing does, with at most as many pops as the limit.
 pub fn spread(
     grid: Grid,
     vertices: &[f32],
@@ -98,17 +99,21 @@ pub fn spread(
     cells: &mut [u32],
     triangles: &mut [u32],
     at: Progress,
-    limit: u32,
+    terms: Terms,
 ) -> Progress
     requires { ⌜ Ready grid (meshOf (now vertices) topology given (now indices)) ⌝ }
     requires { ⌜ Holds grid (meshOf (now vertices) topology given (now indices)) (now field) (now names) (now distances) (now cells) (now triangles) (at .waiting) ⌝ }
     requires { ⌜ (at .number ≡ 0) × (at .pops ≡ 0) ⌝ }
-    ensures { λ r. ⌜ Told grid (meshOf (now (vertices .entry)) topology given (now (indices .entry))) (λ g. spreading g limit) (now (field .entry)) (now (names .entry)) (now (distances .entry)) (now (cells .entry)) (now (triangles .entry)) at (now (field .exit)) (now (names .exit)) (now (distances .exit)) (now (cells .exit)) (now (triangles .exit)) r ⌝ }
+    ensures { λ r.
+        let m = meshOf (now (vertices .entry)) topology given (now (indices .entry)) in
+        ⌜ Told grid m (λ g. spreading g (terms .limit))
+        (now (field .entry)) (now (names .entry)) (now (distances .entry)) (now (cells .entry)) (now (triangles .entry)) at
+        (now (field .exit)) (now (names .exit)) (now (distances .exit)) (now (cells .exit)) (now (triangles .exit)) r ⌝ }
 {
     let steps = run_around::STEPS;
     let mut run = at;
     while 0 < run.waiting {
-        if run.pops == limit {
+        if run.pops == terms.limit {
             return run.refused(8);
         }
         run = pop(

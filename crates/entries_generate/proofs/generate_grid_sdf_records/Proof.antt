@@ -7,7 +7,7 @@ use Rattle.mesh.specs.Mesh.{Mesh, meshOf}
 use Rattle.job_begin.specs.Begins.{Begins}
 use Rattle.entries.specs.Row.{ClearedRow}
 use Rattle.entries.proofs.ByValue.{a-topology, a-given}
-use Rattle.entries_state.proofs.ByValue.{a-grid, a-progress}
+use Rattle.entries_state.proofs.ByValue.{a-grid, a-terms, a-progress}
 use Rattle.entries_state.proofs.Counts.{not-zero, is-zero}
 use Rattle.entries_run.proofs.Rows.{LeavesRow}
 use Rattle.job_checks.specs.Job.{jobOf}
@@ -33,11 +33,11 @@ module _ {M : Type 1} (𝓤 : URA M) (H : Heap 𝓤) (A : Atoms 𝓤) (W : Given
 
   -- what is taken, by its types
   abbrev ss : List (Sort 𝓤 H A 7)
-  ss = a-value (a-grid W) ∷ to-look 0 tt f32 ∷ a-value (a-topology W) ∷ a-value (a-given W) ∷ to-look 1 tt u32 ∷ to-write 2 tt f32 ∷ to-write 3 tt u32 ∷ to-write 4 tt u32 ∷ to-write 5 tt u32 ∷ to-write 6 tt E.the-row ∷ a-value (a-u32 W) ∷ []
+  ss = a-value (a-grid W) ∷ to-look 0 tt f32 ∷ a-value (a-topology W) ∷ a-value (a-given W) ∷ to-look 1 tt u32 ∷ to-write 2 tt f32 ∷ to-write 3 tt u32 ∷ to-write 4 tt u32 ∷ to-write 5 tt u32 ∷ to-write 6 tt E.the-row ∷ a-value (a-terms W) ∷ []
 
-  module _ (met : Met) (grid : Valued (a-grid W)) (vertices : Slice f32) (topology : Valued (a-topology W)) (given : Valued (a-given W)) (indices : Slice u32) (field : Slice f32) (names : Slice u32) (crossings : Slice u32) (rows : Slice u32) (queue : Slice E.the-row) (limit : Valued (a-u32 W)) where
+  module _ (met : Met) (grid : Valued (a-grid W)) (vertices : Slice f32) (topology : Valued (a-topology W)) (given : Valued (a-given W)) (indices : Slice u32) (field : Slice f32) (names : Slice u32) (crossings : Slice u32) (rows : Slice u32) (queue : Slice E.the-row) (terms : Valued (a-terms W)) where
     abbrev ps : List (Arg 𝓤 H A)
-    ps = value _ grid ∷ shown vertices ∷ value _ topology ∷ value _ given ∷ shown indices ∷ lent field ∷ lent names ∷ lent crossings ∷ lent rows ∷ lent queue ∷ value _ limit ∷ []
+    ps = value _ grid ∷ shown vertices ∷ value _ topology ∷ value _ given ∷ shown indices ∷ lent field ∷ lent names ∷ lent crossings ∷ lent rows ∷ lent queue ∷ value _ terms ∷ []
 
     abbrev Post : Val → SProp 𝓤
     Post = walkOf 𝓤 H A f.ended (stays ss) (f.clauses 𝓤 H A mem run) .post (own-bound ps)
@@ -48,7 +48,7 @@ module _ {M : Type 1} (𝓤 : URA M) (H : Heap 𝓤) (A : Atoms 𝓤) (W : Given
     -- what is passed on
     abbrev to-begin : List (Arg 𝓤 H A)
     to-begin = value _ grid ∷ shown vertices ∷ value _ topology ∷ value _ given ∷ shown indices ∷ lent field ∷ lent names
-        ∷ value (a-usize W) (record { it = crossings .count; is = (refl, crossings .room .0) }) ∷ value (a-usize W) (record { it = rows .count; is = (refl, rows .room .0) }) ∷ value (a-usize W) (record { it = queue .count; is = (refl, queue .room .0) }) ∷ []
+        ∷ value (a-usize W) (record { it = crossings .count; is = (refl, crossings .room .0) }) ∷ value (a-usize W) (record { it = rows .count; is = (refl, rows .room .0) }) ∷ value (a-usize W) (record { it = queue .count; is = (refl, queue .room .0) }) ∷ value _ terms ∷ []
 
     abbrev to-refused : Valued (a-begun W) → List (Arg 𝓤 H A)
     to-refused b = value _ (refusal-of W b) ∷ []
@@ -57,10 +57,10 @@ module _ {M : Type 1} (𝓤 : URA M) (H : Heap 𝓤) (A : Atoms 𝓤) (W : Given
     to-clear q = lent q ∷ []
 
     abbrev to-run : Slice f32 → Slice u32 → Slice E.the-row → Valued (a-begun W) → List (Arg 𝓤 H A)
-    to-run fs ns q b = value _ grid ∷ shown vertices ∷ value _ topology ∷ value _ given ∷ shown indices ∷ lent fs ∷ lent ns ∷ lent q ∷ value _ (seeding-of W b) ∷ value _ limit ∷ []
+    to-run fs ns q b = value _ grid ∷ shown vertices ∷ value _ topology ∷ value _ given ∷ shown indices ∷ lent fs ∷ lent ns ∷ lent q ∷ value _ (seeding-of W b) ∷ value _ terms ∷ []
 
     abbrev to-close : Slice f32 → Slice u32 → Valued (a-progress W) → List (Arg 𝓤 H A)
-    to-close fs ns p = value _ grid ∷ shown vertices ∷ value _ topology ∷ value _ given ∷ shown indices ∷ lent fs ∷ lent ns ∷ lent crossings ∷ lent rows ∷ value _ p ∷ []
+    to-close fs ns p = value _ grid ∷ shown vertices ∷ value _ topology ∷ value _ given ∷ shown indices ∷ lent fs ∷ lent ns ∷ lent crossings ∷ lent rows ∷ value _ terms ∷ value _ p ∷ []
 
     module _ (bs : Blocks (f.Code.function .locals)) where
       abbrev En : Env 𝓤 H
@@ -68,7 +68,7 @@ module _ {M : Type 1} (𝓤 : URA M) (H : Heap 𝓤) (A : Atoms 𝓤) (W : Given
 
       -- what is lent goes back, with what is promised of it
       leaves : (zs : Changes ps) (l : Long ps zs) (r : Valued (an-answer W))
-          → Gives (outcome (jobOf (grid .it) (vertices .ref .now) (topology .it) (given .it) (indices .ref .now) (limit .it)) (lentRow (field .ref .now) (names .ref .now) (crossings .ref .now) (rows .ref .now) (queue .ref .now))) (r .it) (lentRow (zs .0) (zs .1 .0) (zs .1 .1 .0) (zs .1 .1 .1 .0) (zs .1 .1 .1 .1 .0))
+          → Gives (outcome (jobOf (grid .it) (vertices .ref .now) (topology .it) (given .it) (indices .ref .now) (terms .it)) (lentRow (field .ref .now) (names .ref .now) (crossings .ref .now) (rows .ref .now) (queue .ref .now))) (r .it) (lentRow (zs .0) (zs .1 .0) (zs .1 .1 .0) (zs .1 .1 .1 .0) (zs .1 .1 .1 .1 .0))
           → Sq W (slices (after ps zs l) []) (prop (Post (an-answer W .val (r .it))))
       leaves zs l r is = by ! (via 𝓤 _ (to-exit 𝓤 H A W (after ps zs l) (an-answer W) r _ is) (ends-at 𝓤 H A f.ended (stays ss) (f.clauses 𝓤 H A mem run) W (own-bound ps) _ (r .it) (lefts ps zs) (fitting ps zs l)))
 
@@ -82,16 +82,16 @@ module _ {M : Type 1} (𝓤 : URA M) (H : Heap 𝓤) (A : Atoms 𝓤) (W : Given
           returns-if ! (opd ! refl) (λ d. calls-is ! 𝓣 (to-refused b) (an-answer W) (Refused (b .it .refused)) (asking-nothing (to-refused b) (λ n. met .1 (bound-to (to-refused b) n))) refl refl (tt, refl) (λ is _ _.
           returns-at ! Post refl refl tt $
           leaves (zs₁ .0, (zs₁ .1 .0, (crossings .ref .now, (rows .ref .now, (queue .ref .now, tt))))) (l₁ .0, (l₁ .1 .0, (refl, (refl, (refl, tt))))) (record { it = Refused (b .it .refused); is = is })
-          (refused-first (grid .it) mesh (limit .it) (field .ref .now) (names .ref .now) (crossings .ref .now) (rows .ref .now) (queue .ref .now) (zs₁ .0) (zs₁ .1 .0) (b .it) starts (Refused (b .it .refused)) refl (not-zero (b .it .refused) d)))) (λ d.
+          (refused-first (grid .it) mesh (terms .it .limit) (field .ref .now) (names .ref .now) (crossings .ref .now) (rows .ref .now) (queue .ref .now) (zs₁ .0) (zs₁ .1 .0) (b .it) starts (Refused (b .it .refused)) refl (not-zero (b .it .refused) d)))) (λ d.
           -- the row is cleared
           lends-on ! refl refl refl tt tt tt tt $ move ! (0 ∷ 7 ∷ []) $
           calls ! 𝓣 (to-clear queue) (a-unit W) (λ r zs. ClearedRow (queue .ref .now) (zs .0)) (asking-nothing (to-clear queue) (λ n. met .2 (bound-to (to-clear queue) n))) refl refl (tt, refl) (λ _ q₁ lq₁ clear₁. move ! (0 ∷ 2 ∷ 3 ∷ 4 ∷ 5 ∷ 6 ∷ 7 ∷ 1 ∷ []) $
           -- the run
           lends-on ! refl refl refl tt tt tt tt $ lends-on ! refl refl refl tt tt tt tt $ lends-on ! refl refl refl tt tt tt tt $ move ! (0 ∷ 1 ∷ 2 ∷ 3 ∷ 4 ∷ 7 ∷ []) $
-          calls ! 𝓣 (to-run (field₁ zs₁ l₁) (names₁ zs₁ l₁) (holding queue (q₁ .0) (lq₁ .0)) b) (a-progress W) (λ r zs. LeavesRow (grid .it) mesh (length (q₁ .0)) (limit .it) (zs .0) (zs .1 .0) (zs .1 .1 .0) r)
+          calls ! 𝓣 (to-run (field₁ zs₁ l₁) (names₁ zs₁ l₁) (holding queue (q₁ .0) (lq₁ .0)) b) (a-progress W) (λ r zs. LeavesRow (grid .it) mesh (length (q₁ .0)) (terms .it .limit) (zs .0) (zs .1 .0) (zs .1 .1 .0) r)
           (asking (to-run (field₁ zs₁ l₁) (names₁ zs₁ l₁) (holding queue (q₁ .0) (lq₁ .0)) b) _ (
-            fits (grid .it) mesh (limit .it) (field .ref .now) (names .ref .now) (crossings .ref .now) (rows .ref .now) (queue .ref .now) (zs₁ .0) (zs₁ .1 .0) (b .it) starts (is-zero (b .it .refused) d),
-            seeds (grid .it) mesh (limit .it) (field .ref .now) (names .ref .now) (crossings .ref .now) (rows .ref .now) (queue .ref .now) (zs₁ .0) (zs₁ .1 .0) (b .it) starts (is-zero (b .it .refused) d) (l₁ .0) (l₁ .1 .0) (q₁ .0) (lq₁ .0) clear₁,
+            fits (grid .it) mesh (terms .it .limit) (field .ref .now) (names .ref .now) (crossings .ref .now) (rows .ref .now) (queue .ref .now) (zs₁ .0) (zs₁ .1 .0) (b .it) starts (is-zero (b .it .refused) d),
+            seeds (grid .it) mesh (terms .it .limit) (field .ref .now) (names .ref .now) (crossings .ref .now) (rows .ref .now) (queue .ref .now) (zs₁ .0) (zs₁ .1 .0) (b .it) starts (is-zero (b .it .refused) d) (l₁ .0) (l₁ .1 .0) (q₁ .0) (lq₁ .0) clear₁,
           )
           (λ n. met .3 (bound-to (to-run (field₁ zs₁ l₁) (names₁ zs₁ l₁) (holding queue (q₁ .0) (lq₁ .0)) b) n))) refl refl (tt, refl) (λ ran zs₂ l₂ went. move ! (0 ∷ 1 ∷ 2 ∷ 3 ∷ 4 ∷ 6 ∷ 7 ∷ 5 ∷ []) $
           -- what follows it
@@ -99,15 +99,15 @@ module _ {M : Type 1} (𝓤 : URA M) (H : Heap 𝓤) (A : Atoms 𝓤) (W : Given
           calls ! 𝓣 (to-close (holding (field₁ zs₁ l₁) (zs₂ .0) (l₂ .0)) (holding (names₁ zs₁ l₁) (zs₂ .1 .0) (l₂ .1 .0)) ran) (an-answer W)
           (λ r zs. Closed (grid .it) mesh (ran .it) (zs₂ .0) (zs₂ .1 .0) (crossings .ref .now) (rows .ref .now) (zs .0) (zs .1 .0) (zs .1 .1 .0) (zs .1 .1 .1 .0) r)
           (asking (to-close (holding (field₁ zs₁ l₁) (zs₂ .0) (l₂ .0)) (holding (names₁ zs₁ l₁) (zs₂ .1 .0) (l₂ .1 .0)) ran) _ (
-            fits (grid .it) mesh (limit .it) (field .ref .now) (names .ref .now) (crossings .ref .now) (rows .ref .now) (queue .ref .now) (zs₁ .0) (zs₁ .1 .0) (b .it) starts (is-zero (b .it .refused) d),
-            field-long (grid .it) mesh (limit .it) (field .ref .now) (names .ref .now) (crossings .ref .now) (rows .ref .now) (queue .ref .now) (zs₁ .0) (zs₁ .1 .0) (b .it) starts (is-zero (b .it .refused) d) (l₁ .0) (l₁ .1 .0) (q₁ .0) (lq₁ .0) clear₁ (zs₂ .0) (zs₂ .1 .0) (zs₂ .1 .1 .0) (ran .it) (l₂ .0) (l₂ .1 .0) (l₂ .1 .1 .0) went,
-            is-long (grid .it) mesh (limit .it) (field .ref .now) (names .ref .now) (crossings .ref .now) (rows .ref .now) (queue .ref .now) (zs₁ .0) (zs₁ .1 .0) (b .it) starts (is-zero (b .it .refused) d),
+            fits (grid .it) mesh (terms .it .limit) (field .ref .now) (names .ref .now) (crossings .ref .now) (rows .ref .now) (queue .ref .now) (zs₁ .0) (zs₁ .1 .0) (b .it) starts (is-zero (b .it .refused) d),
+            field-long (grid .it) mesh (terms .it .limit) (field .ref .now) (names .ref .now) (crossings .ref .now) (rows .ref .now) (queue .ref .now) (zs₁ .0) (zs₁ .1 .0) (b .it) starts (is-zero (b .it .refused) d) (l₁ .0) (l₁ .1 .0) (q₁ .0) (lq₁ .0) clear₁ (zs₂ .0) (zs₂ .1 .0) (zs₂ .1 .1 .0) (ran .it) (l₂ .0) (l₂ .1 .0) (l₂ .1 .1 .0) went,
+            is-long (grid .it) mesh (terms .it .limit) (field .ref .now) (names .ref .now) (crossings .ref .now) (rows .ref .now) (queue .ref .now) (zs₁ .0) (zs₁ .1 .0) (b .it) starts (is-zero (b .it .refused) d),
           )
           (λ n. met .4 (bound-to (to-close (holding (field₁ zs₁ l₁) (zs₂ .0) (l₂ .0)) (holding (names₁ zs₁ l₁) (zs₂ .1 .0) (l₂ .1 .0)) ran) n))) refl refl (tt, refl) (λ answer zs₃ l₃ closed.
           puts ! (bin ! (opd ! refl) (opd ! refl) tt) tt (tt, tt) $
           returns-if ! (opd ! refl) (λ e. copies ! refl (tt, refl) $ returns-at ! Post refl refl tt $
           leaves (zs₃ .0, (zs₃ .1 .0, (zs₃ .1 .1 .0, (zs₃ .1 .1 .1 .0, (zs₂ .1 .1 .0, tt))))) (l₃ .0 ∙ l₂ .0 ∙ l₁ .0, (l₃ .1 .0 ∙ l₂ .1 .0 ∙ l₁ .1 .0, (l₃ .1 .1 .0, (l₃ .1 .1 .1 .0, (l₂ .1 .1 .0 ∙ lq₁ .0, tt))))) answer
-          (done-with (grid .it) mesh (limit .it) (field .ref .now) (names .ref .now) (crossings .ref .now) (rows .ref .now) (queue .ref .now) (zs₁ .0) (zs₁ .1 .0) (b .it) starts (is-zero (b .it .refused) d) (l₁ .0) (l₁ .1 .0) (q₁ .0) (lq₁ .0) clear₁ (zs₂ .0) (zs₂ .1 .0) (zs₂ .1 .1 .0) (ran .it) (l₂ .0) (l₂ .1 .0) (l₂ .1 .1 .0) went
+          (done-with (grid .it) mesh (terms .it .limit) (field .ref .now) (names .ref .now) (crossings .ref .now) (rows .ref .now) (queue .ref .now) (zs₁ .0) (zs₁ .1 .0) (b .it) starts (is-zero (b .it .refused) d) (l₁ .0) (l₁ .1 .0) (q₁ .0) (lq₁ .0) clear₁ (zs₂ .0) (zs₂ .1 .0) (zs₂ .1 .1 .0) (ran .it) (l₂ .0) (l₂ .1 .0) (l₂ .1 .1 .0) went
           (zs₃ .0) (zs₃ .1 .0) (zs₃ .1 .1 .0) (zs₃ .1 .1 .1 .0) (answer .it) closed (eqb→eq (ran .it .number) 0 e))) (λ e.
           -- the run was refused: the row is cleared again
           lends-on ! refl refl refl tt tt tt tt $ move ! (0 ∷ 7 ∷ []) $
@@ -115,7 +115,7 @@ module _ {M : Type 1} (𝓤 : URA M) (H : Heap 𝓤) (A : Atoms 𝓤) (W : Given
           (asking-nothing (to-clear (holding (holding queue (q₁ .0) (lq₁ .0)) (zs₂ .1 .1 .0) (l₂ .1 .1 .0))) (λ n. met .2 (bound-to (to-clear (holding (holding queue (q₁ .0) (lq₁ .0)) (zs₂ .1 .1 .0) (l₂ .1 .1 .0))) n))) refl refl (tt, refl) (λ _ q₃ lq₃ clear₃.
           move ! (0 ∷ 2 ∷ 3 ∷ 4 ∷ 5 ∷ 6 ∷ 7 ∷ 1 ∷ []) $ copies ! refl (tt, refl) $ returns-at ! Post refl refl tt $
           leaves (zs₃ .0, (zs₃ .1 .0, (zs₃ .1 .1 .0, (zs₃ .1 .1 .1 .0, (q₃ .0, tt))))) (l₃ .0 ∙ l₂ .0 ∙ l₁ .0, (l₃ .1 .0 ∙ l₂ .1 .0 ∙ l₁ .1 .0, (l₃ .1 .1 .0, (l₃ .1 .1 .1 .0, (lq₃ .0 ∙ l₂ .1 .1 .0 ∙ lq₁ .0, tt))))) answer
-          (cleared-after (grid .it) mesh (limit .it) (field .ref .now) (names .ref .now) (crossings .ref .now) (rows .ref .now) (queue .ref .now) (zs₁ .0) (zs₁ .1 .0) (b .it) starts (is-zero (b .it .refused) d) (l₁ .0) (l₁ .1 .0) (q₁ .0) (lq₁ .0) clear₁ (zs₂ .0) (zs₂ .1 .0) (zs₂ .1 .1 .0) (ran .it) (l₂ .0) (l₂ .1 .0) (l₂ .1 .1 .0) went
+          (cleared-after (grid .it) mesh (terms .it .limit) (field .ref .now) (names .ref .now) (crossings .ref .now) (rows .ref .now) (queue .ref .now) (zs₁ .0) (zs₁ .1 .0) (b .it) starts (is-zero (b .it .refused) d) (l₁ .0) (l₁ .1 .0) (q₁ .0) (lq₁ .0) clear₁ (zs₂ .0) (zs₂ .1 .0) (zs₂ .1 .1 .0) (ran .it) (l₂ .0) (l₂ .1 .0) (l₂ .1 .1 .0) went
           (zs₃ .0) (zs₃ .1 .0) (zs₃ .1 .1 .0) (zs₃ .1 .1 .1 .0) (answer .it) closed (not-zero (ran .it .number) e) (q₃ .0) clear₃)))))))))
         where
           -- the field and the names that were seeded
@@ -130,10 +130,10 @@ module _ {M : Type 1} (𝓤 : URA M) (H : Heap 𝓤) (A : Atoms 𝓤) (W : Given
 
   walks : Met → Walks 𝓤 H A f.ended (stays ss) (WpFn 𝓤 H (𝓣 .C) (𝓣 .Λ) f.Code.function) (f.clauses 𝓤 H A mem run)
   walks met = walked 𝓤 H A f.ended (stays ss) (f.clauses 𝓤 H A mem run) (WpFn 𝓤 H (𝓣 .C) (𝓣 .Λ) f.Code.function) (spells ss) (tells ss)
-      (λ κs qs bounds (grid, (vertices, (topology, (given, (indices, (field, (names, (crossings, (rows, (queue, (limit, _))))))))))) g (grid-is, (vertices-is, (topology-is, (given-is, (indices-is, (field-is, (names-is, (crossings-is, (rows-is, (queue-is, (limit-is, _))))))))))).
+      (λ κs qs bounds (grid, (vertices, (topology, (given, (indices, (field, (names, (crossings, (rows, (queue, (terms, _))))))))))) g (grid-is, (vertices-is, (topology-is, (given-is, (indices-is, (field-is, (names-is, (crossings-is, (rows-is, (queue-is, (terms-is, _))))))))))).
       via 𝓤 _ (fst∗ 𝓤 _ (emp 𝓤)) (walk met (record { it = grid; is = grid-is }) (taken f32 (κs .0) (qs .0) vertices (vertices-is .0 .1)) (record { it = topology; is = topology-is }) (record { it = given; is = given-is }) (taken u32 (κs .1 .0) (qs .1 .0) indices (indices-is .0 .1))
       (taken f32 (κs .1 .1 .0) (qs .1 .1 .0) field (field-is .0 .1)) (taken u32 (κs .1 .1 .1 .0) (qs .1 .1 .1 .0) names (names-is .0 .1)) (taken u32 (κs .1 .1 .1 .1 .0) (qs .1 .1 .1 .1 .0) crossings (crossings-is .0 .1))
-      (taken u32 (κs .1 .1 .1 .1 .1 .0) (qs .1 .1 .1 .1 .1 .0) rows (rows-is .0 .1)) (taken E.the-row (κs .1 .1 .1 .1 .1 .1 .0) (qs .1 .1 .1 .1 .1 .1 .0) queue (queue-is .0 .1)) (record { it = limit; is = limit-is })))
+      (taken u32 (κs .1 .1 .1 .1 .1 .0) (qs .1 .1 .1 .1 .1 .0) rows (rows-is .0 .1)) (taken E.the-row (κs .1 .1 .1 .1 .1 .1 .0) (qs .1 .1 .1 .1 .1 .1 .0) queue (queue-is .0 .1)) (record { it = terms; is = terms-is })))
 
   meets : Met → Meets 𝓤 H A f.signature (WpFn 𝓤 H (𝓣 .C) (𝓣 .Λ) f.Code.function) (f.spec 𝓤 H A mem run)
   meets met =

@@ -1,7 +1,7 @@
 -- `entries_own::run_records` meets its contract: a walk of its MIR, by hand, of one call. The first entries of a local array are lent for it, and the array comes
 -- back. Assumes nothing.
 use Rattle.walking.proofs.Prelude.{refl, ℕ, _≤_, arith, List, [], _∷_, map, getD, Is, URA, Val, SProp, ent, via, Memory, Routine, Heap, Env, WpFn, Tables, Atoms, Fun, givenOf, tables, tablesOf, Given, Sq, prop, runs, atRet, _$_, !, by, move, agg, rep, WpFn-mono, u32, f32, Meets, tripleOf, Triple, entered, cited, needs, walkOf, Walks, ends-at, walked, walk-meets, onEntry}
-use Rattle.walking.proofs.Prelude.{empty, holds, Blocks, envOf, Locals, opd, opds, puts, returns-at, lends-on, enters, Slice, taken, Valued, Arg, value, shown, lent, slices, Changes, lefts, Long, fitting, after, bound-to, words, asking-nothing, calls, own-bound, typed, from-entry, to-exit, a-u32, a-usize, Sort, a-value, to-look, to-write, stays, spells, tells, all-go}
+use Rattle.walking.proofs.Prelude.{empty, holds, Blocks, envOf, Locals, opd, opds, puts, returns-at, lends-on, enters, Slice, taken, Valued, Arg, value, shown, lent, slices, Changes, lefts, Long, fitting, after, bound-to, words, asking-nothing, calls, own-bound, typed, from-entry, to-exit, a-usize, Sort, a-value, to-look, to-write, stays, spells, tells, all-go}
 use base.Fml.{GName}
 use prog.Wp.{noLocal}
 use package.mir.Syntax.{w32}
@@ -15,7 +15,7 @@ use Rattle.job_checks.specs.Job.{Job, jobOf}
 use Rattle.job_outcome.specs.Outcome.{Gives, outcome}
 use Rattle.entries.proofs.ByValue.{a-topology, a-given, an-entry}
 use Rattle.entries_generate.specs.LentRow.{lentRow}
-use Rattle.entries_generate.proofs.ByValue.{a-grid, an-answer}
+use Rattle.entries_generate.proofs.ByValue.{a-grid, a-terms, an-answer}
 use Rattle.entries_own.specs.Own.{lentOwn, GivesFour}
 use Rattle.entries_own.proofs.Own.{first-long, row-typed, own-slice, lends-own, comes-own}
 use Rattle.entries_own.proofs.Zeros.{gives-four}
@@ -29,24 +29,24 @@ module _ {M : Type 1} (𝓤 : URA M) (H : Heap 𝓤) (A : Atoms 𝓤) (W : Given
 
   -- what is taken, by its types
   abbrev ss : List (Sort 𝓤 H A 6)
-  ss = a-value (a-grid W) ∷ to-look 0 tt f32 ∷ a-value (a-topology W) ∷ a-value (a-given W) ∷ to-look 1 tt u32 ∷ to-write 2 tt f32 ∷ to-write 3 tt u32 ∷ to-write 4 tt u32 ∷ to-write 5 tt u32 ∷ a-value (a-usize W) ∷ a-value (a-u32 W) ∷ []
+  ss = a-value (a-grid W) ∷ to-look 0 tt f32 ∷ a-value (a-topology W) ∷ a-value (a-given W) ∷ to-look 1 tt u32 ∷ to-write 2 tt f32 ∷ to-write 3 tt u32 ∷ to-write 4 tt u32 ∷ to-write 5 tt u32 ∷ a-value (a-usize W) ∷ a-value (a-terms W) ∷ []
 
   blank-is : Is E.the-row blank (an-entry W .val blank ∷ [])
   blank-is = owes E.the-type E.Laws.the-laws blank ((refl, omega arith), ((refl, omega arith), ((refl, omega arith), tt)))
 
-  module _ (met : Met) (grid : Valued (a-grid W)) (vertices : Slice f32) (topology : Valued (a-topology W)) (given : Valued (a-given W)) (indices : Slice u32) (field : Slice f32) (names : Slice u32) (crossings : Slice u32) (rows : Slice u32) (room : Valued (a-usize W)) (limit : Valued (a-u32 W)) where
+  module _ (met : Met) (grid : Valued (a-grid W)) (vertices : Slice f32) (topology : Valued (a-topology W)) (given : Valued (a-given W)) (indices : Slice u32) (field : Slice f32) (names : Slice u32) (crossings : Slice u32) (rows : Slice u32) (room : Valued (a-usize W)) (terms : Valued (a-terms W)) where
     abbrev ps : List (Arg 𝓤 H A)
-    ps = value _ grid ∷ shown vertices ∷ value _ topology ∷ value _ given ∷ shown indices ∷ lent field ∷ lent names ∷ lent crossings ∷ lent rows ∷ value _ room ∷ value _ limit ∷ []
+    ps = value _ grid ∷ shown vertices ∷ value _ topology ∷ value _ given ∷ shown indices ∷ lent field ∷ lent names ∷ lent crossings ∷ lent rows ∷ value _ room ∷ value _ terms ∷ []
 
     abbrev Post : Val → SProp 𝓤
     Post = walkOf 𝓤 H A f.ended (stays ss) (f.clauses 𝓤 H A mem run) .post (own-bound ps)
 
     abbrev the-job : Job
-    the-job = jobOf (grid .it) (vertices .ref .now) (topology .it) (given .it) (indices .ref .now) (limit .it)
+    the-job = jobOf (grid .it) (vertices .ref .now) (topology .it) (given .it) (indices .ref .now) (terms .it)
 
     -- what is passed on
     abbrev to-job : Slice E.the-row → List (Arg 𝓤 H A)
-    to-job queue = value _ grid ∷ shown vertices ∷ value _ topology ∷ value _ given ∷ shown indices ∷ lent field ∷ lent names ∷ lent crossings ∷ lent rows ∷ lent queue ∷ value _ limit ∷ []
+    to-job queue = value _ grid ∷ shown vertices ∷ value _ topology ∷ value _ given ∷ shown indices ∷ lent field ∷ lent names ∷ lent crossings ∷ lent rows ∷ lent queue ∷ value _ terms ∷ []
 
     module _ (few : room .it ≤ 2048) (bs : Blocks (f.Code.function .locals)) where
       abbrev En : Env 𝓤 H
@@ -83,10 +83,10 @@ module _ {M : Type 1} (𝓤 : URA M) (H : Heap 𝓤) (A : Atoms 𝓤) (W : Given
 
   walks : Met → Walks 𝓤 H A f.ended (stays ss) (WpFn 𝓤 H (𝓣 .C) (𝓣 .Λ) f.Code.function) (f.clauses 𝓤 H A mem run)
   walks met = walked 𝓤 H A f.ended (stays ss) (f.clauses 𝓤 H A mem run) (WpFn 𝓤 H (𝓣 .C) (𝓣 .Λ) f.Code.function) (spells ss) (tells ss)
-      (λ κs qs bounds (grid, (vertices, (topology, (given, (indices, (field, (names, (crossings, (rows, (room, (limit, _))))))))))) g (grid-is, (vertices-is, (topology-is, (given-is, (indices-is, (field-is, (names-is, (crossings-is, (rows-is, (room-is, (limit-is, _))))))))))).
+      (λ κs qs bounds (grid, (vertices, (topology, (given, (indices, (field, (names, (crossings, (rows, (room, (terms, _))))))))))) g (grid-is, (vertices-is, (topology-is, (given-is, (indices-is, (field-is, (names-is, (crossings-is, (rows-is, (room-is, (terms-is, _))))))))))).
       needs 𝓤 _ _ (walk met (record { it = grid; is = grid-is }) (taken f32 (κs .0) (qs .0) vertices (vertices-is .0 .1)) (record { it = topology; is = topology-is }) (record { it = given; is = given-is }) (taken u32 (κs .1 .0) (qs .1 .0) indices (indices-is .0 .1))
       (taken f32 (κs .1 .1 .0) (qs .1 .1 .0) field (field-is .0 .1)) (taken u32 (κs .1 .1 .1 .0) (qs .1 .1 .1 .0) names (names-is .0 .1)) (taken u32 (κs .1 .1 .1 .1 .0) (qs .1 .1 .1 .1 .0) crossings (crossings-is .0 .1))
-      (taken u32 (κs .1 .1 .1 .1 .1 .0) (qs .1 .1 .1 .1 .1 .0) rows (rows-is .0 .1)) (record { it = room; is = room-is }) (record { it = limit; is = limit-is })))
+      (taken u32 (κs .1 .1 .1 .1 .1 .0) (qs .1 .1 .1 .1 .1 .0) rows (rows-is .0 .1)) (record { it = room; is = room-is }) (record { it = terms; is = terms-is })))
 
   meets : Met → Meets 𝓤 H A f.signature (WpFn 𝓤 H (𝓣 .C) (𝓣 .Λ) f.Code.function) (f.spec 𝓤 H A mem run)
   meets met =

@@ -10,7 +10,7 @@ use Rattle.run_state.specs.Told.{Fit}
 use Rattle.run.specs.Run.{spreading}
 use Rattle.entries.proofs.ByValue.{a-topology, a-given}
 use Rattle.entries_state.specs.Records.{QueuedCells, ToldRow}
-use Rattle.entries_state.proofs.ByValue.{a-grid, a-progress}
+use Rattle.entries_state.proofs.ByValue.{a-grid, a-terms, a-progress}
 use Rattle.entries_state.proofs.Counts.{not-zero, is-zero}
 use Rattle.entries_run.specs.Seeded.{Seeded, begunBy}
 use Rattle.entries_run.proofs.Rows.{LeavesRow, cells-few, seeding-refused, nothing-waits, queueing-refused, queueing-holds, none-taken, spreading-ends}
@@ -27,11 +27,11 @@ module _ {M : Type 1} (𝓤 : URA M) (H : Heap 𝓤) (A : Atoms 𝓤) (W : Given
 
   -- what is taken, by its types
   abbrev ss : List (Sort 𝓤 H A 5)
-  ss = a-value (a-grid W) ∷ to-look 0 tt f32 ∷ a-value (a-topology W) ∷ a-value (a-given W) ∷ to-look 1 tt u32 ∷ to-write 2 tt f32 ∷ to-write 3 tt u32 ∷ to-write 4 tt E.the-row ∷ a-value (a-u32 W) ∷ a-value (a-u32 W) ∷ []
+  ss = a-value (a-grid W) ∷ to-look 0 tt f32 ∷ a-value (a-topology W) ∷ a-value (a-given W) ∷ to-look 1 tt u32 ∷ to-write 2 tt f32 ∷ to-write 3 tt u32 ∷ to-write 4 tt E.the-row ∷ a-value (a-u32 W) ∷ a-value (a-terms W) ∷ []
 
-  module _ (met : Met) (grid : Valued (a-grid W)) (vertices : Slice f32) (topology : Valued (a-topology W)) (given : Valued (a-given W)) (indices : Slice u32) (field : Slice f32) (names : Slice u32) (row : Slice E.the-row) (number : Valued (a-u32 W)) (limit : Valued (a-u32 W)) where
+  module _ (met : Met) (grid : Valued (a-grid W)) (vertices : Slice f32) (topology : Valued (a-topology W)) (given : Valued (a-given W)) (indices : Slice u32) (field : Slice f32) (names : Slice u32) (row : Slice E.the-row) (number : Valued (a-u32 W)) (terms : Valued (a-terms W)) where
     abbrev ps : List (Arg 𝓤 H A)
-    ps = value _ grid ∷ shown vertices ∷ value _ topology ∷ value _ given ∷ shown indices ∷ lent field ∷ lent names ∷ lent row ∷ value _ number ∷ value _ limit ∷ []
+    ps = value _ grid ∷ shown vertices ∷ value _ topology ∷ value _ given ∷ shown indices ∷ lent field ∷ lent names ∷ lent row ∷ value _ number ∷ value _ terms ∷ []
 
     abbrev Post : Val → SProp 𝓤
     Post = walkOf 𝓤 H A f.ended (stays ss) (f.clauses 𝓤 H A mem run) .post (own-bound ps)
@@ -53,7 +53,7 @@ module _ {M : Type 1} (𝓤 : URA M) (H : Heap 𝓤) (A : Atoms 𝓤) (W : Given
     to-queue p = seen field ∷ seen names ∷ lent row ∷ value _ p ∷ value _ topology ∷ value _ given ∷ shown indices ∷ value _ count ∷ []
 
     abbrev to-spread : Slice E.the-row → Valued (a-progress W) → List (Arg 𝓤 H A)
-    to-spread row₁ p = value _ grid ∷ shown vertices ∷ value _ topology ∷ value _ given ∷ shown indices ∷ lent field ∷ lent names ∷ lent row₁ ∷ value _ p ∷ value _ limit ∷ []
+    to-spread row₁ p = value _ grid ∷ shown vertices ∷ value _ topology ∷ value _ given ∷ shown indices ∷ lent field ∷ lent names ∷ lent row₁ ∷ value _ p ∷ value _ terms ∷ []
 
     abbrev Pre : Type 0
     Pre = Fit (grid .it) mesh × Seeded (grid .it) mesh (number .it) (field .ref .now) (names .ref .now) (row .ref .now)
@@ -63,7 +63,7 @@ module _ {M : Type 1} (𝓤 : URA M) (H : Heap 𝓤) (A : Atoms 𝓤) (W : Given
       En = envOf 𝓤 H (f.Code.function .locals) bs
 
       -- what is lent goes back, with what is promised of it
-      leaves : (zs : Changes ps) (l : Long ps zs) (r : Valued (a-progress W)) → LeavesRow (grid .it) mesh (length (row .ref .now)) (limit .it) (zs .0) (zs .1 .0) (zs .1 .1 .0) (r .it) → Sq W (slices (after ps zs l) []) (prop (Post (a-progress W .val (r .it))))
+      leaves : (zs : Changes ps) (l : Long ps zs) (r : Valued (a-progress W)) → LeavesRow (grid .it) mesh (length (row .ref .now)) (terms .it .limit) (zs .0) (zs .1 .0) (zs .1 .1 .0) (r .it) → Sq W (slices (after ps zs l) []) (prop (Post (a-progress W .val (r .it))))
       leaves zs l r is = by ! (via 𝓤 _ (to-exit 𝓤 H A W (after ps zs l) (a-progress W) r _ is) (ends-at 𝓤 H A f.ended (stays ss) (f.clauses 𝓤 H A mem run) W (own-bound ps) _ (r .it) (lefts ps zs) (fitting ps zs l)))
 
       goes : Sq W (Locals 𝓤 H En (empty ∷ map holds (words ps)) ∷ slices ps []) (runs (𝓣 .C) (𝓣 .Λ) En f.Code.Mir.t-1 (atRet En Post))
@@ -71,41 +71,41 @@ module _ {M : Type 1} (𝓤 : URA M) (H : Heap 𝓤) (A : Atoms 𝓤) (W : Given
           -- what seeding came to
           calls ! 𝓣 to-begun (a-progress W) (λ r zs. r ≡ begunBy (number .it)) (asking-nothing to-begun (λ n. met .0 (bound-to to-begun n))) refl refl (tt, refl) (λ p₀ _ _ is. puts ! (bin ! (opd ! refl) (opd ! refl) tt) tt (tt, tt) $
           returns-if ! (opd ! refl) (λ d. copies ! refl (tt, refl) $ returns-at ! Post refl refl tt $
-          leaves (field .ref .now, (names .ref .now, (row .ref .now, tt))) (refl, (refl, (refl, tt))) p₀ (seeding-refused (grid .it) mesh (number .it) (field .ref .now) (names .ref .now) (row .ref .now) (pre .0) (pre .1) (limit .it) (p₀ .it) is (not-zero (p₀ .it .number) d))) (λ d.
+          leaves (field .ref .now, (names .ref .now, (row .ref .now, tt))) (refl, (refl, (refl, tt))) p₀ (seeding-refused (grid .it) mesh (number .it) (field .ref .now) (names .ref .now) (row .ref .now) (pre .0) (pre .1) (terms .it .limit) (p₀ .it) is (not-zero (p₀ .it .number) d))) (λ d.
           -- the cells are queued
           copies ! refl (tt, refl) $ puts ! (bin ! (opd ! refl) (opd ! refl) (omega arith)) tt (tt, record { fits = count .is .1 }) $
           lends-on ! refl refl refl tt tt tt tt $ lends-on ! refl refl refl tt tt tt tt $ lends-on ! refl refl refl tt tt tt tt $ move ! (0 ∷ 3 ∷ 4 ∷ 5 ∷ 2 ∷ []) $
           calls ! 𝓣 (to-queue p₀) (a-progress W) (λ r zs. QueuedCells order (field .ref .now) (names .ref .now) (row .ref .now) (p₀ .it) (zs .0) r)
           (asking (to-queue p₀) _ (
             pre .0 .ready .sound .few,
-            nothing-waits (grid .it) mesh (number .it) (field .ref .now) (names .ref .now) (row .ref .now) (pre .0) (pre .1) (limit .it) (p₀ .it) is,
+            nothing-waits (grid .it) mesh (number .it) (field .ref .now) (names .ref .now) (row .ref .now) (pre .0) (pre .1) (terms .it .limit) (p₀ .it) is,
             is-zero (p₀ .it .number) d,
             pre .1 .names-long ∙ sym (pre .1 .field-long),
-            cells-few (grid .it) mesh (number .it) (field .ref .now) (names .ref .now) (row .ref .now) (pre .0) (pre .1) (limit .it),
+            cells-few (grid .it) mesh (number .it) (field .ref .now) (names .ref .now) (row .ref .now) (pre .0) (pre .1) (terms .it .limit),
           ) (λ n. met .1 (bound-to (to-queue p₀) n))) refl refl (tt, refl) (λ p₁ zs l all.
           move ! (0 ∷ 5 ∷ 4 ∷ 1 ∷ 2 ∷ 3 ∷ []) $ puts ! (bin ! (opd ! refl) (opd ! refl) tt) tt (tt, tt) $
           returns-if ! (opd ! refl) (λ e. copies ! refl (tt, refl) $ returns-at ! Post refl refl tt $
-          leaves (field .ref .now, (names .ref .now, (zs .0, tt))) (refl, (refl, (l .0, tt))) p₁ (queueing-refused (grid .it) mesh (number .it) (field .ref .now) (names .ref .now) (row .ref .now) (pre .0) (pre .1) (limit .it) (p₀ .it) is (is-zero (p₀ .it .number) d) (zs .0) (p₁ .it) (l .0) all (not-zero (p₁ .it .number) e))) (λ e.
+          leaves (field .ref .now, (names .ref .now, (zs .0, tt))) (refl, (refl, (l .0, tt))) p₁ (queueing-refused (grid .it) mesh (number .it) (field .ref .now) (names .ref .now) (row .ref .now) (pre .0) (pre .1) (terms .it .limit) (p₀ .it) is (is-zero (p₀ .it .number) d) (zs .0) (p₁ .it) (l .0) all (not-zero (p₁ .it .number) e))) (λ e.
           -- and spread
           lends-on ! refl refl refl tt tt tt tt $ lends-on ! refl refl refl tt tt tt tt $ lends-on ! refl refl refl tt tt tt tt $
-          calls ! 𝓣 (to-spread (holding row (zs .0) (l .0)) p₁) (a-progress W) (λ r us. ToldRow (grid .it) mesh (λ g. spreading g (limit .it)) (field .ref .now) (names .ref .now) (zs .0) (p₁ .it) (us .0) (us .1 .0) (us .1 .1 .0) r)
+          calls ! 𝓣 (to-spread (holding row (zs .0) (l .0)) p₁) (a-progress W) (λ r us. ToldRow (grid .it) mesh (λ g. spreading g (terms .it .limit)) (field .ref .now) (names .ref .now) (zs .0) (p₁ .it) (us .0) (us .1 .0) (us .1 .1 .0) r)
           (asking (to-spread (holding row (zs .0) (l .0)) p₁) _ (
             pre .0 .ready,
-            queueing-holds (grid .it) mesh (number .it) (field .ref .now) (names .ref .now) (row .ref .now) (pre .0) (pre .1) (limit .it) (p₀ .it) is (is-zero (p₀ .it .number) d) (zs .0) (p₁ .it) (l .0) all,
+            queueing-holds (grid .it) mesh (number .it) (field .ref .now) (names .ref .now) (row .ref .now) (pre .0) (pre .1) (terms .it .limit) (p₀ .it) is (is-zero (p₀ .it .number) d) (zs .0) (p₁ .it) (l .0) all,
             is-zero (p₁ .it .number) e,
-            none-taken (grid .it) mesh (number .it) (field .ref .now) (names .ref .now) (row .ref .now) (pre .0) (pre .1) (limit .it) (p₀ .it) is (is-zero (p₀ .it .number) d) (zs .0) (p₁ .it) (l .0) all (is-zero (p₁ .it .number) e),
+            none-taken (grid .it) mesh (number .it) (field .ref .now) (names .ref .now) (row .ref .now) (pre .0) (pre .1) (terms .it .limit) (p₀ .it) is (is-zero (p₀ .it .number) d) (zs .0) (p₁ .it) (l .0) all (is-zero (p₁ .it .number) e),
           ) (λ n. met .2 (bound-to (to-spread (holding row (zs .0) (l .0)) p₁) n))) refl refl (tt, refl) (λ r us k told.
           returns-at ! Post refl refl tt $
-          leaves us (k .0, (k .1 .0, (k .1 .1 .0 ∙ l .0, tt))) r (spreading-ends (grid .it) mesh (number .it) (field .ref .now) (names .ref .now) (row .ref .now) (pre .0) (pre .1) (limit .it) (p₀ .it) is (is-zero (p₀ .it .number) d) (zs .0) (p₁ .it) (l .0) all (us .0) (us .1 .0) (us .1 .1 .0) (r .it) (is-zero (p₁ .it .number) e) told))))))
+          leaves us (k .0, (k .1 .0, (k .1 .1 .0 ∙ l .0, tt))) r (spreading-ends (grid .it) mesh (number .it) (field .ref .now) (names .ref .now) (row .ref .now) (pre .0) (pre .1) (terms .it .limit) (p₀ .it) is (is-zero (p₀ .it .number) d) (zs .0) (p₁ .it) (l .0) all (us .0) (us .1 .0) (us .1 .1 .0) (r .it) (is-zero (p₁ .it .number) e) told))))))
 
     walk : Pre → ent 𝓤 (onEntry 𝓤 H A f.signature (own-bound ps .0 .0) (own-bound ps .0 .1) (own-bound ps .0 .3) (own-bound ps .0 .4)) (WpFn 𝓤 H (𝓣 .C) (𝓣 .Λ) f.Code.function (words ps) Post)
     walk pre = from-entry 𝓤 H A W ps (enters ! (𝓣 .C) (𝓣 .Λ) _ _ f.Code.function (words ps) Post refl (typed ps) (goes pre))
 
   walks : Met → Walks 𝓤 H A f.ended (stays ss) (WpFn 𝓤 H (𝓣 .C) (𝓣 .Λ) f.Code.function) (f.clauses 𝓤 H A mem run)
   walks met = walked 𝓤 H A f.ended (stays ss) (f.clauses 𝓤 H A mem run) (WpFn 𝓤 H (𝓣 .C) (𝓣 .Λ) f.Code.function) (spells ss) (tells ss)
-      (λ κs qs bounds (grid, (vertices, (topology, (given, (indices, (field, (names, (row, (number, (limit, _)))))))))) g (grid-is, (vertices-is, (topology-is, (given-is, (indices-is, (field-is, (names-is, (row-is, (number-is, (limit-is, _)))))))))).
+      (λ κs qs bounds (grid, (vertices, (topology, (given, (indices, (field, (names, (row, (number, (terms, _)))))))))) g (grid-is, (vertices-is, (topology-is, (given-is, (indices-is, (field-is, (names-is, (row-is, (number-is, (terms-is, _)))))))))).
       needs 𝓤 _ _ (walk met (record { it = grid; is = grid-is }) (taken f32 (κs .0) (qs .0) vertices (vertices-is .0 .1)) (record { it = topology; is = topology-is }) (record { it = given; is = given-is }) (taken u32 (κs .1 .0) (qs .1 .0) indices (indices-is .0 .1))
-      (taken f32 (κs .1 .1 .0) (qs .1 .1 .0) field (field-is .0 .1)) (taken u32 (κs .1 .1 .1 .0) (qs .1 .1 .1 .0) names (names-is .0 .1)) (taken E.the-row (κs .1 .1 .1 .1 .0) (qs .1 .1 .1 .1 .0) row (row-is .0 .1)) (record { it = number; is = number-is }) (record { it = limit; is = limit-is })))
+      (taken f32 (κs .1 .1 .0) (qs .1 .1 .0) field (field-is .0 .1)) (taken u32 (κs .1 .1 .1 .0) (qs .1 .1 .1 .0) names (names-is .0 .1)) (taken E.the-row (κs .1 .1 .1 .1 .0) (qs .1 .1 .1 .1 .0) row (row-is .0 .1)) (record { it = number; is = number-is }) (record { it = terms; is = terms-is })))
 
   meets : Met → Meets 𝓤 H A f.signature (WpFn 𝓤 H (𝓣 .C) (𝓣 .Λ) f.Code.function) (f.spec 𝓤 H A mem run)
   meets met =

@@ -1,7 +1,7 @@
 -- `entries_spread::spread` meets its contract: a walk of its MIR, by hand. A turn counts a pop, or finds them spent, takes the first entry, offers its triangle to
 -- the cells around, and queues what they took up. Assumes nothing.
 use Rattle.walking.proofs.Prelude.{_≡_, refl, _∙_, ℕ, _/_, _+_, _-_, _<_, arith, List, [], _∷_, _++_, map, length, ltb, T, ltb→lt, nltb→le, Float, URA, Val, SProp, ent, via, Memory, Routine, Heap, Env, WpFn, Tables, afterTurn, Atoms, Fun, givenOf, tables, tablesOf, Given, Item, Sq, runs, atRet, _$_, !, by, move, bin, first, blocks, exec, WpFn-mono, u32, f32, Meets, tripleOf, Triple, entered, cited, needs, walkOf, Walks, ends-at, walked, walk-meets, onEntry}
-use Rattle.walking.proofs.Prelude.{empty, holds, Blocks, envOf, Locals, opd, copies, puts, returns-at, lends-on, keeps-first, enters, knowing, whiles, breaks, breaks-last, Slice, taken, holding, fitsAt, Valued, Arg, value, shown, lent, slices, Changes, lefts, Long, fitting, after, bound-to, words, asking, calls, own-bound, typed, from-entry, to-exit, in-turn, again-at, loops-at, a-u32, a-usize, Sort, a-value, to-look, to-write, stays, spells, tells, all-go}
+use Rattle.walking.proofs.Prelude.{empty, holds, Blocks, envOf, Locals, opd, copies, puts, returns-at, lends-on, keeps-first, enters, knowing, whiles, breaks, breaks-last, Slice, taken, holding, fitsAt, Valued, Arg, value, shown, lent, slices, Changes, lefts, Long, fitting, after, bound-to, words, asking, calls, own-bound, typed, from-entry, to-exit, in-turn, again-at, loops-at, a-usize, Sort, a-value, to-look, to-write, stays, spells, tells, all-go}
 use Rattle.queue.specs.declared.Entry.{Entry}
 use Rattle.queue.proofs.Entry as E
 use Rattle.mesh.specs.Mesh.{Mesh, meshOf}
@@ -12,7 +12,7 @@ use Rattle.run_spread.proofs.Pops.{spread-begins, spread-ends}
 use Rattle.entries.specs.Row.{TakenRow}
 use Rattle.entries.proofs.ByValue.{a-topology, a-given, an-entry}
 use Rattle.entries_state.specs.Records.{poppedBy, HoldsRow, ToldRow, QueuedAll}
-use Rattle.entries_state.proofs.ByValue.{a-grid, a-progress, a-batch, waiting-of}
+use Rattle.entries_state.proofs.ByValue.{a-grid, a-terms, a-progress, a-batch, waiting-of}
 use Rattle.entries_state.proofs.Counts.{not-zero, is-zero}
 use Rattle.entries_spread.proofs.Popping.{SpreadsRow, taken-known, ends-spent, still-held, after-pop}
 use Rattle.entries_state.proofs.popped as popped
@@ -29,11 +29,11 @@ module _ {M : Type 1} (𝓤 : URA M) (H : Heap 𝓤) (A : Atoms 𝓤) (W : Given
 
   -- what is taken, by its types
   abbrev ss : List (Sort 𝓤 H A 5)
-  ss = a-value (a-grid W) ∷ to-look 0 tt f32 ∷ a-value (a-topology W) ∷ a-value (a-given W) ∷ to-look 1 tt u32 ∷ to-write 2 tt f32 ∷ to-write 3 tt u32 ∷ to-write 4 tt E.the-row ∷ a-value (a-progress W) ∷ a-value (a-u32 W) ∷ []
+  ss = a-value (a-grid W) ∷ to-look 0 tt f32 ∷ a-value (a-topology W) ∷ a-value (a-given W) ∷ to-look 1 tt u32 ∷ to-write 2 tt f32 ∷ to-write 3 tt u32 ∷ to-write 4 tt E.the-row ∷ a-value (a-progress W) ∷ a-value (a-terms W) ∷ []
 
-  module _ (met : Met) (grid : Valued (a-grid W)) (vertices : Slice f32) (topology : Valued (a-topology W)) (given : Valued (a-given W)) (indices : Slice u32) (field : Slice f32) (names : Slice u32) (row : Slice E.the-row) (begin : Valued (a-progress W)) (limit : Valued (a-u32 W)) where
+  module _ (met : Met) (grid : Valued (a-grid W)) (vertices : Slice f32) (topology : Valued (a-topology W)) (given : Valued (a-given W)) (indices : Slice u32) (field : Slice f32) (names : Slice u32) (row : Slice E.the-row) (begin : Valued (a-progress W)) (terms : Valued (a-terms W)) where
     abbrev ps : List (Arg 𝓤 H A)
-    ps = value _ grid ∷ shown vertices ∷ value _ topology ∷ value _ given ∷ shown indices ∷ lent field ∷ lent names ∷ lent row ∷ value _ begin ∷ value _ limit ∷ []
+    ps = value _ grid ∷ shown vertices ∷ value _ topology ∷ value _ given ∷ shown indices ∷ lent field ∷ lent names ∷ lent row ∷ value _ begin ∷ value _ terms ∷ []
 
     abbrev Post : Val → SProp 𝓤
     Post = walkOf 𝓤 H A f.ended (stays ss) (f.clauses 𝓤 H A mem run) .post (own-bound ps)
@@ -46,13 +46,13 @@ module _ {M : Type 1} (𝓤 : URA M) (H : Heap 𝓤) (A : Atoms 𝓤) (W : Given
 
     -- what is passed on
     abbrev to-popped : Valued (a-progress W) → List (Arg 𝓤 H A)
-    to-popped p = value _ p ∷ value _ limit ∷ []
+    to-popped p = value _ p ∷ value _ terms ∷ []
 
     abbrev to-take : Slice E.the-row → Valued (a-progress W) → List (Arg 𝓤 H A)
     to-take q p = lent q ∷ value _ (waiting-of W p) ∷ value _ topology ∷ value _ given ∷ shown indices ∷ value _ count ∷ []
 
     abbrev to-offers : Slice f32 → Slice u32 → Valued (an-entry W) → List (Arg 𝓤 H A)
-    to-offers fs ns e = value _ grid ∷ shown vertices ∷ value _ topology ∷ value _ given ∷ shown indices ∷ lent fs ∷ lent ns ∷ value _ e ∷ []
+    to-offers fs ns e = value _ grid ∷ shown vertices ∷ value _ topology ∷ value _ given ∷ shown indices ∷ lent fs ∷ lent ns ∷ value _ e ∷ value _ terms ∷ []
 
     abbrev to-push : Slice E.the-row → Valued (a-progress W) → Valued (a-batch W) → List (Arg 𝓤 H A)
     to-push q p b = lent q ∷ value _ p ∷ value _ b ∷ value _ topology ∷ value _ given ∷ shown indices ∷ value _ count ∷ []
@@ -72,9 +72,9 @@ module _ {M : Type 1} (𝓤 : URA M) (H : Heap 𝓤) (A : Atoms 𝓤) (W : Given
       At w = Locals 𝓤 H En ((empty ∷ map holds (words ps)) ++ (holds (a-usize W .val (count .it)) ∷ holds (a-progress W .val (w .2 .it)) ∷ [])) ∷ slices (after ps (w .0) (w .1)) []
 
       abbrev Facts : ℕ → State → Type 0
-      Facts t w = (w .2 .it .pops + t ≡ limit .it) × SpreadsRow (grid .it) mesh (limit .it) (field .ref .now) (names .ref .now) (row .ref .now) (begin .it) (w .0 .0) (w .0 .1 .0) (w .0 .1 .1 .0) (w .2 .it)
+      Facts t w = (w .2 .it .pops + t ≡ terms .it .limit) × SpreadsRow (grid .it) mesh (terms .it .limit) (field .ref .now) (names .ref .now) (row .ref .now) (begin .it) (w .0 .0) (w .0 .1 .0) (w .0 .1 .1 .0) (w .2 .it)
 
-      leaves : (w : State) → ToldRow (grid .it) mesh (λ g. spreading g (limit .it)) (field .ref .now) (names .ref .now) (row .ref .now) (begin .it) (w .0 .0) (w .0 .1 .0) (w .0 .1 .1 .0) (w .2 .it) → Sq W (At w) (runs (𝓣 .C) (𝓣 .Λ) En f.Code.Mir.t-5 (atRet En Post))
+      leaves : (w : State) → ToldRow (grid .it) mesh (λ g. spreading g (terms .it .limit)) (field .ref .now) (names .ref .now) (row .ref .now) (begin .it) (w .0 .0) (w .0 .1 .0) (w .0 .1 .1 .0) (w .2 .it) → Sq W (At w) (runs (𝓣 .C) (𝓣 .Λ) En f.Code.Mir.t-5 (atRet En Post))
       leaves w told =
           copies ! refl (tt, refl) $ returns-at ! Post refl refl tt $
           by ! (via 𝓤 _ (to-exit 𝓤 H A W (after ps (w .0) (w .1)) (a-progress W) (w .2) _ told) (ends-at 𝓤 H A f.ended (stays ss) (f.clauses 𝓤 H A mem run) W (own-bound ps) _ (w .2 .it) (lefts ps (w .0)) (fitting ps (w .0) (w .1))))
@@ -85,10 +85,10 @@ module _ {M : Type 1} (𝓤 : URA M) (H : Heap 𝓤) (A : Atoms 𝓤) (W : Given
           puts ! (bin ! (opd ! refl) (opd ! refl) tt) tt (tt, tt) $
           whiles ! (opd ! refl) (λ h. copies ! refl (tt, refl) $
           -- a pop is counted, or the pops are spent
-          calls ! 𝓣 (to-popped p) (a-progress W) (λ r zs. r ≡ poppedBy (limit .it) (p .it)) (asking (to-popped p) _ (some h, facts .1 .within) (λ n. met .0 (bound-to (to-popped p) n))) refl refl (tt, refl) (λ p₁ _ _ is.
+          calls ! 𝓣 (to-popped p) (a-progress W) (λ r zs. r ≡ poppedBy (terms .it .limit) (p .it)) (asking (to-popped p) _ (some h, facts .1 .within) (λ n. met .0 (bound-to (to-popped p) n))) refl refl (tt, refl) (λ p₁ _ _ is.
           puts ! (bin ! (opd ! refl) (opd ! refl) tt) tt (tt, tt) $
           breaks ! (opd ! refl) (λ c. exec ! (𝓣 .C) (𝓣 .Λ) En f.Code.Mir.t-5 (atRet En Post) $ keeps-first ! 13 tt $
-          leaves (w .0, w .1, p₁) (ends-spent (grid .it) mesh (limit .it) (field .ref .now) (names .ref .now) (row .ref .now) (begin .it) fs ns zs (p .it) (facts .1) (some h) (p₁ .it) is (not-zero (p₁ .it .number) c))) (λ c.
+          leaves (w .0, w .1, p₁) (ends-spent (grid .it) mesh (terms .it .limit) (field .ref .now) (names .ref .now) (row .ref .now) (begin .it) fs ns zs (p .it) (facts .1) (some h) (p₁ .it) is (not-zero (p₁ .it .number) c))) (λ c.
           -- the first is taken
           lends-on ! refl refl refl tt tt tt tt $ move ! (0 ∷ 5 ∷ 2 ∷ []) $
           calls ! 𝓣 (to-take the-row p) (an-entry W) (λ e us. TakenRow (orderIn mesh) e zs (us .0) (p .it .waiting)) (asking (to-take the-row p) _ (pre .0 .sound .few, facts .1 .holds .held, some h) (λ n. met .1 (bound-to (to-take the-row p) n))) refl refl (tt, refl) (λ e us lr took.
@@ -100,13 +100,13 @@ module _ {M : Type 1} (𝓤 : URA M) (H : Heap 𝓤) (A : Atoms 𝓤) (W : Given
           -- what they took up is queued
           lends-on ! refl refl refl tt tt tt tt $ move ! (0 ∷ 5 ∷ 2 ∷ []) $
           calls ! 𝓣 (to-push (holding the-row (us .0) (lr .0)) p₁ b) (a-progress W) (λ r qs. QueuedAll (orderIn mesh) (b .it) (us .0) (p₁ .it) (qs .0) r)
-          (asking (to-push (holding the-row (us .0) (lr .0)) p₁ b) _ (pre .0 .sound .few, still-held (grid .it) mesh (limit .it) (field .ref .now) (names .ref .now) (row .ref .now) (begin .it) fs ns zs (p .it) (facts .1) (some h) (p₁ .it) is (is-zero (p₁ .it .number) c) (e .it) (us .0) took (lr .0), is-zero (p₁ .it .number) c, off .few)
+          (asking (to-push (holding the-row (us .0) (lr .0)) p₁ b) _ (pre .0 .sound .few, still-held (grid .it) mesh (terms .it .limit) (field .ref .now) (names .ref .now) (row .ref .now) (begin .it) fs ns zs (p .it) (facts .1) (some h) (p₁ .it) is (is-zero (p₁ .it .number) c) (e .it) (us .0) took (lr .0), is-zero (p₁ .it .number) c, off .few)
           (λ n. met .3 (bound-to (to-push (holding the-row (us .0) (lr .0)) p₁ b) n))) refl refl (tt, refl) (λ p₂ qs lq all.
-          knowing ! (after-pop (grid .it) mesh (limit .it) (field .ref .now) (names .ref .now) (row .ref .now) (begin .it) fs ns zs (p .it) (facts .1) (some h) (p₁ .it) is (is-zero (p₁ .it .number) c) (e .it) (us .0) took (lr .0) (vs .0) (vs .1 .0) (b .it) (qs .0) (p₂ .it) (lo .0) (lo .1 .0) off all (lq .0)) (λ so.
+          knowing ! (after-pop (grid .it) mesh (terms .it .limit) (field .ref .now) (names .ref .now) (row .ref .now) (begin .it) fs ns zs (p .it) (facts .1) (some h) (p₁ .it) is (is-zero (p₁ .it .number) c) (e .it) (us .0) took (lr .0) (vs .0) (vs .1 .0) (b .it) (qs .0) (p₂ .it) (lo .0) (lo .1 .0) off all (lq .0)) (λ so.
           move ! (0 ∷ 3 ∷ 2 ∷ 4 ∷ 5 ∷ 1 ∷ []) $ puts ! (bin ! (opd ! refl) (opd ! refl) tt) tt (tt, tt) $
           breaks-last ! (opd ! refl) (λ d. exec ! (𝓣 .C) (𝓣 .Λ) En f.Code.Mir.t-5 (atRet En Post) $ keeps-first ! 13 tt $ leaves (came (vs .0) (vs .1 .0) (qs .0) (lo .0) (lo .1 .0) (lq .0 ∙ lr .0) p₂) (so .0 (not-zero (p₂ .it .number) d))) (λ d.
           keeps-first ! 13 tt $ knowing ! (so .1 (is-zero (p₂ .it .number) d)) (λ on.
-          again-at ! At Facts t (limit .it - p₂ .it .pops) (came (vs .0) (vs .1 .0) (qs .0) (lo .0) (lo .1 .0) (lq .0 ∙ lr .0) p₂) (omega (arith, facts .0, on .1, on .2)) (omega (arith, on .1, on .2), on .0)))))))))) (λ h.
+          again-at ! At Facts t (terms .it .limit - p₂ .it .pops) (came (vs .0) (vs .1 .0) (qs .0) (lo .0) (lo .1 .0) (lq .0 ∙ lr .0) p₂) (omega (arith, facts .0, on .1, on .2)) (omega (arith, on .1, on .2), on .0)))))))))) (λ h.
           exec ! (𝓣 .C) (𝓣 .Λ) En f.Code.Mir.t-5 (atRet En Post) $ keeps-first ! 13 tt $ leaves w (spread-ends (facts .1) (nltb→le 0 (p .it .waiting) h)))
         where
           fs : List Float
@@ -140,16 +140,16 @@ module _ {M : Type 1} (𝓤 : URA M) (H : Heap 𝓤) (A : Atoms 𝓤) (W : Given
       goes : Sq W (Locals 𝓤 H En (empty ∷ map holds (words ps)) ∷ slices ps []) (runs (𝓣 .C) (𝓣 .Λ) En f.Code.Mir.t-1 (atRet En Post))
       goes =
           copies ! refl (tt, refl) $ puts ! (bin ! (opd ! refl) (opd ! refl) (omega arith)) tt (tt, record { fits = count .is .1 }) $ copies ! refl (tt, refl) $ first ! $ blocks ! $ keeps-first ! 13 tt $
-          loops-at ! 𝓣 At Facts turn (limit .it) ((field .ref .now, (names .ref .now, (row .ref .now, tt))), (refl, (refl, (refl, tt))), begin) (omega (arith, pre .3), spread-begins (pre .2) (pre .3) (pre .1))
+          loops-at ! 𝓣 At Facts turn (terms .it .limit) ((field .ref .now, (names .ref .now, (row .ref .now, tt))), (refl, (refl, (refl, tt))), begin) (omega (arith, pre .3), spread-begins (pre .2) (pre .3) (pre .1))
 
     walk : Pre → ent 𝓤 (onEntry 𝓤 H A f.signature (own-bound ps .0 .0) (own-bound ps .0 .1) (own-bound ps .0 .3) (own-bound ps .0 .4)) (WpFn 𝓤 H (𝓣 .C) (𝓣 .Λ) f.Code.function (words ps) Post)
     walk pre = from-entry 𝓤 H A W ps (enters ! (𝓣 .C) (𝓣 .Λ) _ _ f.Code.function (words ps) Post refl (typed ps) (goes pre))
 
   walks : Met → Walks 𝓤 H A f.ended (stays ss) (WpFn 𝓤 H (𝓣 .C) (𝓣 .Λ) f.Code.function) (f.clauses 𝓤 H A mem run)
   walks met = walked 𝓤 H A f.ended (stays ss) (f.clauses 𝓤 H A mem run) (WpFn 𝓤 H (𝓣 .C) (𝓣 .Λ) f.Code.function) (spells ss) (tells ss)
-      (λ κs qs bounds (grid, (vertices, (topology, (given, (indices, (field, (names, (row, (begin, (limit, _)))))))))) g (grid-is, (vertices-is, (topology-is, (given-is, (indices-is, (field-is, (names-is, (row-is, (begin-is, (limit-is, _)))))))))).
+      (λ κs qs bounds (grid, (vertices, (topology, (given, (indices, (field, (names, (row, (begin, (terms, _)))))))))) g (grid-is, (vertices-is, (topology-is, (given-is, (indices-is, (field-is, (names-is, (row-is, (begin-is, (terms-is, _)))))))))).
       needs 𝓤 _ _ (walk met (record { it = grid; is = grid-is }) (taken f32 (κs .0) (qs .0) vertices (vertices-is .0 .1)) (record { it = topology; is = topology-is }) (record { it = given; is = given-is }) (taken u32 (κs .1 .0) (qs .1 .0) indices (indices-is .0 .1))
-      (taken f32 (κs .1 .1 .0) (qs .1 .1 .0) field (field-is .0 .1)) (taken u32 (κs .1 .1 .1 .0) (qs .1 .1 .1 .0) names (names-is .0 .1)) (taken E.the-row (κs .1 .1 .1 .1 .0) (qs .1 .1 .1 .1 .0) row (row-is .0 .1)) (record { it = begin; is = begin-is }) (record { it = limit; is = limit-is })))
+      (taken f32 (κs .1 .1 .0) (qs .1 .1 .0) field (field-is .0 .1)) (taken u32 (κs .1 .1 .1 .0) (qs .1 .1 .1 .0) names (names-is .0 .1)) (taken E.the-row (κs .1 .1 .1 .1 .0) (qs .1 .1 .1 .1 .0) row (row-is .0 .1)) (record { it = begin; is = begin-is }) (record { it = terms; is = terms-is })))
 
   meets : Met → Meets 𝓤 H A f.signature (WpFn 𝓤 H (𝓣 .C) (𝓣 .Λ) f.Code.function) (f.spec 𝓤 H A mem run)
   meets met =

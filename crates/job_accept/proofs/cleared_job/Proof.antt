@@ -13,7 +13,7 @@ conclude-requires : tie.Need-conclude-requires
 conclude-requires c κs =
     let q = c .before .before .before .before .before .before .before .before .before .before .before .before .before .before .before .before .before in
     let s = q .before .before .before .before .before .before .before .before .before .before .before .before .before .before .before in
-    (s .pre .0, (run-over (length (s .args .distances .now)) (s .args .limit) (q .run-field .ensures), s .pre .1 .1))
+    (s .pre .0, (run-over (length (s .args .distances .now)) (s .args .terms .limit) (q .run-field .ensures), s .pre .1 .1))
 
 -- what is lent, and what the run leaves
 abbrev lent : tie.Start → Lent
@@ -29,7 +29,7 @@ returns c =
     let d = c .before .before .before .before .before .before .before .before .before .before .before .before .before .before in
     let q = d .before .before .before .before .before .before .before .before .before .before .before .before .before .before .before .before .before .before in
     let s = q .before .before .before .before .before .before .before .before .before .before .before .before .before .before .before in
-    gives-run (jobOf (s .args .grid) (s .args .vertices .now) (s .args .topology) (s .args .given) (s .args .indices .now) (s .args .limit)) (left q) (lent s)
+    gives-run (jobOf (s .args .grid) (s .args .vertices .now) (s .args .topology) (s .args .given) (s .args .indices .now) (s .args .terms)) (left q) (lent s)
     (lengths-same (left q) (lent s) (q .run-field .kept .1 .1 .1 .1 .1 .0) (q .run-field .kept .1 .1 .1 .1 .1 .1 .0) refl refl (q .run-field .kept .1 .1 .1 .1 .1 .1 .1 .0) (q .run-field .kept .1 .1 .1 .1 .1 .1 .1 .1 .0) (q .run-field .kept .1 .1 .1 .1 .1 .1 .1 .1 .1 .0))
     (q .run-field .ensures .is 0)
     (d .conclude .ensures)

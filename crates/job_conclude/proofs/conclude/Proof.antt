@@ -19,13 +19,13 @@ returns c =
     let t = d .before .before .before .before in
     let q = t .before .before .before .before .before .before .before .before .before .before in
     let s = q .before .before .before .before .before .before .before .before .before .before .before .before .before .before in
-    gives-refused (s .args .grid) (mesh s) (s .args .limit) (s .args .field .now) (s .args .names .now) (s .args .crossings .now) (s .args .rows .now) (s .args .distances .now) (s .args .cells .now) (s .args .triangles .now) (s .args .ran) (q .close .ensures) (t .if1 .taken) (d .clear .ensures)
+    gives-refused (s .args .grid) (mesh s) (s .args .terms .limit) (s .args .field .now) (s .args .names .now) (s .args .crossings .now) (s .args .rows .now) (s .args .distances .now) (s .args .cells .now) (s .args .triangles .now) (s .args .ran) (q .close .ensures) (t .if1 .taken) (d .clear .ensures)
 
 returns-2 : tie.Need-returns-2
 returns-2 c =
     let q = c .before .before .before .before .before .before .before .before .before .before in
     let s = q .before .before .before .before .before .before .before .before .before .before .before .before .before .before in
-    gives-done (s .args .grid) (mesh s) (s .args .limit) (s .args .field .now) (s .args .names .now) (s .args .crossings .now) (s .args .rows .now) (s .args .distances .now) (s .args .cells .now) (s .args .triangles .now) (s .args .ran) (q .close .ensures) (c .if1 .left) (s .pre .1 .0)
+    gives-done (s .args .grid) (mesh s) (s .args .terms .limit) (s .args .field .now) (s .args .names .now) (s .args .crossings .now) (s .args .rows .now) (s .args .distances .now) (s .args .cells .now) (s .args .triangles .now) (s .args .ran) (q .close .ensures) (c .if1 .left) (s .pre .1 .0)
 
 pub conclude-spec : {M : Type 1} → statement M
 conclude-spec =

@@ -17,7 +17,7 @@ returns : tie.Need-returns
 returns c =
     let q = c .before .before .before .before .before in
     let s = q .before .before .before .before .before .before .before .before .before .before in
-    seeding-stops (s .pre .0) (s .pre .1) (q .seed .last .0) (q .seed .last .1 .0) (q .seed .result) (q .seed .ensures) (length (s .args .distances .now)) (s .args .limit) (q .seed .kept .0) (q .seed .kept .1 .0) (c .if1 .taken)
+    seeding-stops (s .pre .0) (s .pre .1) (q .seed .last .0) (q .seed .last .1 .0) (q .seed .result) (q .seed .ensures) (length (s .args .distances .now)) (s .args .terms .limit) (q .seed .kept .0) (q .seed .kept .1 .0) (c .if1 .taken)
 
 spread-seeds-requires : tie.Need-spread-seeds-requires
 spread-seeds-requires c κs =
@@ -37,7 +37,7 @@ returns-2 c =
     let e = d .before .before .before .before .before .before in
     let q = e .before .before .before .before .before in
     let s = q .before .before .before .before .before .before .before .before .before .before in
-    seeding-goes-on (s .pre .0) (s .pre .1) (q .seed .last .0) (q .seed .last .1 .0) (q .seed .result) (q .seed .ensures) (e .if1 .left) (length (s .args .distances .now)) (s .args .limit) (d .spread-seeds .ensures)
+    seeding-goes-on (s .pre .0) (s .pre .1) (q .seed .last .0) (q .seed .last .1 .0) (q .seed .result) (q .seed .ensures) (e .if1 .left) (length (s .args .distances .now)) (s .args .terms .limit) (d .spread-seeds .ensures)
 
 pub run-field-spec : {M : Type 1} → statement M
 run-field-spec =

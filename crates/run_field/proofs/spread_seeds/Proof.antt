@@ -17,14 +17,14 @@ returns : tie.Need-returns
 returns c =
     let q = c .before .before .before .before .before .before .before .before in
     let s = q .before .before .before .before .before .before .before .before .before .before .before .before .before in
-    rest-stops (seeded (meshOf (s .args .vertices .now) (s .args .topology) (s .args .given) (s .args .indices .now)) (s .args .field .now) (s .args .names .now) (s .args .distances .now) (s .args .cells .now) (s .args .triangles .now)) (length (s .args .distances .now)) (s .args .limit) (as-left (q .queue-cells .ensures)) (c .if1 .taken)
+    rest-stops (seeded (meshOf (s .args .vertices .now) (s .args .topology) (s .args .given) (s .args .indices .now)) (s .args .field .now) (s .args .names .now) (s .args .distances .now) (s .args .cells .now) (s .args .triangles .now)) (length (s .args .distances .now)) (s .args .terms .limit) (as-left (q .queue-cells .ensures)) (c .if1 .taken)
 
 spread-requires : tie.Need-spread-requires
 spread-requires c κs =
     let e = c .before .before .before .before .before in
     let q = e .before .before .before .before .before .before .before .before in
     let s = q .before .before .before .before .before .before .before .before .before .before .before .before .before in
-    (s .pre .0, (q .queue-cells .ensures .holds, (e .if1 .left, rest-begins (seeded (meshOf (s .args .vertices .now) (s .args .topology) (s .args .given) (s .args .indices .now)) (s .args .field .now) (s .args .names .now) (s .args .distances .now) (s .args .cells .now) (s .args .triangles .now)) (length (s .args .distances .now)) (s .args .limit) (as-left (q .queue-cells .ensures)) (e .if1 .left) refl)))
+    (s .pre .0, (q .queue-cells .ensures .holds, (e .if1 .left, rest-begins (seeded (meshOf (s .args .vertices .now) (s .args .topology) (s .args .given) (s .args .indices .now)) (s .args .field .now) (s .args .names .now) (s .args .distances .now) (s .args .cells .now) (s .args .triangles .now)) (length (s .args .distances .now)) (s .args .terms .limit) (as-left (q .queue-cells .ensures)) (e .if1 .left) refl)))
 
 returns-2 : tie.Need-returns-2
 returns-2 c =
@@ -32,7 +32,7 @@ returns-2 c =
     let e = d .before .before .before .before .before .before in
     let q = e .before .before .before .before .before .before .before .before in
     let s = q .before .before .before .before .before .before .before .before .before .before .before .before .before in
-    rest-goes-on (seeded (meshOf (s .args .vertices .now) (s .args .topology) (s .args .given) (s .args .indices .now)) (s .args .field .now) (s .args .names .now) (s .args .distances .now) (s .args .cells .now) (s .args .triangles .now)) (length (s .args .distances .now)) (s .args .limit) (as-left (q .queue-cells .ensures)) (e .if1 .left) (q .queue-cells .kept .1 .1 .1 .1 .1 .1 .1 .0) (as-left (d .spread .ensures))
+    rest-goes-on (seeded (meshOf (s .args .vertices .now) (s .args .topology) (s .args .given) (s .args .indices .now)) (s .args .field .now) (s .args .names .now) (s .args .distances .now) (s .args .cells .now) (s .args .triangles .now)) (length (s .args .distances .now)) (s .args .terms .limit) (as-left (q .queue-cells .ensures)) (e .if1 .left) (q .queue-cells .kept .1 .1 .1 .1 .1 .1 .1 .0) (as-left (d .spread .ensures))
 
 pub spread-seeds-spec : {M : Type 1} → statement M
 spread-seeds-spec =
