@@ -11,6 +11,7 @@ use Rattle.point.specs.declared.Point.{Point}
 use Rattle.grid.specs.declared.Grid.{Grid}
 use Rattle.grid.specs.Index.{total}
 use Rattle.grid.specs.Layers.{layers}
+use Rattle.terms.specs.declared.Terms.{Terms}
 use Rattle.job_outcome.specs.declared.Answer.{Answer}
 use Rattle.job_outcome.specs.declared.Answer.the-variants.{Refused, Done}
 use Rattle.mesh_topology.specs.declared.Indices.{Indices}
@@ -41,9 +42,13 @@ gridOf h =
       «count_z» = h .count .z;
     }
 
+-- a text says the pop limit
+abbrev pub termsOf : Tail → Terms
+termsOf t = record { limit = t .limit }
+
 -- by the parts of a text, with the floats of its coordinates
 abbrev pub jobBy : Head → List Float → Indices → List ℕ → Tail → Job
-jobBy h vertices given indices t = jobOf (gridOf h) vertices (h .topology) given indices (t .limit)
+jobBy h vertices given indices t = jobOf (gridOf h) vertices (h .topology) given indices (termsOf t)
 
 abbrev pub askedJob : TextJob → Job
 askedJob j = jobBy (j .head) (floatsOf (flat (j .vertices))) (givenOf (j .indices)) (indexList (j .indices)) (j .tail)

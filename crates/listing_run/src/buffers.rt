@@ -8,6 +8,7 @@ use job_outcome::Answer;
 use listing::Written;
 use listing_whole::write_listing;
 use point::Point;
+use terms::Terms;
 use text::COORDINATE_ROOM;
 use text::CROSSING_ROOM;
 use text::ENTRY_ROOM;
@@ -138,7 +139,7 @@ fn list_outcome(
         distances,
         cells,
         triangles,
-        tail.limit,
+        Terms { limit: tail.limit },
     );
     put_listing(answer, field, names, rows, out)
 }
@@ -178,7 +179,7 @@ fn list_records(
         crossings,
         rows,
         room,
-        tail.limit,
+        Terms { limit: tail.limit },
     );
     put_listing(answer, field, names, rows, out)
 }
