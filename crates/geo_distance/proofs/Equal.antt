@@ -1,7 +1,7 @@
--- A triangle of which two corners are equal: the tests of its corners, which do not depend on the point, say to what its closest points
--- belong. Assumes nothing.
+-- To what the closest points of a triangle belong: to its regions, or, where two corners are equal, to a segment or a point. Which of
+-- them does not depend on the point. Assumes nothing.
 use mathlib.Core.Path.{_≡_, refl, ap, _∙_}
-use mathlib.Core.Bool.{Bool, true, false, _&&_}
+use mathlib.Core.Bool.{Bool, true, false, cond, _&&_}
 use mathlib.Core.List.{List}
 use lib.Ieee.{Float}
 use Rattle.point.specs.Point.{_-ᵥ_, _·_, _≐ᵥ_}
@@ -20,15 +20,25 @@ to-closest {xs} {ys} {zs} f near same all =
       each = λ i h. all .each i h ∙ ap (λ (q : Point). (pointAt xs ys zs i -ᵥ q) · (pointAt xs ys zs i -ᵥ q)) (same (pointAt xs ys zs i));
     }
 
-module _ (f : Facet) (equal : f .equal ≡ true) (ab bc ac : Bool) (ab-is : ab ≡ (f .a ≐ᵥ f .b)) (bc-is : bc ≡ (f .b ≐ᵥ f .c)) (ac-is : ac ≡ (f .a ≐ᵥ f .c)) where
-  pub to-point : (ab && bc && ac) ≡ true → (p : Point) → f .a ≡ closestOn f p
-  unfolding closestOn closestPointEqual
-  to-point t p = picked (nearest (dotsOf f p) f) equal (picked _ (rw (ab-is, bc-is, ac-is) at t) refl)
+pub to-regions : (f : Facet) → f .equal ≡ false → (p : Point) → nearest (dotsOf f p) f ≡ closestOn f p
+unfolding closestOn
+to-regions f e p = passed (closestPointEqual p (f .a) (f .b) (f .c)) e refl
 
-  pub to-ac : (ab && bc && ac) ≡ false → ab ≡ true → (p : Point) → closestPointSegment p (f .a) (f .c) ≡ closestOn f p
-  unfolding closestOn closestPointEqual
-  to-ac t u p = picked (nearest (dotsOf f p) f) equal (passed _ (rw (ab-is, bc-is, ac-is) at t) (picked _ (rw ab-is at u) refl))
+module _ (f : Facet) (equal : f .equal ≡ true) where
+  abbrev one-point : Bool
+  one-point = (f .a ≐ᵥ f .b) && (f .b ≐ᵥ f .c) && (f .a ≐ᵥ f .c)
 
-  pub to-ab : (ab && bc && ac) ≡ false → ab ≡ false → (p : Point) → closestPointSegment p (f .a) (f .b) ≡ closestOn f p
+  abbrev other-end : Point
+  other-end = cond (f .a ≐ᵥ f .b) (f .c) (f .b)
+
+  pub to-point : one-point ≡ true → (p : Point) → f .a ≡ closestOn f p
   unfolding closestOn closestPointEqual
-  to-ab t u p = picked (nearest (dotsOf f p) f) equal (passed _ (rw (ab-is, bc-is, ac-is) at t) (passed _ (rw ab-is at u) refl))
+  to-point t p = picked (nearest (dotsOf f p) f) equal (picked _ t refl)
+
+  pub to-segment : one-point ≡ false → (p : Point) → closestPointSegment p (f .a) other-end ≡ closestOn f p
+  unfolding closestOn closestPointEqual
+  to-segment t p = picked (nearest (dotsOf f p) f) equal (passed _ t (either (f .a ≐ᵥ f .b)))
+    where
+      either : (e : Bool) → closestPointSegment p (f .a) (cond e (f .c) (f .b)) ≡ cond e (closestPointSegment p (f .a) (f .c)) (closestPointSegment p (f .a) (f .b))
+      either true = refl
+      either false = refl

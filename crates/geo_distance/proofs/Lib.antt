@@ -1,3 +1,4 @@
 mod Equal
+mod Loop
 -- what crates above cite
 pub mod Laws

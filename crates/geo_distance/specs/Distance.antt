@@ -28,6 +28,10 @@ distance p a b c = distanceOn (facetOf a b c) p
 abbrev pub pointAt : List Float → List Float → List Float → ℕ → Point
 pointAt xs ys zs i = vec (getD xs i nan) (getD ys i nan) (getD zs i nan)
 
+-- as many y and z as x, and room in `out` for a value of each point
+abbrev pub Alongside : List Float → List Float → List Float → List Float → Type 0
+Alongside xs ys zs out = (length ys ≡ length xs) × (length zs ≡ length xs) × (length out ≡ length xs)
+
 abbrev pub squaredAt : Facet → List Float → List Float → List Float → ℕ → Float
 squaredAt f xs ys zs i = squaredOn f (pointAt xs ys zs i)
 

@@ -47,7 +47,7 @@ pub fn begin(
         };
     }
     job_clear::fill_field(field);
-    job_clear::fill_numbers(names, 4_294_967_295);
+    slices::fill_numbers(names, 4_294_967_295);
     let number = run_seed::seed(field, names, grid, vertices, topology, given, indices);
     Begun {
         refused: 0,

@@ -9,21 +9,7 @@ ghost use Rattle.job_clear.specs.Cleared.{cleared, ClearedFields};
 pub fn fill_field(field: &mut [f32])
     ensures { λ _. ⌜ now (field .exit) ≡ replicate (length (now (field .entry))) fMax ⌝ }
 {
-    let mut i = 0;
-    while i < field.len() {
-        field[i] = 3.4028235e38;
-        i += 1;
-    }
-}
-
-pub fn fill_numbers(numbers: &mut [u32], with: u32)
-    ensures { λ _. ⌜ now (numbers .exit) ≡ replicate (length (now (numbers .entry))) with ⌝ }
-{
-    let mut i = 0;
-    while i < numbers.len() {
-        numbers[i] = with;
-        i += 1;
-    }
+    slices::fill_floats(field, 3.4028235e38);
 }
 
 // All but the queue.
@@ -31,9 +17,9 @@ pub fn clear_fields(field: &mut [f32], names: &mut [u32], crossings: &mut [u32],
     ensures { λ _. ⌜ ClearedFields (now (field .entry)) (now (field .exit)) (now (names .entry)) (now (crossings .entry)) (now (rows .entry)) (now (names .exit)) (now (crossings .exit)) (now (rows .exit)) ⌝ }
 {
     fill_field(field);
-    fill_numbers(names, 4_294_967_295);
-    fill_numbers(crossings, 0);
-    fill_numbers(rows, 0);
+    slices::fill_numbers(names, 4_294_967_295);
+    slices::fill_numbers(crossings, 0);
+    slices::fill_numbers(rows, 0);
 }
 
 // All of them.

@@ -135,7 +135,7 @@ pub fn cross(
     requires { ⌜ length (now crossings) ≡ 3 * total grid ⌝ }
     ensures { λ _. ⌜ now (crossings .exit) ≡ allCrossings grid (meshOf (now (vertices .entry)) topology given (now (indices .entry))) ⌝ }
 {
-    slices::clear(crossings);
+    slices::fill_numbers(crossings, 0);
     let mut z0 = [0.0f32; 1024];
     let mut z1 = [0.0f32; 1024];
     let mut z2 = [0.0f32; 1024];

@@ -40,7 +40,7 @@ pub fn count_rows(grid: Grid, field: &[f32], rows: &mut [u32])
     requires { ⌜ length (now rows) ≡ layers grid ⌝ }
     ensures { λ _. ⌜ now (rows .exit) ≡ Signs.rows grid (now (field .entry)) ⌝ }
 {
-    slices::clear(rows);
+    slices::fill_numbers(rows, 0);
     let height = grid::parts::layers(grid) as usize;
     let columns = (grid.count_x * grid.count_y) as usize;
     let mut k = 0;

@@ -1,17 +1,28 @@
-// Small steps on lent numbers that the crossing pass and the rows share. A part of the port: users call `sdf`.
+// Small steps on lent slices: all of them filled, and numbers that grow by one. A part of the port: users call `sdf`.
 ghost use mathlib.Core.Path.{_≡_};
 ghost use mathlib.Core.Bool.{cond};
 ghost use Prim.Native.Nat.{_+_, _*_, _<_};
 ghost use lib.ListN.{length, replicate};
 ghost use Rattle.slices.specs.Counts.{Room, PlacesBelow, Stepped};
 
-// Every number becomes 0.
-pub fn clear(s: &mut [u32])
-    ensures { λ _. ⌜ now (s .exit) ≡ replicate (length (now (s .entry))) 0 ⌝ }
+// Every number becomes `with`.
+pub fn fill_numbers(numbers: &mut [u32], with: u32)
+    ensures { λ _. ⌜ now (numbers .exit) ≡ replicate (length (now (numbers .entry))) with ⌝ }
 {
     let mut i = 0;
-    while i < s.len() {
-        s[i] = 0;
+    while i < numbers.len() {
+        numbers[i] = with;
+        i += 1;
+    }
+}
+
+// Every float becomes `with`.
+pub fn fill_floats(floats: &mut [f32], with: f32)
+    ensures { λ _. ⌜ now (floats .exit) ≡ replicate (length (now (floats .entry))) with ⌝ }
+{
+    let mut i = 0;
+    while i < floats.len() {
+        floats[i] = with;
         i += 1;
     }
 }

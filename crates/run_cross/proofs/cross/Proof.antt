@@ -16,7 +16,7 @@ cross-all-requires c κs =
         s .pre .1 .0,
         (
           s .pre .1 .1 .0,
-          ((lit≤ tt, lit≤ tt, lit≤ tt, lit≤ tt), z .clear .ensures ∙ ap (λ (n : ℕ). replicate n 0) (s .pre .1 .1 .1)),
+          ((lit≤ tt, lit≤ tt, lit≤ tt, lit≤ tt), z .fill-numbers .ensures ∙ ap (λ (n : ℕ). replicate n 0) (s .pre .1 .1 .1)),
         ),
       ),
     )

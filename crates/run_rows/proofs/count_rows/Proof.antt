@@ -38,8 +38,8 @@ within c =
 column : (k n : ℕ) → (k + 1) * n ≡ k * n + n
 column k n = omega arith
 
-clear-requires : tie.Need-clear-requires Inv-loop μ-loop
-clear-requires c κs = search needs
+fill-numbers-requires : tie.Need-fill-numbers-requires Inv-loop μ-loop
+fill-numbers-requires c κs = search needs
 
 layers-requires : tie.Need-layers-requires Inv-loop μ-loop
 layers-requires c κs = tt
@@ -56,7 +56,7 @@ cast-columns c = let h = small (c .before .before .before .before .before .befor
 loop-holds : tie.Need-loop-holds Inv-loop μ-loop
 loop-holds c =
     let s = c .before .before .before .before .before .before .before .before in
-    let l = c .before .before .before .before .clear in
+    let l = c .before .before .before .before .fill-numbers in
     let t = c .before .layers in
     (omega arith, rowed-none (t .result) (s .args .field .now) (l .last .0) (l .ensures ∙ ap (λ (n : ℕ). replicate n 0) (s .pre .1 .1 ∙ sym (t .ensures))))
 
@@ -108,7 +108,7 @@ count-rows-spec =
     (tie.spec
     Inv-loop
     μ-loop
-    clear-requires
+    fill-numbers-requires
     layers-requires
     cast-height
     mul-columns
