@@ -9,7 +9,7 @@
  *   sdf_grid grid = {{0.05f, 0.05f, 0.05f}, {0.1f, 0.1f, 0.1f}, {64, 64, 64}};
  *   size_t n = sdf_grid_total(grid).value;
  *   sdf_job_answer a = sdf_generate_grid_sdf_records(grid, vertices, 3 * vertex_count, SDF_LIST, SDF_INDICES, indices,
- *       index_count, field, n, names, n, crossings, 3 * n, rows, 64, queue, n, UINT32_MAX);
+ *       index_count, field, n, names, n, crossings, 3 * n, rows, 64, queue, n, (sdf_terms){.limit = UINT32_MAX});
  *   if (a.number == SDF_QUEUE_FULL) lend twice the queue and call again;
  *   if (a.number == SDF_DONE) field[i] < 0 is inside, and rows[z] counts the inside cells of layer z;
  *
@@ -40,7 +40,7 @@ extern "C" {
 #endif
 
 /* Raised whenever a function, a record or a number below is no longer what it was. */
-#define SDF_VERSION 1
+#define SDF_VERSION 2
 
 /* The numbers of the whole job [4.1], in the order in which they are checked; the first that applies is given. A
  * question asked by itself [4.4] gives 1 for the grid, 2 for a coordinate that is not finite or above 2,097,152 in
@@ -80,6 +80,12 @@ typedef struct {
     sdf_point first, size;
     sdf_cell count;
 } sdf_grid;
+
+/* What the whole job is asked for by value, beside the grid and the mesh. limit: how many entries may be taken. Say it by
+ * its name, as {.limit = n}: other members may follow it. */
+typedef struct {
+    uint32_t limit;
+} sdf_terms;
 
 typedef struct {
     uint32_t number, value;
@@ -164,7 +170,7 @@ enum { SDF_NO_INDICES = 0, SDF_INDICES = 1 };
  *                zero, so a cell whose centre lies on the surface is not counted
  *   distances, cells, triangles
  *                the queue: three arrays of one length, its room. Any length, 0 too
- * limit          how many entries may be taken
+ * terms          limit: how many entries may be taken
  *
  * How much to lend: room for n entries was enough in every job of docs/SPEED.md (a tank took 0.1 to 0.8 n, triangles
  * everywhere n); on SDF_QUEUE_FULL call again with twice the room. All of the room is cleared before and after the run, so
@@ -186,7 +192,7 @@ sdf_job_answer sdf_generate_grid_sdf(sdf_grid grid, const float *vertices, size_
                                      size_t field_length, uint32_t *names, size_t names_length, uint32_t *crossings,
                                      size_t crossings_length, uint32_t *rows, size_t rows_length, uint32_t *distances,
                                      size_t distances_length, uint32_t *cells, size_t cells_length,
-                                     uint32_t *triangles, size_t triangles_length, uint32_t limit);
+                                     uint32_t *triangles, size_t triangles_length, sdf_terms terms);
 
 /* The same job with the queue as one array of records, of any length. For the same input it gives the same answer and
  * leaves the same field, names, crossings and rows; the queue is left all zero where the other's is. What C owes is the
@@ -196,7 +202,7 @@ sdf_job_answer sdf_generate_grid_sdf_records(sdf_grid grid, const float *vertice
                                              size_t index_count, float *field, size_t field_length, uint32_t *names,
                                              size_t names_length, uint32_t *crossings, size_t crossings_length,
                                              uint32_t *rows, size_t rows_length, sdf_entry *queue,
-                                             size_t queue_length, uint32_t limit);
+                                             size_t queue_length, sdf_terms terms);
 
 /* The square root, rounded to nearest [6.5]. No refusal: what is below zero, and a NaN, gives a NaN. */
 float sdf_sqrt(float x);

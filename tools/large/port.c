@@ -10,14 +10,15 @@ void port_job(const uint32_t *grid, const float *vertices, size_t coordinate_cou
               size_t triangles_length, uint32_t *row, size_t row_length, uint32_t limit, uint32_t *number,
               uint32_t *pops, size_t *peak) {
     sdf_grid on = *(const sdf_grid *)grid;
+    sdf_terms terms = {.limit = limit};
     sdf_job_answer answer =
         row ? sdf_generate_grid_sdf_records(on, vertices, coordinate_count, topology, given, indices, index_count,
                                             field, field_length, names, names_length, crossings, crossings_length,
-                                            rows, rows_length, (sdf_entry *)row, row_length, limit)
+                                            rows, rows_length, (sdf_entry *)row, row_length, terms)
             : sdf_generate_grid_sdf(on, vertices, coordinate_count, topology, given, indices, index_count, field,
                                     field_length, names, names_length, crossings, crossings_length, rows,
                                     rows_length, distances, distances_length, cells, cells_length, triangles,
-                                    triangles_length, limit);
+                                    triangles_length, terms);
     *number = answer.number;
     *pops = answer.pops;
     *peak = answer.peak;

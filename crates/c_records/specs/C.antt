@@ -23,6 +23,7 @@ use Rattle.grid.specs.declared.Snap.{Snap}
 use Rattle.grid.specs.declared.SnapResult.{SnapResult}
 use Rattle.grid.specs.declared.SnapResult.the-variants.{Inside, Outside}
 use Rattle.grid.specs.Reply.{Reply, refused, given}
+use Rattle.terms.specs.declared.Terms.{Terms}
 use Rattle.geo_box.specs.declared.TriangleBox.{TriangleBox}
 use Rattle.geo_ray.specs.declared.RayHit.{RayHit}
 use Rattle.geo_ray.specs.declared.RayHit.the-variants.{Miss, Hit}
@@ -31,6 +32,7 @@ use Rattle.ask_geo.specs.Asked.{Answer, value}
 use Rattle.c_records.specs.declared.SdfPoint.{SdfPoint}
 use Rattle.c_records.specs.declared.SdfCell.{SdfCell}
 use Rattle.c_records.specs.declared.SdfGrid.{SdfGrid}
+use Rattle.c_records.specs.declared.SdfTerms.{SdfTerms}
 use Rattle.c_records.specs.declared.SdfNumberAnswer.{SdfNumberAnswer}
 use Rattle.c_records.specs.declared.SdfCellAnswer.{SdfCellAnswer}
 use Rattle.c_records.specs.declared.SdfPointAnswer.{SdfPointAnswer}
@@ -76,6 +78,9 @@ gridOut g = record {
   size = pointOut (g .«cell_size»);
   count = record { x = g .«count_x»; y = g .«count_y»; z = g .«count_z» };
 }
+
+abbrev pub termsIn : SdfTerms → Terms
+termsIn t = record { limit = t .limit }
 
 -- 0 is x, 1 is y, and any other number z
 abbrev pub axisIn : ℕ → Axis

@@ -6,6 +6,7 @@ use grid::Counts;
 use grid::Grid;
 use point::Axis;
 use point::Point;
+use terms::Terms;
 ghost use mathlib.Core.Path.{_≡_};
 ghost use Rattle.c_records.specs.C as C;
 
@@ -29,6 +30,12 @@ pub struct SdfGrid {
     pub first: SdfPoint,
     pub size: SdfPoint,
     pub count: SdfCell,
+}
+
+// What a job is asked for by value, beside the grid and the mesh.
+#[repr(C)]
+pub struct SdfTerms {
+    pub limit: u32,
 }
 
 #[repr(C)]
@@ -149,6 +156,14 @@ impl SdfGrid {
             count_y: count.y,
             count_z: count.z,
         }
+    }
+}
+
+impl SdfTerms {
+    pub fn terms(self) -> Terms
+        ensures { λ r. ⌜ r ≡ C.termsIn self ⌝ }
+    {
+        Terms { limit: self.limit }
     }
 }
 

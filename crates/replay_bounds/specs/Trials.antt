@@ -6,6 +6,7 @@ use Rattle.float.specs.Arith.{f0, f1}
 use Rattle.grid.specs.declared.Grid.{Grid}
 use Rattle.mesh_topology.specs.declared.Topology.the-variants.{TriangleList}
 use Rattle.mesh_topology.specs.declared.Indices.the-variants.{Given}
+use Rattle.terms.specs.declared.Terms.{Terms}
 use Rattle.job_checks.specs.Job.{Job, Lent, jobOf, lentOf}
 
 -- cells of size 1, the first at the origin
@@ -23,6 +24,9 @@ unitGrid x y z =
 abbrev pub oneCell : Lent
 oneCell = lentOf (replicate 1 f0) (replicate 1 0) (replicate 3 0) (replicate 1 0) (replicate 1 0) (replicate 1 0) (replicate 1 0)
 
+abbrev pub onePop : Terms
+onePop = record { limit = 1 }
+
 -- one vertex and one index, which make no triangle
 abbrev pub noTriangles : Job
-noTriangles = jobOf (unitGrid 2 1 3) (replicate 3 f0) TriangleList Given (replicate 1 0) 1
+noTriangles = jobOf (unitGrid 2 1 3) (replicate 3 f0) TriangleList Given (replicate 1 0) onePop

@@ -3,11 +3,12 @@ use sdf::Answer;
 use sdf::Grid;
 use sdf::Indices;
 use sdf::Point;
+use sdf::Terms;
 use sdf::Topology;
 ghost use mathlib.Core.Path.{_≡_};
 ghost use Rattle.job_checks.specs.Job.{jobOf, lentOf};
 ghost use Rattle.job_outcome.specs.Outcome.{outcome, numberOf};
-ghost use Rattle.replay_bounds.specs.Trials.{unitGrid, oneCell, noTriangles};
+ghost use Rattle.replay_bounds.specs.Trials.{unitGrid, oneCell, onePop, noTriangles};
 
 // A grid of cells of size 1, the first at the origin.
 pub fn grid_of(x: u32, y: u32, z: u32) -> Grid
@@ -53,9 +54,13 @@ pub fn asked(
     distances: &mut [u32],
     cells: &mut [u32],
     triangles: &mut [u32],
-    limit: u32,
+    terms: Terms,
 ) -> u32
-    ensures { λ r. ⌜ r ≡ numberOf (outcome (jobOf grid (now (vertices .entry)) topology given (now (indices .entry)) limit) (lentOf (now (field .entry)) (now (names .entry)) (now (crossings .entry)) (now (rows .entry)) (now (distances .entry)) (now (cells .entry)) (now (triangles .entry))) .answer) ⌝ }
+    ensures { λ r.
+        let job = jobOf grid (now (vertices .entry)) topology given (now (indices .entry)) terms in
+        let lent = lentOf (now (field .entry)) (now (names .entry)) (now (crossings .entry)) (now (rows .entry))
+        (now (distances .entry)) (now (cells .entry)) (now (triangles .entry)) in
+        ⌜ r ≡ numberOf (outcome job lent .answer) ⌝ }
 {
     let answer = sdf::generate_grid_sdf(
         grid,
@@ -70,7 +75,7 @@ pub fn asked(
         distances,
         cells,
         triangles,
-        limit,
+        terms,
     );
     number_of(answer)
 }
@@ -83,7 +88,9 @@ pub fn one_cell(
     given: Indices,
     indices: &[u32],
 ) -> u32
-    ensures { λ r. ⌜ r ≡ numberOf (outcome (jobOf grid (now (vertices .entry)) topology given (now (indices .entry)) 1) oneCell .answer) ⌝ }
+    ensures { λ r.
+        let job = jobOf grid (now (vertices .entry)) topology given (now (indices .entry)) onePop in
+        ⌜ r ≡ numberOf (outcome job oneCell .answer) ⌝ }
 {
     let mut field = [0.0f32; 1];
     let mut names = [0u32; 1];
@@ -105,7 +112,7 @@ pub fn one_cell(
         &mut distances,
         &mut cells,
         &mut triangles,
-        1,
+        Terms { limit: 1 },
     )
 }
 
@@ -151,6 +158,6 @@ pub fn no_triangles(
         distances,
         cells,
         triangles,
-        1,
+        Terms { limit: 1 },
     )
 }

@@ -44,6 +44,7 @@ pub use job_generate::generate_grid_sdf;
 pub use mesh_topology::Indices;
 pub use mesh_topology::Topology;
 pub use queue::Entry;
+pub use terms::Terms;
 
 // ---- the questions
 

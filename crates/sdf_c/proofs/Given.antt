@@ -6,16 +6,17 @@ use lib.Ieee.{Float}
 use Rattle.grid.specs.declared.Grid.{Grid}
 use Rattle.mesh_topology.specs.declared.Topology.{Topology}
 use Rattle.mesh_topology.specs.declared.Indices.{Indices}
+use Rattle.terms.specs.declared.Terms.{Terms}
 use Rattle.job_outcome.specs.declared.Answer.{Answer}
 use Rattle.job_checks.specs.Job.{Lent, jobOf}
 use Rattle.job_outcome.specs.Outcome.{Outcome, Gives, outcome}
 use Rattle.sdf_c.specs.declared.job.SdfJobAnswer.{SdfJobAnswer}
 use Rattle.sdf_c.specs.Job.{answerOut, GivesC}
 
-pub gives-c : {g g′ : Grid} {t t′ : Topology} {i i′ : Indices} {a : Answer} {r : SdfJobAnswer} (vs : List Float) (is : List ℕ) (limit : ℕ) (b : Lent) {left : Lent}
-    → g ≡ g′ → t ≡ t′ → i ≡ i′ → r ≡ answerOut a → Gives (outcome (jobOf g vs t i is limit) b) a left → GivesC (outcome (jobOf g′ vs t′ i′ is limit) b) r left
-gives-c {g} {g′} {t} {t′} {i} {i′} {a} {r} vs is limit b {left} eg et ei er h =
+pub gives-c : {g g′ : Grid} {t t′ : Topology} {i i′ : Indices} {s s′ : Terms} {a : Answer} {r : SdfJobAnswer} (vs : List Float) (is : List ℕ) (b : Lent) {left : Lent}
+    → g ≡ g′ → t ≡ t′ → i ≡ i′ → s ≡ s′ → r ≡ answerOut a → Gives (outcome (jobOf g vs t i is s) b) a left → GivesC (outcome (jobOf g′ vs t′ i′ is s′) b) r left
+gives-c {g} {g′} {t} {t′} {i} {i′} {s} {s′} {a} {r} vs is b {left} eg et ei es er h =
     subst
     (λ (o : Outcome). GivesC o r left)
-    (λ k. outcome (jobOf (eg k) vs (et k) (ei k) is limit) b)
+    (λ k. outcome (jobOf (eg k) vs (et k) (ei k) is (es k)) b)
     (record { answers = er ∙ ap answerOut (h .answers); leaves = h .leaves })

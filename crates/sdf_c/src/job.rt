@@ -1,12 +1,13 @@
 // The whole job for C, over three arrays or over a row of records: `sdf::generate_grid_sdf` and
 // `sdf::generate_grid_sdf_records`, with the answer as a record. A slice is two parameters in C, a pointer and a count.
 use c_records::SdfGrid;
+use c_records::SdfTerms;
 use sdf::Answer;
 use sdf::Entry;
 use sdf::Indices;
 use sdf::Topology;
 ghost use mathlib.Core.Path.{_≡_};
-ghost use Rattle.c_records.specs.C.{gridIn};
+ghost use Rattle.c_records.specs.C.{gridIn, termsIn};
 ghost use Rattle.job_checks.specs.Job.{jobOf, lentOf};
 ghost use Rattle.job_outcome.specs.Outcome.{outcome};
 ghost use Rattle.entries_generate.specs.LentRow.{lentRow};
@@ -71,9 +72,16 @@ pub extern "C" fn sdf_generate_grid_sdf(
     distances: &mut [u32],
     cells: &mut [u32],
     triangles: &mut [u32],
-    limit: u32,
+    terms: SdfTerms,
 ) -> SdfJobAnswer
-    ensures { λ r. ⌜ GivesC (outcome (jobOf (gridIn grid) (now (vertices .entry)) (topologyIn topology) (indicesIn given) (now (indices .entry)) limit) (lentOf (now (field .entry)) (now (names .entry)) (now (crossings .entry)) (now (rows .entry)) (now (distances .entry)) (now (cells .entry)) (now (triangles .entry)))) r (lentOf (now (field .exit)) (now (names .exit)) (now (crossings .exit)) (now (rows .exit)) (now (distances .exit)) (now (cells .exit)) (now (triangles .exit))) ⌝ }
+    ensures { λ r.
+        let job = jobOf (gridIn grid) (now (vertices .entry)) (topologyIn topology) (indicesIn given)
+        (now (indices .entry)) (termsIn terms) in
+        let lent = lentOf (now (field .entry)) (now (names .entry)) (now (crossings .entry)) (now (rows .entry))
+        (now (distances .entry)) (now (cells .entry)) (now (triangles .entry)) in
+        let left = lentOf (now (field .exit)) (now (names .exit)) (now (crossings .exit)) (now (rows .exit))
+        (now (distances .exit)) (now (cells .exit)) (now (triangles .exit)) in
+        ⌜ GivesC (outcome job lent) r left ⌝ }
 {
     answer_out(sdf::generate_grid_sdf(
         grid.grid(),
@@ -88,7 +96,7 @@ pub extern "C" fn sdf_generate_grid_sdf(
         distances,
         cells,
         triangles,
-        limit,
+        terms.terms(),
     ))
 }
 
@@ -105,13 +113,19 @@ pub extern "C" fn sdf_generate_grid_sdf_records(
     crossings: &mut [u32],
     rows: &mut [u32],
     queue: &mut [Entry],
-    limit: u32,
+    terms: SdfTerms,
 ) -> SdfJobAnswer
-    ensures { λ r. ⌜ GivesC (outcome (jobOf (gridIn grid) (now (vertices .entry)) (topologyIn topology) (indicesIn given) (now (indices .entry)) limit) (lentRow (now (field .entry)) (now (names .entry)) (now (crossings .entry)) (now (rows .entry)) (now (queue .entry)))) r (lentRow (now (field .exit)) (now (names .exit)) (now (crossings .exit)) (now (rows .exit)) (now (queue .exit))) ⌝ }
+    ensures { λ r.
+        let job = jobOf (gridIn grid) (now (vertices .entry)) (topologyIn topology) (indicesIn given)
+        (now (indices .entry)) (termsIn terms) in
+        let lent = lentRow (now (field .entry)) (now (names .entry)) (now (crossings .entry)) (now (rows .entry)) (now (queue .entry)) in
+        let left = lentRow (now (field .exit)) (now (names .exit)) (now (crossings .exit)) (now (rows .exit)) (now (queue .exit)) in
+        ⌜ GivesC (outcome job lent) r left ⌝ }
 {
     let at = grid.grid();
     let listed = topology_in(topology);
     let indexed = indices_in(given);
+    let asked = terms.terms();
     let answer = sdf::generate_grid_sdf_records(
         at,
         vertices,
@@ -123,7 +137,7 @@ pub extern "C" fn sdf_generate_grid_sdf_records(
         crossings,
         rows,
         queue,
-        limit,
+        asked,
     );
     answer_out(answer)
 }
