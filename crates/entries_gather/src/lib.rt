@@ -25,7 +25,9 @@ fn counted(n: usize, taken: bool) -> usize
 // All offers of triangle k, to where the 27 steps lead.
 fn gather(field: &mut [f32], names: &mut [u32], k: u32, to: &[u32], squares: &[f32]) -> Batch
     requires { ⌜ PlacesFit (now to) (now squares) (now field) (now names) ⌝ }
-    ensures { λ r. ⌜ BatchGathered k (now (to .entry)) (now (squares .entry)) (now (field .entry)) (now (names .entry)) (now (field .exit)) (now (names .exit)) r ⌝ }
+    ensures { λ r.
+        ⌜ BatchGathered k (now (to .entry)) (now (squares .entry)) (now (field .entry)) (now (names .entry))
+        (now (field .exit)) (now (names .exit)) r ⌝ }
 {
     let mut cells = [0u32; 27];
     let mut distances = [0u32; 27];
@@ -69,8 +71,12 @@ pub fn offers(
     e: Entry,
     terms: Terms,
 ) -> Batch
-    requires { ⌜ Ready grid (meshOf (now vertices) topology given (now indices)) × Known (total grid) (length (trianglesIn (meshOf (now vertices) topology given (now indices)))) e × (length (now field) ≡ total grid) × (length (now names) ≡ total grid) ⌝ }
-    ensures { λ r. ⌜ PopOffered grid (meshOf (now (vertices .entry)) topology given (now (indices .entry))) e (now (field .entry)) (now (names .entry)) (now (field .exit)) (now (names .exit)) r ⌝ }
+    requires { let m = meshOf (now vertices) topology given (now indices) in
+        ⌜ Ready grid m × Known (total grid) (length (trianglesIn m)) e × (length (now field) ≡ total grid) ×
+        (length (now names) ≡ total grid) ⌝ }
+    ensures { λ r.
+        let m = meshOf (now (vertices .entry)) topology given (now (indices .entry)) in
+        ⌜ PopOffered grid m e (now (field .entry)) (now (names .entry)) (now (field .exit)) (now (names .exit)) r ⌝ }
 {
     let steps = run_around::STEPS;
     let mut to = [0u32; 27];

@@ -21,7 +21,8 @@ pub fn push_all(
     indices: &[u32],
     vertices: usize,
 ) -> Progress
-    requires { ⌜ (vertices < 2 ^ 32) × HeldRow (orderOf topology given (now indices) vertices) (now row) (at .waiting) × (at .number ≡ 0) × (b .count < 28) ⌝ }
+    requires { let le = orderOf topology given (now indices) vertices in
+        ⌜ (vertices < 2 ^ 32) × HeldRow le (now row) (at .waiting) × (at .number ≡ 0) × (b .count < 28) ⌝ }
     ensures { λ r. ⌜ QueuedAll (orderOf topology given (now (indices .entry)) vertices) b (now (row .entry)) at (now (row .exit)) r ⌝ }
 {
     let mut reached = at;

@@ -21,8 +21,12 @@ pub fn queue_cells(
     indices: &[u32],
     vertices: usize,
 ) -> Progress
-    requires { ⌜ (vertices < 2 ^ 32) × HeldRow (orderOf topology given (now indices) vertices) (now row) (at .waiting) × (at .number ≡ 0) × (length (now names) ≡ length (now field)) × (length (now field) ≤ 1048576) ⌝ }
-    ensures { λ r. ⌜ QueuedCells (orderOf topology given (now (indices .entry)) vertices) (now (field .entry)) (now (names .entry)) (now (row .entry)) at (now (row .exit)) r ⌝ }
+    requires { let le = orderOf topology given (now indices) vertices in
+        ⌜ (vertices < 2 ^ 32) × HeldRow le (now row) (at .waiting) × (at .number ≡ 0) ×
+        (length (now names) ≡ length (now field)) × (length (now field) ≤ 1048576) ⌝ }
+    ensures { λ r.
+        let le = orderOf topology given (now (indices .entry)) vertices in
+        ⌜ QueuedCells le (now (field .entry)) (now (names .entry)) (now (row .entry)) at (now (row .exit)) r ⌝ }
 {
     let mut reached = at;
     let mut c = 0;

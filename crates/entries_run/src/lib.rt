@@ -42,7 +42,8 @@ pub fn run_row(
     number: u32,
     terms: Terms,
 ) -> Progress
-    requires { ⌜ Fit grid (meshOf (now vertices) topology given (now indices)) × Seeded grid (meshOf (now vertices) topology given (now indices)) number (now field) (now names) (now row) ⌝ }
+    requires { let m = meshOf (now vertices) topology given (now indices) in
+        ⌜ Fit grid m × Seeded grid m number (now field) (now names) (now row) ⌝ }
     ensures { λ r.
         let m = meshOf (now (vertices .entry)) topology given (now (indices .entry)) in
         let left = now (row .exit) in

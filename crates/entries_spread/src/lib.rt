@@ -24,7 +24,9 @@ pub fn spread(
     at: Progress,
     terms: Terms,
 ) -> Progress
-    requires { ⌜ Ready grid (meshOf (now vertices) topology given (now indices)) × HoldsRow grid (meshOf (now vertices) topology given (now indices)) (now field) (now names) (now row) (at .waiting) × (at .number ≡ 0) × (at .pops ≡ 0) ⌝ }
+    requires { let m = meshOf (now vertices) topology given (now indices) in
+        ⌜ Ready grid m × HoldsRow grid m (now field) (now names) (now row) (at .waiting) × (at .number ≡ 0) ×
+        (at .pops ≡ 0) ⌝ }
     ensures { λ r.
         let m = meshOf (now (vertices .entry)) topology given (now (indices .entry)) in
         ⌜ ToldRow grid m (λ g. spreading g (terms .limit)) (now (field .entry)) (now (names .entry)) (now (row .entry)) at

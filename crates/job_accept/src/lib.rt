@@ -31,7 +31,8 @@ fn cleared_job(
     terms: Terms,
 ) -> Answer
     requires { ⌜ Fit grid (meshOf (now vertices) topology given (now indices)) ⌝ }
-    requires { ⌜ Fresh grid (meshOf (now vertices) topology given (now indices)) (now field) (now names) (now distances) (now cells) (now triangles) ⌝ }
+    requires { let m = meshOf (now vertices) topology given (now indices) in
+        ⌜ Fresh grid m (now field) (now names) (now distances) (now cells) (now triangles) ⌝ }
     requires { ⌜ Long grid (now crossings) (now rows) ⌝ }
     ensures { λ r.
         let job = jobOf grid (now (vertices .entry)) topology given (now (indices .entry)) terms in

@@ -28,7 +28,10 @@ pub fn begin(
     room: usize,
     terms: Terms,
 ) -> Begun
-    ensures { λ r. ⌜ Begins grid (meshOf (now (vertices .entry)) topology given (now (indices .entry))) crossings rows room (now (field .entry)) (now (names .entry)) (now (field .exit)) (now (names .exit)) r ⌝ }
+    ensures { λ r.
+        let m = meshOf (now (vertices .entry)) topology given (now (indices .entry)) in
+        ⌜ Begins grid m crossings rows room (now (field .entry)) (now (names .entry)) (now (field .exit))
+        (now (names .exit)) r ⌝ }
 {
     let lengths = Lengths {
         field: field.len(),

@@ -14,7 +14,9 @@ pub fn fill_field(field: &mut [f32])
 
 // All but the queue.
 pub fn clear_fields(field: &mut [f32], names: &mut [u32], crossings: &mut [u32], rows: &mut [u32])
-    ensures { λ _. ⌜ ClearedFields (now (field .entry)) (now (field .exit)) (now (names .entry)) (now (crossings .entry)) (now (rows .entry)) (now (names .exit)) (now (crossings .exit)) (now (rows .exit)) ⌝ }
+    ensures { λ _.
+        ⌜ ClearedFields (now (field .entry)) (now (field .exit)) (now (names .entry)) (now (crossings .entry))
+        (now (rows .entry)) (now (names .exit)) (now (crossings .exit)) (now (rows .exit)) ⌝ }
 {
     fill_field(field);
     slices::fill_numbers(names, 4_294_967_295);
@@ -32,7 +34,12 @@ pub fn clear_all(
     cells: &mut [u32],
     triangles: &mut [u32],
 )
-    ensures { λ _. ⌜ lentOf (now (field .exit)) (now (names .exit)) (now (crossings .exit)) (now (rows .exit)) (now (distances .exit)) (now (cells .exit)) (now (triangles .exit)) ≡ cleared (lentOf (now (field .entry)) (now (names .entry)) (now (crossings .entry)) (now (rows .entry)) (now (distances .entry)) (now (cells .entry)) (now (triangles .entry))) ⌝ }
+    ensures { λ _.
+        let lent = lentOf (now (field .entry)) (now (names .entry)) (now (crossings .entry)) (now (rows .entry))
+        (now (distances .entry)) (now (cells .entry)) (now (triangles .entry)) in
+        let left = lentOf (now (field .exit)) (now (names .exit)) (now (crossings .exit)) (now (rows .exit))
+        (now (distances .exit)) (now (cells .exit)) (now (triangles .exit)) in
+        ⌜ left ≡ cleared lent ⌝ }
 {
     clear_fields(field, names, crossings, rows);
     queue::clear(distances, cells, triangles);

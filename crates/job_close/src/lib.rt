@@ -27,7 +27,9 @@ fn finish(
     requires { ⌜ Fit grid (meshOf (now vertices) topology given (now indices)) ⌝ }
     requires { ⌜ length (now field) ≡ total grid ⌝ }
     requires { ⌜ Long grid (now crossings) (now rows) ⌝ }
-    ensures { λ _. ⌜ Finished grid (meshOf (now (vertices .entry)) topology given (now (indices .entry))) (now (field .entry)) (now (field .exit)) (now (crossings .exit)) (now (rows .exit)) ⌝ }
+    ensures { λ _.
+        let m = meshOf (now (vertices .entry)) topology given (now (indices .entry)) in
+        ⌜ Finished grid m (now (field .entry)) (now (field .exit)) (now (crossings .exit)) (now (rows .exit)) ⌝ }
 {
     run_cross::cross(grid, vertices, topology, given, indices, crossings);
     run_signs::sign(crossings, field);
@@ -49,8 +51,12 @@ pub fn close(
     terms: Terms,
     ran: Progress,
 ) -> Answer
-    requires { ⌜ Fit grid (meshOf (now vertices) topology given (now indices)) × (length (now field) ≡ total grid) × Long grid (now crossings) (now rows) ⌝ }
-    ensures { λ r. ⌜ Closed grid (meshOf (now (vertices .entry)) topology given (now (indices .entry))) ran (now (field .entry)) (now (names .entry)) (now (crossings .entry)) (now (rows .entry)) (now (field .exit)) (now (names .exit)) (now (crossings .exit)) (now (rows .exit)) r ⌝ }
+    requires { let m = meshOf (now vertices) topology given (now indices) in
+        ⌜ Fit grid m × (length (now field) ≡ total grid) × Long grid (now crossings) (now rows) ⌝ }
+    ensures { λ r.
+        let m = meshOf (now (vertices .entry)) topology given (now (indices .entry)) in
+        ⌜ Closed grid m ran (now (field .entry)) (now (names .entry)) (now (crossings .entry)) (now (rows .entry))
+        (now (field .exit)) (now (names .exit)) (now (crossings .exit)) (now (rows .exit)) r ⌝ }
 {
     if ran.number != 0 {
         job_clear::clear_fields(field, names, crossings, rows);

@@ -31,7 +31,8 @@ pub fn conclude(
     ran: Progress,
 ) -> Answer
     requires { ⌜ Fit grid (meshOf (now vertices) topology given (now indices)) ⌝ }
-    requires { ⌜ Ran grid (meshOf (now vertices) topology given (now indices)) (now field) (now names) (now distances) (now cells) (now triangles) ran ⌝ }
+    requires { let m = meshOf (now vertices) topology given (now indices) in
+        ⌜ Ran grid m (now field) (now names) (now distances) (now cells) (now triangles) ran ⌝ }
     requires { ⌜ Long grid (now crossings) (now rows) ⌝ }
     ensures { λ r.
         let job = jobOf grid (now (vertices .entry)) topology given (now (indices .entry)) terms in

@@ -44,7 +44,9 @@ pub fn write_listing(
     rows: &[u32],
     out: &mut [u8],
 ) -> Written
-    ensures { λ r. ⌜ WritesListing answer (now (field .entry)) (now (names .entry)) (now (rows .entry)) (now (out .entry)) (now (out .exit)) r ⌝ }
+    ensures { λ r.
+        ⌜ WritesListing answer (now (field .entry)) (now (names .entry)) (now (rows .entry)) (now (out .entry))
+        (now (out .exit)) r ⌝ }
 {
     if out.len() < BYTE_ROOM {
         return Written::Nothing;

@@ -126,7 +126,10 @@ pub fn no_triangles(
     cells: &mut [u32],
     triangles: &mut [u32],
 ) -> u32
-    ensures { λ r. ⌜ r ≡ numberOf (outcome noTriangles (lentOf (now (field .entry)) (now (names .entry)) (now (crossings .entry)) (now (rows .entry)) (now (distances .entry)) (now (cells .entry)) (now (triangles .entry))) .answer) ⌝ }
+    ensures { λ r.
+        let lent = lentOf (now (field .entry)) (now (names .entry)) (now (crossings .entry)) (now (rows .entry))
+        (now (distances .entry)) (now (cells .entry)) (now (triangles .entry)) in
+        ⌜ r ≡ numberOf (outcome noTriangles lent .answer) ⌝ }
 {
     let grid = Grid {
         first_cell: Point {

@@ -155,7 +155,9 @@ pub fn look_around(
     requires { ⌜ Ready grid (meshOf (now vertices) topology given (now indices)) ⌝ }
     requires { ⌜ Known (total grid) (length (trianglesIn (meshOf (now vertices) topology given (now indices)))) e ⌝ }
     requires { ⌜ (now steps ≡ codes Steps.steps) × (length (now to) ≡ 27) × (length (now squares) ≡ 27) ⌝ }
-    ensures { λ _. ⌜ Around grid (meshOf (now (vertices .entry)) topology given (now (indices .entry))) e (now (to .exit)) (now (squares .exit)) ⌝ }
+    ensures { λ _.
+        let m = meshOf (now (vertices .entry)) topology given (now (indices .entry)) in
+        ⌜ Around grid m e (now (to .exit)) (now (squares .exit)) ⌝ }
 {
     let t = mesh::corners_at(vertices, topology, given, indices, e.triangle as usize);
     let facet = geo_closest::facet_of(t.a, t.b, t.c);

@@ -34,7 +34,10 @@ fn cross_rows(
     requires { ⌜ (1024 ≤ length (now z0)) × (1024 ≤ length (now z1)) × (1024 ≤ length (now z2)) × (1024 ≤ length (now flags)) ⌝ }
     requires { ⌜ length (now crossings) ≡ 3 * total grid ⌝ }
     requires { ⌜ Room 3 (now crossings) ⌝ }
-    ensures { λ _. ⌜ Grown grid (axisCrossed grid axis (castHit grid axis cast (now (z0 .entry)) (now (z1 .entry)) (now (z2 .entry)))) (now (crossings .entry)) (now (crossings .exit)) ⌝ }
+    ensures { λ _.
+        ⌜ Grown grid
+        (axisCrossed grid axis (castHit grid axis cast (now (z0 .entry)) (now (z1 .entry)) (now (z2 .entry))))
+        (now (crossings .entry)) (now (crossings .exit)) ⌝ }
 {
     let xs = geo_ray::along_x(cast, run_cross_lines::centre(grid, axis, 0));
     let across = run_cross_lines::next(axis);

@@ -61,11 +61,14 @@ fn cross_marked(
     crossings: &mut [u32],
 )
     requires { ⌜ inBounds grid ≡ true ⌝ }
-    requires { ⌜ (u < countOn (next axis) grid) × (1024 ≤ length (now z0)) × (1024 ≤ length (now z1)) × (1024 ≤ length (now z2)) × (1024 ≤ length (now flags)) ⌝ }
+    requires { ⌜ (u < countOn (next axis) grid) × (1024 ≤ length (now z0)) × (1024 ≤ length (now z1)) ×
+        (1024 ≤ length (now z2)) × (1024 ≤ length (now flags)) ⌝ }
     requires { ⌜ Marked (now z0) (now z1) (now z2) ys (countOn (next (next axis)) grid) (now flags) ⌝ }
     requires { ⌜ length (now crossings) ≡ 3 * total grid ⌝ }
     requires { ⌜ Room 2 (now crossings) ⌝ }
-    ensures { λ _. ⌜ Grown grid (rowCrossed grid axis u (rowHit (now (z0 .entry)) (now (z1 .entry)) (now (z2 .entry)) ys xs)) (now (crossings .entry)) (now (crossings .exit)) ⌝ }
+    ensures { λ _.
+        ⌜ Grown grid (rowCrossed grid axis u (rowHit (now (z0 .entry)) (now (z1 .entry)) (now (z2 .entry)) ys xs))
+        (now (crossings .entry)) (now (crossings .exit)) ⌝ }
 {
     let count = grid::parts::count_on(grid, run_cross_lines::second(axis));
     let mut v: u32 = 0;
@@ -93,10 +96,13 @@ pub fn cross_row(
     crossings: &mut [u32],
 )
     requires { ⌜ inBounds grid ≡ true ⌝ }
-    requires { ⌜ (u < countOn (next axis) grid) × (1024 ≤ length (now z0)) × (1024 ≤ length (now z1)) × (1024 ≤ length (now z2)) × (1024 ≤ length (now flags)) ⌝ }
+    requires { ⌜ (u < countOn (next axis) grid) × (1024 ≤ length (now z0)) × (1024 ≤ length (now z1)) ×
+        (1024 ≤ length (now z2)) × (1024 ≤ length (now flags)) ⌝ }
     requires { ⌜ length (now crossings) ≡ 3 * total grid ⌝ }
     requires { ⌜ Room 2 (now crossings) ⌝ }
-    ensures { λ _. ⌜ Grown grid (rowCrossed grid axis u (rowHit (now (z0 .entry)) (now (z1 .entry)) (now (z2 .entry)) ys xs)) (now (crossings .entry)) (now (crossings .exit)) ⌝ }
+    ensures { λ _.
+        ⌜ Grown grid (rowCrossed grid axis u (rowHit (now (z0 .entry)) (now (z1 .entry)) (now (z2 .entry)) ys xs))
+        (now (crossings .entry)) (now (crossings .exit)) ⌝ }
 {
     let count = grid::parts::count_on(grid, run_cross_lines::second(axis)) as usize;
     let any = run_cross_marks::mark_row(z0, z1, z2, ys, count, flags);

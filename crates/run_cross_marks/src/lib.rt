@@ -72,7 +72,8 @@ pub fn mark_row(
 ) -> bool
     requires { ⌜ (count ≤ length (now z0)) × (count ≤ length (now z1)) × (count ≤ length (now z2)) × (count ≤ length (now flags)) ⌝ }
     ensures { λ r. ⌜ Marked (now (z0 .entry)) (now (z1 .entry)) (now (z2 .entry)) ys count (now (flags .exit)) ⌝ }
-    ensures { λ r. ⌜ (r ≡ false → (v : ℕ) → v < count → mayHit (partsAt (now (z0 .entry)) (now (z1 .entry)) (now (z2 .entry)) v) ys ≡ false) ⌝ }
+    ensures { λ r.
+        ⌜ (r ≡ false → (v : ℕ) → v < count → mayHit (partsAt (now (z0 .entry)) (now (z1 .entry)) (now (z2 .entry)) v) ys ≡ false) ⌝ }
 {
     let mut any = false;
     let mut v = 0;

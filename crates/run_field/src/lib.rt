@@ -28,7 +28,8 @@ fn spread_seeds(
     terms: Terms,
 ) -> Progress
     requires { ⌜ Ready grid (meshOf (now vertices) topology given (now indices)) ⌝ }
-    requires { ⌜ Holds grid (meshOf (now vertices) topology given (now indices)) (now field) (now names) (now distances) (now cells) (now triangles) 0 ⌝ }
+    requires { let m = meshOf (now vertices) topology given (now indices) in
+        ⌜ Holds grid m (now field) (now names) (now distances) (now cells) (now triangles) 0 ⌝ }
     requires { ⌜ Named grid (meshOf (now vertices) topology given (now indices)) (now field) (now names) ⌝ }
     ensures { λ r.
         let m = meshOf (now (vertices .entry)) topology given (now (indices .entry)) in
@@ -90,7 +91,8 @@ pub fn run_field(
     terms: Terms,
 ) -> Progress
     requires { ⌜ Fit grid (meshOf (now vertices) topology given (now indices)) ⌝ }
-    requires { ⌜ Fresh grid (meshOf (now vertices) topology given (now indices)) (now field) (now names) (now distances) (now cells) (now triangles) ⌝ }
+    requires { let m = meshOf (now vertices) topology given (now indices) in
+        ⌜ Fresh grid m (now field) (now names) (now distances) (now cells) (now triangles) ⌝ }
     ensures { λ r.
         let m = meshOf (now (vertices .entry)) topology given (now (indices .entry)) in
         ⌜ Leaves grid m (λ any. run (runInput grid m (length (now (distances .entry))) (terms .limit)))

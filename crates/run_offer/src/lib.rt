@@ -35,9 +35,15 @@ fn offer(
     q: f32,
 ) -> Progress
     requires { ⌜ Ready grid (meshOf (now vertices) topology given (now indices)) ⌝ }
-    requires { ⌜ Holds grid (meshOf (now vertices) topology given (now indices)) (now field) (now names) (now distances) (now cells) (now triangles) (at .waiting) ⌝ }
-    requires { ⌜ (at .number ≡ 0) × (c < total grid) × (k < length (trianglesIn (meshOf (now vertices) topology given (now indices)))) × (isNan (rootOf q) ≡ isNan q) ⌝ }
-    ensures { λ r. ⌜ Told grid (meshOf (now (vertices .entry)) topology given (now (indices .entry))) (λ g. offerAt (queue g) k c (rootOf q)) (now (field .entry)) (now (names .entry)) (now (distances .entry)) (now (cells .entry)) (now (triangles .entry)) at (now (field .exit)) (now (names .exit)) (now (distances .exit)) (now (cells .exit)) (now (triangles .exit)) r ⌝ }
+    requires { let m = meshOf (now vertices) topology given (now indices) in
+        ⌜ Holds grid m (now field) (now names) (now distances) (now cells) (now triangles) (at .waiting) ⌝ }
+    requires { let m = meshOf (now vertices) topology given (now indices) in
+        ⌜ (at .number ≡ 0) × (c < total grid) × (k < length (trianglesIn m)) × (isNan (rootOf q) ≡ isNan q) ⌝ }
+    ensures { λ r.
+        let m = meshOf (now (vertices .entry)) topology given (now (indices .entry)) in
+        ⌜ Told grid m (λ g. offerAt (queue g) k c (rootOf q)) (now (field .entry)) (now (names .entry))
+        (now (distances .entry)) (now (cells .entry)) (now (triangles .entry)) at (now (field .exit))
+        (now (names .exit)) (now (distances .exit)) (now (cells .exit)) (now (triangles .exit)) r ⌝ }
 {
     if q != q {
         return at.refused(6);
@@ -90,9 +96,15 @@ fn offer_to(
     q: f32,
 ) -> Progress
     requires { ⌜ Ready grid (meshOf (now vertices) topology given (now indices)) ⌝ }
-    requires { ⌜ Holds grid (meshOf (now vertices) topology given (now indices)) (now field) (now names) (now distances) (now cells) (now triangles) (at .waiting) ⌝ }
-    requires { ⌜ (at .number ≡ 0) × (e .triangle < length (trianglesIn (meshOf (now vertices) topology given (now indices)))) × StepNear grid (meshOf (now vertices) topology given (now indices)) (e .triangle) to q ⌝ }
-    ensures { λ r. ⌜ Told grid (meshOf (now (vertices .entry)) topology given (now (indices .entry))) (λ g. spreadTo g e (placeOf to)) (now (field .entry)) (now (names .entry)) (now (distances .entry)) (now (cells .entry)) (now (triangles .entry)) at (now (field .exit)) (now (names .exit)) (now (distances .exit)) (now (cells .exit)) (now (triangles .exit)) r ⌝ }
+    requires { let m = meshOf (now vertices) topology given (now indices) in
+        ⌜ Holds grid m (now field) (now names) (now distances) (now cells) (now triangles) (at .waiting) ⌝ }
+    requires { let m = meshOf (now vertices) topology given (now indices) in
+        ⌜ (at .number ≡ 0) × (e .triangle < length (trianglesIn m)) × StepNear grid m (e .triangle) to q ⌝ }
+    ensures { λ r.
+        let m = meshOf (now (vertices .entry)) topology given (now (indices .entry)) in
+        ⌜ Told grid m (λ g. spreadTo g e (placeOf to)) (now (field .entry)) (now (names .entry))
+        (now (distances .entry)) (now (cells .entry)) (now (triangles .entry)) at (now (field .exit))
+        (now (names .exit)) (now (distances .exit)) (now (cells .exit)) (now (triangles .exit)) r ⌝ }
 {
     if to == run_around::NOWHERE {
         return at;
@@ -133,9 +145,15 @@ pub fn offer_around(
     squares: &[f32],
 ) -> Progress
     requires { ⌜ Ready grid (meshOf (now vertices) topology given (now indices)) ⌝ }
-    requires { ⌜ Holds grid (meshOf (now vertices) topology given (now indices)) (now field) (now names) (now distances) (now cells) (now triangles) (at .waiting) ⌝ }
-    requires { ⌜ (at .number ≡ 0) × (e .triangle < length (trianglesIn (meshOf (now vertices) topology given (now indices)))) × Around grid (meshOf (now vertices) topology given (now indices)) e (now to) (now squares) ⌝ }
-    ensures { λ r. ⌜ Told grid (meshOf (now (vertices .entry)) topology given (now (indices .entry))) (λ g. spreadAround g e) (now (field .entry)) (now (names .entry)) (now (distances .entry)) (now (cells .entry)) (now (triangles .entry)) at (now (field .exit)) (now (names .exit)) (now (distances .exit)) (now (cells .exit)) (now (triangles .exit)) r ⌝ }
+    requires { let m = meshOf (now vertices) topology given (now indices) in
+        ⌜ Holds grid m (now field) (now names) (now distances) (now cells) (now triangles) (at .waiting) ⌝ }
+    requires { let m = meshOf (now vertices) topology given (now indices) in
+        ⌜ (at .number ≡ 0) × (e .triangle < length (trianglesIn m)) × Around grid m e (now to) (now squares) ⌝ }
+    ensures { λ r.
+        let m = meshOf (now (vertices .entry)) topology given (now (indices .entry)) in
+        ⌜ Told grid m (λ g. spreadAround g e) (now (field .entry)) (now (names .entry)) (now (distances .entry))
+        (now (cells .entry)) (now (triangles .entry)) at (now (field .exit)) (now (names .exit))
+        (now (distances .exit)) (now (cells .exit)) (now (triangles .exit)) r ⌝ }
 {
     let mut reached = at;
     let mut j = 0;

@@ -34,7 +34,10 @@ pub fn enqueue(
 ) -> Progress
     requires { ⌜ vertices < 2 ^ 32 ⌝ }
     requires { ⌜ Held (orderOf topology given (now indices) vertices) (now distances) (now cells) (now triangles) (at .waiting) ⌝ }
-    ensures { λ r. ⌜ Queued (orderOf topology given (now (indices .entry)) vertices) e (now (distances .entry)) (now (cells .entry)) (now (triangles .entry)) at (now (distances .exit)) (now (cells .exit)) (now (triangles .exit)) r ⌝ }
+    ensures { λ r.
+        let le = orderOf topology given (now (indices .entry)) vertices in
+        ⌜ Queued le e (now (distances .entry)) (now (cells .entry)) (now (triangles .entry)) at
+        (now (distances .exit)) (now (cells .exit)) (now (triangles .exit)) r ⌝ }
 {
     let n = at.waiting;
     if distances.len() <= n {
@@ -76,10 +79,15 @@ fn queue_cell(
     c: usize,
 ) -> Progress
     requires { ⌜ Ready grid (meshOf (now vertices) topology given (now indices)) ⌝ }
-    requires { ⌜ Holds grid (meshOf (now vertices) topology given (now indices)) (now field) (now names) (now distances) (now cells) (now triangles) (at .waiting) ⌝ }
+    requires { let m = meshOf (now vertices) topology given (now indices) in
+        ⌜ Holds grid m (now field) (now names) (now distances) (now cells) (now triangles) (at .waiting) ⌝ }
     requires { ⌜ Named grid (meshOf (now vertices) topology given (now indices)) (now field) (now names) ⌝ }
     requires { ⌜ (at .number ≡ 0) × (c < length (now field)) ⌝ }
-    ensures { λ r. ⌜ Told grid (meshOf (now (vertices .entry)) topology given (now (indices .entry))) (λ g. queueCell g c) (now (field .entry)) (now (names .entry)) (now (distances .entry)) (now (cells .entry)) (now (triangles .entry)) at (now (field .entry)) (now (names .entry)) (now (distances .exit)) (now (cells .exit)) (now (triangles .exit)) r ⌝ }
+    ensures { λ r.
+        let m = meshOf (now (vertices .entry)) topology given (now (indices .entry)) in
+        ⌜ Told grid m (λ g. queueCell g c) (now (field .entry)) (now (names .entry)) (now (distances .entry))
+        (now (cells .entry)) (now (triangles .entry)) at (now (field .entry)) (now (names .entry))
+        (now (distances .exit)) (now (cells .exit)) (now (triangles .exit)) r ⌝ }
 {
     let d = field[c];
     if d < 3.4028235e38 {
@@ -121,10 +129,15 @@ pub fn queue_cells(
     at: Progress,
 ) -> Progress
     requires { ⌜ Ready grid (meshOf (now vertices) topology given (now indices)) ⌝ }
-    requires { ⌜ Holds grid (meshOf (now vertices) topology given (now indices)) (now field) (now names) (now distances) (now cells) (now triangles) (at .waiting) ⌝ }
+    requires { let m = meshOf (now vertices) topology given (now indices) in
+        ⌜ Holds grid m (now field) (now names) (now distances) (now cells) (now triangles) (at .waiting) ⌝ }
     requires { ⌜ Named grid (meshOf (now vertices) topology given (now indices)) (now field) (now names) ⌝ }
     requires { ⌜ at .number ≡ 0 ⌝ }
-    ensures { λ r. ⌜ Told grid (meshOf (now (vertices .entry)) topology given (now (indices .entry))) queueing (now (field .entry)) (now (names .entry)) (now (distances .entry)) (now (cells .entry)) (now (triangles .entry)) at (now (field .entry)) (now (names .entry)) (now (distances .exit)) (now (cells .exit)) (now (triangles .exit)) r ⌝ }
+    ensures { λ r.
+        let m = meshOf (now (vertices .entry)) topology given (now (indices .entry)) in
+        ⌜ Told grid m queueing (now (field .entry)) (now (names .entry)) (now (distances .entry)) (now (cells .entry))
+        (now (triangles .entry)) at (now (field .entry)) (now (names .entry)) (now (distances .exit))
+        (now (cells .exit)) (now (triangles .exit)) r ⌝ }
 {
     let mut reached = at;
     let mut c = 0;

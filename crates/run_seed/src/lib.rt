@@ -40,7 +40,10 @@ fn seed_line(
 ) -> u32
     requires { ⌜ (inBounds grid ≡ true) × Inside grid (cellNumbered x y hi) ⌝ }
     requires { ⌜ (length (now field) ≡ total grid) × (length (now names) ≡ total grid) ⌝ }
-    ensures { λ r. ⌜ alongLine grid f k x y lo hi (seedState (now (field .entry)) (now (names .entry))) ≡ told r (seedState (now (field .exit)) (now (names .exit))) ⌝ }
+    ensures { λ r.
+        let s = seedState (now (field .entry)) (now (names .entry)) in
+        let t = seedState (now (field .exit)) (now (names .exit)) in
+        ⌜ alongLine grid f k x y lo hi s ≡ told r t ⌝ }
 {
     let mut z = lo;
     while z <= hi {
@@ -75,7 +78,10 @@ fn seed_plane(
 ) -> u32
     requires { ⌜ (inBounds grid ≡ true) × Inside grid high × (x < countOn X grid) ⌝ }
     requires { ⌜ (length (now field) ≡ total grid) × (length (now names) ≡ total grid) ⌝ }
-    ensures { λ r. ⌜ alongPlane grid f k x low high (seedState (now (field .entry)) (now (names .entry))) ≡ told r (seedState (now (field .exit)) (now (names .exit))) ⌝ }
+    ensures { λ r.
+        let s = seedState (now (field .entry)) (now (names .entry)) in
+        let t = seedState (now (field .exit)) (now (names .exit)) in
+        ⌜ alongPlane grid f k x low high s ≡ told r t ⌝ }
 {
     let lo = low.z;
     let hi = high.z;
@@ -103,7 +109,10 @@ fn seed_box(
 ) -> u32
     requires { ⌜ (inBounds grid ≡ true) × Inside grid high ⌝ }
     requires { ⌜ (length (now field) ≡ total grid) × (length (now names) ≡ total grid) ⌝ }
-    ensures { λ r. ⌜ alongBox grid f k low high (seedState (now (field .entry)) (now (names .entry))) ≡ told r (seedState (now (field .exit)) (now (names .exit))) ⌝ }
+    ensures { λ r.
+        let s = seedState (now (field .entry)) (now (names .entry)) in
+        let t = seedState (now (field .exit)) (now (names .exit)) in
+        ⌜ alongBox grid f k low high s ≡ told r t ⌝ }
 {
     let last = high.x;
     let mut x = low.x;
@@ -121,7 +130,10 @@ fn seed_box(
 fn seed_triangle(field: &mut [f32], names: &mut [u32], grid: Grid, corners: Corners, k: u32) -> u32
     requires { ⌜ inBounds grid ≡ true ⌝ }
     requires { ⌜ (length (now field) ≡ total grid) × (length (now names) ≡ total grid) ⌝ }
-    ensures { λ r. ⌜ overBox grid corners k (seedState (now (field .entry)) (now (names .entry))) ≡ told r (seedState (now (field .exit)) (now (names .exit))) ⌝ }
+    ensures { λ r.
+        let s = seedState (now (field .entry)) (now (names .entry)) in
+        let t = seedState (now (field .exit)) (now (names .exit)) in
+        ⌜ overBox grid corners k s ≡ told r t ⌝ }
 {
     let b = geo_box::triangle_bounding_box(corners.a, corners.b, corners.c);
     let low = run_seed_box::first_of(grid, b.low);
@@ -144,7 +156,11 @@ pub fn seed(
     requires { ⌜ (length (now field) ≡ total grid) × (length (now names) ≡ total grid) ⌝ }
     requires { ⌜ Sound (meshOf (now vertices) topology given (now indices)) ⌝ }
     requires { ⌜ length (trianglesIn (meshOf (now vertices) topology given (now indices))) < 2 ^ 32 ⌝ }
-    ensures { λ r. ⌜ turns (overTriangle grid (meshOf (now (vertices .entry)) topology given (now (indices .entry)))) (length (trianglesIn (meshOf (now (vertices .entry)) topology given (now (indices .entry))))) (seedState (now (field .entry)) (now (names .entry))) ≡ told r (seedState (now (field .exit)) (now (names .exit))) ⌝ }
+    ensures { λ r.
+        let m = meshOf (now (vertices .entry)) topology given (now (indices .entry)) in
+        let s = seedState (now (field .entry)) (now (names .entry)) in
+        let t = seedState (now (field .exit)) (now (names .exit)) in
+        ⌜ turns (overTriangle grid m) (length (trianglesIn m)) s ≡ told r t ⌝ }
 {
     let n = mesh::triangle_count(vertices, topology, given, indices);
     let mut k = 0;

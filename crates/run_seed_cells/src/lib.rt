@@ -21,7 +21,10 @@ ghost use Rattle.run_seed_cells.specs.Parts.{seedState, alongLine, Squar
 fn offer(field: &mut [f32], names: &mut [u32], c: usize, k: u32, q: f32) -> u32
     requires { ⌜ (c < length (now field)) × (c < length (now names)) ⌝ }
     requires { ⌜ isNan (rootOf q) ≡ isNan q ⌝ }
-    ensures { λ r. ⌜ offerAt nothingElse k c (rootOf q) (seedState (now (field .entry)) (now (names .entry))) ≡ told r (seedState (now (field .exit)) (now (names .exit))) ⌝ }
+    ensures { λ r.
+        let s = seedState (now (field .entry)) (now (names .entry)) in
+        let t = seedState (now (field .exit)) (now (names .exit)) in
+        ⌜ offerAt nothingElse k c (rootOf q) s ≡ told r t ⌝ }
 {
     if q != q {
         return 6;
@@ -74,7 +77,10 @@ pub fn offer_four(
 ) -> u32
     requires { ⌜ (inBounds grid ≡ true) × Inside grid (cellNumbered (at .x) (at .y) last) × (at .z ≤ last) × (last < at .z + 4) ⌝ }
     requires { ⌜ (length (now field) ≡ total grid) × (length (now names) ≡ total grid) ⌝ }
-    ensures { λ r. ⌜ alongLine grid f k (at .x) (at .y) (at .z) last (seedState (now (field .entry)) (now (names .entry))) ≡ told r (seedState (now (field .exit)) (now (names .exit))) ⌝ }
+    ensures { λ r.
+        let s = seedState (now (field .entry)) (now (names .entry)) in
+        let t = seedState (now (field .exit)) (now (names .exit)) in
+        ⌜ alongLine grid f k (at .x) (at .y) (at .z) last s ≡ told r t ⌝ }
 {
     let squares = squares_from(grid, f, at);
     let c = grid::parts::get_cell_idx(grid, at) as usize;

@@ -32,9 +32,14 @@ fn pop(
     at: Progress,
 ) -> Progress
     requires { ⌜ Ready grid (meshOf (now vertices) topology given (now indices)) ⌝ }
-    requires { ⌜ Holds grid (meshOf (now vertices) topology given (now indices)) (now field) (now names) (now distances) (now cells) (now triangles) (at .waiting) ⌝ }
+    requires { let m = meshOf (now vertices) topology given (now indices) in
+        ⌜ Holds grid m (now field) (now names) (now distances) (now cells) (now triangles) (at .waiting) ⌝ }
     requires { ⌜ (now steps ≡ codes Steps.steps) × (0 < at .waiting) × (at .pops < 4294967295) ⌝ }
-    ensures { λ r. ⌜ Told grid (meshOf (now (vertices .entry)) topology given (now (indices .entry))) (λ g s. takeFirst g goes (s .waiting) s) (now (field .entry)) (now (names .entry)) (now (distances .entry)) (now (cells .entry)) (now (triangles .entry)) at (now (field .exit)) (now (names .exit)) (now (distances .exit)) (now (cells .exit)) (now (triangles .exit)) r ⌝ }
+    ensures { λ r.
+        let m = meshOf (now (vertices .entry)) topology given (now (indices .entry)) in
+        ⌜ Told grid m (λ g s. takeFirst g goes (s .waiting) s) (now (field .entry)) (now (names .entry))
+        (now (distances .entry)) (now (cells .entry)) (now (triangles .entry)) at (now (field .exit))
+        (now (names .exit)) (now (distances .exit)) (now (cells .exit)) (now (triangles .exit)) r ⌝ }
 {
     let n = at.waiting;
     let e = queue_take::take(
@@ -102,7 +107,8 @@ pub fn spread(
     terms: Terms,
 ) -> Progress
     requires { ⌜ Ready grid (meshOf (now vertices) topology given (now indices)) ⌝ }
-    requires { ⌜ Holds grid (meshOf (now vertices) topology given (now indices)) (now field) (now names) (now distances) (now cells) (now triangles) (at .waiting) ⌝ }
+    requires { let m = meshOf (now vertices) topology given (now indices) in
+        ⌜ Holds grid m (now field) (now names) (now distances) (now cells) (now triangles) (at .waiting) ⌝ }
     requires { ⌜ (at .number ≡ 0) × (at .pops ≡ 0) ⌝ }
     ensures { λ r.
         let m = meshOf (now (vertices .entry)) topology given (now (indices .entry)) in
