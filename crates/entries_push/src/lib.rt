@@ -19,7 +19,8 @@ pub fn push(
     indices: &[u32],
     vertices: usize,
 )
-    requires { ⌜ (vertices < 2 ^ 32) × HeldRow (orderOf topology given (now indices) vertices) (now row) n × (n < length (now row)) ⌝ }
+    requires { let le = orderOf topology given (now indices) vertices in
+        ⌜ (vertices < 2 ^ 32) × HeldRow le (now row) n × (n < length (now row)) ⌝ }
     ensures { λ _. ⌜ PushedRow (orderOf topology given (now (indices .entry)) vertices) e (now (row .entry)) (now (row .exit)) n ⌝ }
 {
     let mut i = n;

@@ -66,7 +66,9 @@ fn squares_point(a: Point, xs: &[f32], ys: &[f32], zs: &[f32], out: &mut [f32])
 // to the point of a segment that is closest to it,
 fn squares_segment(a: Point, b: Point, xs: &[f32], ys: &[f32], zs: &[f32], out: &mut [f32])
     requires { ⌜ Alongside (now xs) (now ys) (now zs) (now out) ⌝ }
-    ensures { λ r. ⌜ SquaresTo (λ p. closestPointSegment p a b) (now (xs .entry)) (now (ys .entry)) (now (zs .entry)) (now (out .exit)) ⌝ }
+    ensures { λ r.
+        ⌜ SquaresTo (λ p. closestPointSegment p a b) (now (xs .entry)) (now (ys .entry)) (now (zs .entry))
+        (now (out .exit)) ⌝ }
 {
     let mut i = 0;
     while i < xs.len() {
@@ -79,7 +81,9 @@ fn squares_segment(a: Point, b: Point, xs: &[f32], ys: &[f32], zs: &[f32], out: 
 // and to the point that the regions of a triangle give, which is the closest where its corners are three.
 fn squares_proper(f: Facet, xs: &[f32], ys: &[f32], zs: &[f32], out: &mut [f32])
     requires { ⌜ Alongside (now xs) (now ys) (now zs) (now out) ⌝ }
-    ensures { λ r. ⌜ SquaresTo (λ p. nearest (dotsOf f p) f) (now (xs .entry)) (now (ys .entry)) (now (zs .entry)) (now (out .exit)) ⌝ }
+    ensures { λ r.
+        ⌜ SquaresTo (λ p. nearest (dotsOf f p) f) (now (xs .entry)) (now (ys .entry)) (now (zs .entry))
+        (now (out .exit)) ⌝ }
 {
     let mut i = 0;
     while i < xs.len() {

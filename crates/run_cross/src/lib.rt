@@ -31,7 +31,8 @@ fn cross_rows(
     crossings: &mut [u32],
 )
     requires { ⌜ inBounds grid ≡ true ⌝ }
-    requires { ⌜ (1024 ≤ length (now z0)) × (1024 ≤ length (now z1)) × (1024 ≤ length (now z2)) × (1024 ≤ length (now flags)) ⌝ }
+    requires { ⌜ (1024 ≤ length (now z0)) × (1024 ≤ length (now z1)) × (1024 ≤ length (now z2)) ×
+        (1024 ≤ length (now flags)) ⌝ }
     requires { ⌜ length (now crossings) ≡ 3 * total grid ⌝ }
     requires { ⌜ Room 3 (now crossings) ⌝ }
     ensures { λ _.
@@ -62,7 +63,8 @@ fn cross_along(
     crossings: &mut [u32],
 )
     requires { ⌜ inBounds grid ≡ true ⌝ }
-    requires { ⌜ (1024 ≤ length (now z0)) × (1024 ≤ length (now z1)) × (1024 ≤ length (now z2)) × (1024 ≤ length (now flags)) ⌝ }
+    requires { ⌜ (1024 ≤ length (now z0)) × (1024 ≤ length (now z1)) × (1024 ≤ length (now z2)) ×
+        (1024 ≤ length (now flags)) ⌝ }
     requires { ⌜ length (now crossings) ≡ 3 * total grid ⌝ }
     requires { ⌜ Room 3 (now crossings) ⌝ }
     ensures { λ _. ⌜ Grown grid (axisCrossed grid axis (hitOn grid t axis)) (now (crossings .entry)) (now (crossings .exit)) ⌝ }
@@ -83,7 +85,8 @@ fn cross_triangle(
     crossings: &mut [u32],
 )
     requires { ⌜ inBounds grid ≡ true ⌝ }
-    requires { ⌜ (1024 ≤ length (now z0)) × (1024 ≤ length (now z1)) × (1024 ≤ length (now z2)) × (1024 ≤ length (now flags)) ⌝ }
+    requires { ⌜ (1024 ≤ length (now z0)) × (1024 ≤ length (now z1)) × (1024 ≤ length (now z2)) ×
+        (1024 ≤ length (now flags)) ⌝ }
     requires { ⌜ length (now crossings) ≡ 3 * total grid ⌝ }
     requires { ⌜ Room 5 (now crossings) ⌝ }
     ensures { λ _. ⌜ Grown grid (crossedBy grid t) (now (crossings .entry)) (now (crossings .exit)) ⌝ }
@@ -109,9 +112,12 @@ fn cross_all(
     requires { ⌜ inBounds grid ≡ true ⌝ }
     requires { ⌜ Sound (meshOf (now vertices) topology given (now indices)) ⌝ }
     requires { ⌜ length (trianglesIn (meshOf (now vertices) topology given (now indices))) ≤ 131072 ⌝ }
-    requires { ⌜ (1024 ≤ length (now z0)) × (1024 ≤ length (now z1)) × (1024 ≤ length (now z2)) × (1024 ≤ length (now flags)) ⌝ }
+    requires { ⌜ (1024 ≤ length (now z0)) × (1024 ≤ length (now z1)) × (1024 ≤ length (now z2)) ×
+        (1024 ≤ length (now flags)) ⌝ }
     requires { ⌜ now crossings ≡ replicate (3 * total grid) 0 ⌝ }
-    ensures { λ _. ⌜ now (crossings .exit) ≡ allCrossings grid (meshOf (now (vertices .entry)) topology given (now (indices .entry))) ⌝ }
+    ensures { λ _.
+        let m = meshOf (now (vertices .entry)) topology given (now (indices .entry)) in
+        ⌜ now (crossings .exit) ≡ allCrossings grid m ⌝ }
 {
     let n = mesh::triangle_count(vertices, topology, given, indices);
     let mut k = 0;
@@ -136,7 +142,9 @@ pub fn cross(
     requires { ⌜ Sound (meshOf (now vertices) topology given (now indices)) ⌝ }
     requires { ⌜ length (trianglesIn (meshOf (now vertices) topology given (now indices))) ≤ 131072 ⌝ }
     requires { ⌜ length (now crossings) ≡ 3 * total grid ⌝ }
-    ensures { λ _. ⌜ now (crossings .exit) ≡ allCrossings grid (meshOf (now (vertices .entry)) topology given (now (indices .entry))) ⌝ }
+    ensures { λ _.
+        let m = meshOf (now (vertices .entry)) topology given (now (indices .entry)) in
+        ⌜ now (crossings .exit) ≡ allCrossings grid m ⌝ }
 {
     slices::fill_numbers(crossings, 0);
     let mut z0 = [0.0f32; 1024];

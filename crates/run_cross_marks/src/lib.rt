@@ -70,7 +70,8 @@ pub fn mark_row(
     count: usize,
     flags: &mut [bool],
 ) -> bool
-    requires { ⌜ (count ≤ length (now z0)) × (count ≤ length (now z1)) × (count ≤ length (now z2)) × (count ≤ length (now flags)) ⌝ }
+    requires { ⌜ (count ≤ length (now z0)) × (count ≤ length (now z1)) × (count ≤ length (now z2)) ×
+        (count ≤ length (now flags)) ⌝ }
     ensures { λ r. ⌜ Marked (now (z0 .entry)) (now (z1 .entry)) (now (z2 .entry)) ys count (now (flags .exit)) ⌝ }
     ensures { λ r.
         ⌜ (r ≡ false → (v : ℕ) → v < count → mayHit (partsAt (now (z0 .entry)) (now (z1 .entry)) (now (z2 .entry)) v) ys ≡ false) ⌝ }

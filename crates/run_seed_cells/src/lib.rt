@@ -75,7 +75,8 @@ pub fn offer_four(
     at: Cell,
     last: u32,
 ) -> u32
-    requires { ⌜ (inBounds grid ≡ true) × Inside grid (cellNumbered (at .x) (at .y) last) × (at .z ≤ last) × (last < at .z + 4) ⌝ }
+    requires { ⌜ (inBounds grid ≡ true) × Inside grid (cellNumbered (at .x) (at .y) last) × (at .z ≤ last) ×
+        (last < at .z + 4) ⌝ }
     requires { ⌜ (length (now field) ≡ total grid) × (length (now names) ≡ total grid) ⌝ }
     ensures { λ r.
         let s = seedState (now (field .entry)) (now (names .entry)) in

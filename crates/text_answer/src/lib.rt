@@ -31,7 +31,8 @@ fn index_words() -> [u32; INDEX_ROOM]
 // is the same.
 pub fn run_text_by(text: &[u8], out: &mut [u8], records: bool) -> usize
     ensures { λ r. ⌜ Front r (now (out .exit)) ⌝ }
-    ensures { λ r. ⌜ (byteRoom ≤ length (now (out .entry)) → Answered (now (text .entry)) (now (out .entry)) (now (out .exit)) r) ⌝ }
+    ensures { λ r.
+        ⌜ (byteRoom ≤ length (now (out .entry)) → Answered (now (text .entry)) (now (out .entry)) (now (out .exit)) r) ⌝ }
     ensures { λ r. ⌜ (length (now (out .entry)) < byteRoom → (r ≡ 0) × (now (out .exit) ≡ now (out .entry))) ⌝ }
 {
     if out.len() < BYTE_ROOM {
@@ -53,7 +54,8 @@ pub fn run_text_by(text: &[u8], out: &mut [u8], records: bool) -> usize
 // The same over three buffers.
 pub fn run_text(text: &[u8], out: &mut [u8]) -> usize
     ensures { λ r. ⌜ Front r (now (out .exit)) ⌝ }
-    ensures { λ r. ⌜ (byteRoom ≤ length (now (out .entry)) → Answered (now (text .entry)) (now (out .entry)) (now (out .exit)) r) ⌝ }
+    ensures { λ r.
+        ⌜ (byteRoom ≤ length (now (out .entry)) → Answered (now (text .entry)) (now (out .entry)) (now (out .exit)) r) ⌝ }
     ensures { λ r. ⌜ (length (now (out .entry)) < byteRoom → (r ≡ 0) × (now (out .exit) ≡ now (out .entry))) ⌝ }
 {
     run_text_by(text, out, false)

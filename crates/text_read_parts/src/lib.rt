@@ -89,7 +89,9 @@ fn vertex_line(text: &[u8], at: usize) -> Triple
 // The lines of n vertices, whose bits are stored three by three.
 fn vertex_lines(text: &[u8], at: usize, n: usize, out: &mut [u32]) -> Next
     requires { ⌜ 3 * n ≤ length (now out) ⌝ }
-    ensures { λ r. ⌜ gotNext (threesIn n (now (out .exit))) (now (text .entry)) r ≡ linesAt n vertexLineAt (drop at (now (text .entry))) ⌝ }
+    ensures { λ r.
+        ⌜ gotNext (threesIn n (now (out .exit))) (now (text .entry)) r ≡ linesAt n vertexLineAt
+        (drop at (now (text .entry))) ⌝ }
 {
     let mut k = at;
     let mut i = 0;

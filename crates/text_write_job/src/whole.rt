@@ -30,7 +30,9 @@ fn most_given(topology: Topology, given: Indices) -> usize
 // The text of a job that fits.
 fn put_job(out: &mut [u8], asked: Asked, vertices: &[u32], indices: &[u32]) -> usize
     requires { ⌜ RoomToWrite asked (now vertices) (now indices) (now out) ⌝ }
-    ensures { λ r. ⌜ Put (now (out .entry)) 0 (jobText (jobIn asked (now (vertices .entry)) (now (indices .entry)))) (now (out .exit)) r ⌝ }
+    ensures { λ r.
+        ⌜ Put (now (out .entry)) 0 (jobText (jobIn asked (now (vertices .entry)) (now (indices .entry))))
+        (now (out .exit)) r ⌝ }
 {
     let head = asked.head;
     let given = asked.given;
