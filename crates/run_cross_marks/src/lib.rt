@@ -74,7 +74,8 @@ pub fn mark_row(
         (count ≤ length (now flags)) ⌝ }
     ensures { λ r. ⌜ Marked (now (z0 .entry)) (now (z1 .entry)) (now (z2 .entry)) ys count (now (flags .exit)) ⌝ }
     ensures { λ r.
-        ⌜ (r ≡ false → (v : ℕ) → v < count → mayHit (partsAt (now (z0 .entry)) (now (z1 .entry)) (now (z2 .entry)) v) ys ≡ false) ⌝ }
+        let parts = partsAt (now (z0 .entry)) (now (z1 .entry)) (now (z2 .entry)) in
+        ⌜ (r ≡ false → (v : ℕ) → v < count → mayHit (parts v) ys ≡ false) ⌝ }
 {
     let mut any = false;
     let mut v = 0;
