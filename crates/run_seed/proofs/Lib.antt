@@ -1,3 +1,4 @@
 mod Pieces
+mod Along
 -- Laws that the crates above cite.
 pub mod Whole

@@ -12,6 +12,14 @@ module _ {S : Type 0} (f : ℕ → S → Turn S) where
   turns-after a zero s t h = let e : a + 0 ≡ a = omega arith in rw e h
   turns-after a (suc b) s t h = let e : a + suc b ≡ suc (a + b) = omega arith in rw e (ap (λ (o : Turn S). andThen o (f (a + b))) (turns-after a b s t h))
 
+  -- a piece of one turn
+  pub one-turn : (k : ℕ) (s : S) → between f k (k + 1) s ≡ f k s
+  unfolding between turns andThen
+  one-turn k s =
+      let one : k + 1 - k ≡ 1 = omega arith in
+      let here : k + 0 ≡ k = omega arith in
+      rw one (ap (λ (j : ℕ). f j s) here)
+
 module _ {S : Type 0} (f : ℕ → S → Turn S) (lo k m : ℕ) (low : lo ≤ k) (high : k ≤ m) where
   after : (s t : S) → between f lo k s ≡ goes t → between f lo m s ≡ between f k m t
   unfolding between

@@ -22,24 +22,25 @@ Inv-loop field₀ names₀ grid vertices topology given indices n k₀ field nam
 abbrev μ-loop : tie.MeasureT-loop
 μ-loop field₀ names₀ grid vertices topology given indices n k₀ field names k = n - k
 
+abbrev entry : tie.At-loop Inv-loop μ-loop → tie.Start Inv-loop μ-loop
+entry l = l .before .before .before .before .before .before
+
 loop-holds : tie.Need-loop-holds Inv-loop μ-loop
 loop-holds c = (omega arith, c .triangle-count .ensures, refl, refl, turns-none _ _)
 
 corners-at-requires : tie.Need-corners-at-requires Inv-loop μ-loop
 corners-at-requires c κs =
-    let s = c .before .before .before .before .before .before .before in
-    (s .pre .1 .1 .0, omega (arith, c .before .loop .inv .1, c .loop-test .taken))
+    (entry (c .before) .pre .1 .1 .0, omega (arith, c .before .loop .inv .1, c .loop-test .taken))
 
 cast-seed-triangle : tie.Need-cast-seed-triangle Inv-loop μ-loop
 cast-seed-triangle c =
     let n = c .before .before .before in
-    let s = n .before .before .before .before .before .before .before in
-    omega (arith, n .before .loop .inv .1, n .loop-test .taken, s .pre .1 .1 .1)
+    omega (arith, n .before .loop .inv .1, n .loop-test .taken, entry (n .before) .pre .1 .1 .1)
 
 seed-triangle-requires : tie.Need-seed-triangle-requires Inv-loop μ-loop
 seed-triangle-requires c κs =
     let l = c .before .before .before .before in
-    let s = l .before .before .before .before .before .before in
+    let s = entry l in
     (s .pre .0, (l .loop .inv .2 ∙ s .pre .1 .0 .0, l .loop .inv .3 ∙ s .pre .1 .0 .1))
 
 same-length : tie.Need-same-length Inv-loop μ-loop
@@ -52,7 +53,7 @@ same-length-2 c = omega arith
 turned : (c : tie.After-seed-triangle Inv-loop μ-loop) →
     let a = c .before .before .before in
     let l = a .before .before in
-    let s = l .before .before .before .before .before .before in
+    let s = entry l in
     overTriangle (s .args .grid) (meshOf (s .args .vertices .now) (s .args .topology) (s .args .given) (s .args .indices .now)) (l .loop .k) (seedState (l .loop .field) (l .loop .names))
     ≡ told (c .seed-triangle .result) (seedState (c .seed-triangle .last .0) (c .seed-triangle .last .1 .0))
 unfolding overTriangle
