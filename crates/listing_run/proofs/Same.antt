@@ -1,7 +1,7 @@
 -- What is listed of a job depends on the lengths of the lent buffers alone; and of a job that is done the peak keeps to the queue's
 -- room. Assumes nothing.
 use Prim.Native.Nat.{ℕ, zero, suc, _*_, _≤_, _<_}
-use native.Mathlib.Nat.{zero-mul, suc-mul, mul-le-mul}
+use native.Mathlib.Nat.{zero-mul, suc-mul}
 use native.Mathlib.Decide.{decLt}
 use native.Mathlib.Omega.{arith}
 use mathlib.Core.Path.{_≡_, refl, sym, ap, ap₂, _∙_}
@@ -192,7 +192,3 @@ long-as bits e = ap length e ∙ length-map bits (ofBits binary32)
 
 pub front-of : {floats : List Float} (bits : List ℕ) (rest : List Float) → floats ≡ floatsOf bits → take (length bits) (floats ++ rest) ≡ floatsOf bits
 front-of {floats} bits rest e = take-at floats rest (length bits) (long-as bits e) ∙ e
-
--- the product of two counts
-pub wide-product : {x y : ℕ} → x < 4294967296 → y < 4294967296 → x * y < 18446744073709551616
-wide-product {x} {y} h k = omega (arith, mul-le-mul {n₁ = x} {m₁ = y} {n₂ = 4294967295} {m₂ = 4294967295} (omega arith) (omega arith))

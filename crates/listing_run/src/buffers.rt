@@ -1,89 +1,29 @@
 // A job that was read: run over buffers of its size, and listed.
-use crate::floats::fill;
-use crate::floats::float_of;
 use entries_own::run_records;
-use grid::Grid;
 use job_generate::generate_grid_sdf;
 use job_outcome::Answer;
 use listing::Written;
+use listing::cells_of;
+use listing::fill;
+use listing::grid_of;
+use listing::rows_of;
+use listing::terms_of;
 use listing_whole::write_listing;
-use point::Point;
-use terms::Terms;
 use text::COORDINATE_ROOM;
 use text::CROSSING_ROOM;
 use text::ENTRY_ROOM;
-use text::Head;
 use text::MOST_CELLS;
-use text::Three;
 use text_read_job::Asked;
 ghost use Prim.Native.Nat.{_≤_};
 ghost use lib.ListN.{length};
 ghost use mathlib.Core.Path.{_≡_};
-ghost use Rattle.grid.specs.Layers.{layers};
 ghost use Rattle.job_checks.specs.Job.{lentOf};
 ghost use Rattle.text.specs.Limits.{mostCells, mostEntries, coordinateRoom, crossingRoom};
-ghost use Rattle.text.specs.TextJob.{cellsOf};
 ghost use Rattle.text_write.specs.Put.{Put};
-ghost use Rattle.listing.specs.Listing.{pointOf, floatsOf, gridOf, lentBy, lentFor, listed};
+ghost use Rattle.listing.specs.Listing.{floatsOf, lentBy, lentFor, listed};
 ghost use Rattle.listing.specs.Written.{RoomToList, Listable, shown};
 ghost use Rattle.entries_own.specs.Own.{lentOwn};
 ghost use Rattle.listing_run.specs.Parts.{listedOf, heldJob, Small, Sizes};
-
-// What a job's record says, as the port takes it.
-
-fn point_of(t: Three) -> Point
-    ensures { λ r. ⌜ r ≡ pointOf t ⌝ }
-{
-    let x = float_of(t.x);
-    let y = float_of(t.y);
-    let z = float_of(t.z);
-    Point { x, y, z }
-}
-
-fn grid_of(head: Head) -> Grid
-    ensures { λ r. ⌜ r ≡ gridOf head ⌝ }
-{
-    let count = head.count;
-    let first = head.first;
-    let size = head.size;
-    let first_cell = point_of(first);
-    let cell_size = point_of(size);
-    Grid {
-        first_cell,
-        cell_size,
-        count_x: count.x,
-        count_y: count.y,
-        count_z: count.z,
-    }
-}
-
-fn cells_of(count: Three) -> usize
-    requires { ⌜ cellsOf count ≤ mostCells ⌝ }
-    ensures { λ r. ⌜ r ≡ cellsOf count ⌝ }
-{
-    (count.x as usize) * (count.y as usize) * (count.z as usize)
-}
-
-// At most as many as the program takes cells.
-fn layers_of(n: u32) -> usize
-    ensures { λ r. ⌜ (r ≤ mostCells) × (n ≤ mostCells → r ≡ n) ⌝ }
-{
-    if (MOST_CELLS as u32) < n {
-        0
-    } else {
-        n as usize
-    }
-}
-
-// The length of the buffer for the rows. More layers than the program takes cells are those of a grid with no
-// cells, which is refused before the buffer is asked for.
-fn rows_of(head: Head) -> usize
-    ensures { λ r. ⌜ (r ≤ mostCells) × (layers (gridOf head) ≤ mostCells → r ≡ layers (gridOf head)) ⌝ }
-{
-    let grid = grid_of(head);
-    let n = grid::parts::layers(grid);
-    layers_of(n)
-}
 
 // Lists an answer and what its job left, which can be written.
 fn put_listing(answer: Answer, field: &[f32], names: &[u32], rows: &[u32], out: &mut [u8]) -> usize
@@ -125,6 +65,7 @@ fn list_outcome(
     let topology = head.topology;
     let given = asked.given;
     let tail = asked.tail;
+    let terms = terms_of(tail);
     let grid = grid_of(head);
     let answer = generate_grid_sdf(
         grid,
@@ -139,7 +80,7 @@ fn list_outcome(
         distances,
         cells,
         triangles,
-        Terms { limit: tail.limit },
+        terms,
     );
     put_listing(answer, field, names, rows, out)
 }
@@ -167,6 +108,7 @@ fn list_records(
     let topology = head.topology;
     let given = asked.given;
     let tail = asked.tail;
+    let terms = terms_of(tail);
     let grid = grid_of(head);
     let answer = run_records(
         grid,
@@ -179,7 +121,7 @@ fn list_records(
         crossings,
         rows,
         room,
-        Terms { limit: tail.limit },
+        terms,
     );
     put_listing(answer, field, names, rows, out)
 }

@@ -18,12 +18,12 @@ put-listing-requires : tie.Need-put-listing-requires
 put-listing-requires c κs =
     let g = c .before .before .before .before .before .before .before .before .before .before .before .before .before .before .before .before .before .before in
     let m = g .before .before .before .before .before .before .before .before in
-    let s = m .before .before .before .before .before .before .before .before .before .before .before .before .before in
+    let s = m .before .before .before .before .before .before .before .before .before .before .before .before .before .before in
     let a = s .args in
     let j = heldJob (a .asked) (a .vertices .now) (a .indices .now) in
     let b = lentOf (a .field .now) (a .names .now) (a .crossings .now) (a .rows .now) (a .distances .now) (a .cells .now) (a .triangles .now) in
     let k = g .generate-grid-sdf .kept in
-    can-be-listed {o = outcome j b} (of-four (rw (m .grid-of .ensures) at (g .generate-grid-sdf .ensures))) (omega (arith, peak-low j b, s .pre .1)) (s .pre .0)
+    can-be-listed {o = outcome j b} (of-four (rw (m .grid-of .ensures, m .before .terms-of .ensures) at (g .generate-grid-sdf .ensures))) (omega (arith, peak-low j b, s .pre .1)) (s .pre .0)
     (k .1 .1 .1 .1 .1 .0)
     (k .1 .1 .1 .1 .1 .1 .0)
     (k .1 .1 .1 .1 .1 .1 .1 .1 .0)
@@ -34,12 +34,13 @@ returns c =
     let p = c .before .before in
     let g = p .before .before .before .before .before .before .before .before .before .before .before .before .before .before .before .before .before .before .before in
     let m = g .before .before .before .before .before .before .before .before in
-    given-listed (of-four (rw (m .grid-of .ensures) at (g .generate-grid-sdf .ensures))) (p .put-listing .ensures)
+    given-listed (of-four (rw (m .grid-of .ensures, m .before .terms-of .ensures) at (g .generate-grid-sdf .ensures))) (p .put-listing .ensures)
 
 pub list-outcome-spec : {M : Type 1} → statement M
 list-outcome-spec =
     tie.close
     (tie.spec
+    (λ c κs. tt)
     (λ c κs. tt)
     (λ c κs. tt)
     put-listing-requires

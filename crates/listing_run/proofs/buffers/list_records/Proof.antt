@@ -20,12 +20,12 @@ put-listing-requires : tie.Need-put-listing-requires
 put-listing-requires c κs =
     let g = c .before .before .before .before .before .before .before .before .before .before .before .before in
     let m = g .before .before .before .before .before in
-    let s = m .before .before .before .before .before .before .before .before .before .before in
+    let s = m .before .before .before .before .before .before .before .before .before .before .before in
     let a = s .args in
     let j = heldJob (a .asked) (a .vertices .now) (a .indices .now) in
     let b = lentOwn (a .field .now) (a .names .now) (a .crossings .now) (a .rows .now) (a .room) in
     let k = g .run-records .kept in
-    can-be-listed {o = outcome j b} (rw (m .grid-of .ensures) at (g .run-records .ensures))
+    can-be-listed {o = outcome j b} (rw (m .grid-of .ensures, m .before .terms-of .ensures) at (g .run-records .ensures))
     (omega (arith, peak-low j b, length-replicate {A = ℕ} (a .room) 0, s .pre .1))
     (s .pre .0)
     (k .1 .1 .1 .1 .1 .0)
@@ -38,14 +38,15 @@ returns c =
     let p = c .before .before in
     let g = p .before .before .before .before .before .before .before .before .before .before .before .before .before in
     let m = g .before .before .before .before .before in
-    given-listed (rw (m .grid-of .ensures) at (g .run-records .ensures)) (p .put-listing .ensures)
+    given-listed (rw (m .grid-of .ensures, m .before .terms-of .ensures) at (g .run-records .ensures)) (p .put-listing .ensures)
 
 pub list-records-spec : {M : Type 1} → statement M
 list-records-spec =
     tie.close
     (tie.spec
     (λ c κs. tt)
-    (λ c κs. c .before .before .before .before .before .before .before .before .before .before .before .before .before .before .pre .1)
+    (λ c κs. tt)
+    (λ c κs. c .before .before .before .before .before .before .before .before .before .before .before .before .before .before .before .pre .1)
     put-listing-requires
     (λ c. ran c .run-records .kept .1 .1 .1 .1 .1 .0)
     (λ c. ran c .run-records .kept .1 .1 .1 .1 .1 .1 .0)

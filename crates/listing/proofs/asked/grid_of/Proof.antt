@@ -1,6 +1,6 @@
--- `listing_run::buffers::grid_of` meets its contract. Assumes nothing.
-use Rattle.listing_run.proofs.buffers.grid_of.Statement.{statement}
-use Rattle.listing_run.proofs.buffers.grid_of.Tie as tie
+-- `listing::asked::grid_of` meets its contract. Assumes nothing.
+use Rattle.listing.proofs.asked.grid_of.Statement.{statement}
+use Rattle.listing.proofs.asked.grid_of.Tie as tie
 
 returns : tie.Need-returns
 returns c =

@@ -1,8 +1,8 @@
--- `listing_run::buffers::point_of` meets its contract. Assumes nothing.
+-- `listing::asked::point_of` meets its contract. Assumes nothing.
 use borrow.Author.Needs.{needs}
 use Rattle.point.specs.Point.{vec}
-use Rattle.listing_run.proofs.buffers.point_of.Statement.{statement}
-use Rattle.listing_run.proofs.buffers.point_of.Tie as tie
+use Rattle.listing.proofs.asked.point_of.Statement.{statement}
+use Rattle.listing.proofs.asked.point_of.Tie as tie
 
 float-of-requires : tie.Need-float-of-requires
 float-of-requires c κs = search needs

@@ -1,8 +1,8 @@
--- `listing_run::buffers::cells_of` meets its contract: the product of two counts has 64 bits. Assumes nothing.
+-- `listing::asked::cells_of` meets its contract: the product of two counts has 64 bits. Assumes nothing.
 use borrow.Author.Needs.{needs}
-use Rattle.listing_run.proofs.Same.{wide-product}
-use Rattle.listing_run.proofs.buffers.cells_of.Statement.{statement}
-use Rattle.listing_run.proofs.buffers.cells_of.Tie as tie
+use Rattle.listing.proofs.Counts.{wide-product}
+use Rattle.listing.proofs.asked.cells_of.Statement.{statement}
+use Rattle.listing.proofs.asked.cells_of.Tie as tie
 
 mul-result : tie.Need-mul-result
 mul-result c = record { fits = wide-product (search needs) (search needs) }

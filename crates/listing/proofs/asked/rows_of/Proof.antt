@@ -1,6 +1,6 @@
--- `listing_run::buffers::rows_of` meets its contract: the layers are those of the grid that the head asks for. Assumes nothing.
-use Rattle.listing_run.proofs.buffers.rows_of.Statement.{statement}
-use Rattle.listing_run.proofs.buffers.rows_of.Tie as tie
+-- `listing::asked::rows_of` meets its contract: the layers are those of the grid that the head asks for. Assumes nothing.
+use Rattle.listing.proofs.asked.rows_of.Statement.{statement}
+use Rattle.listing.proofs.asked.rows_of.Tie as tie
 
 returns : tie.Need-returns
 returns c =

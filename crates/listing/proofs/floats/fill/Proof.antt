@@ -1,4 +1,4 @@
--- `listing_run::floats::fill` meets its contract. The invariant: the floats of the patterns below i are there. Assumes nothing.
+-- `listing::floats::fill` meets its contract. The invariant: the floats of the patterns below i are there. Assumes nothing.
 use Prim.Native.Nat.{_-_, _≤_}
 use native.Mathlib.Omega.{arith}
 use mathlib.Core.Path.{_≡_, sym, _∙_}
@@ -6,11 +6,11 @@ use lib.ListN.{length, getD, length-map, List·getD-map}
 use lib.Seq.{ext-getD}
 use lib.Ieee.{binary32, ofBits}
 use Rattle.float.specs.Arith.{f0}
 use Rattle.listing.specs.Listing.{floatsOf}
 use Rattle.lists.specs.Table.{Filled}
 use Rattle.lists.proofs.Table.{filled-none, filled-more}
-use Rattle.listing_run.proofs.floats.fill.Statement.{statement}
-use Rattle.listing_run.proofs.floats.fill.Tie as tie
+use Rattle.listing.proofs.floats.fill.Statement.{statement}
+use Rattle.listing.proofs.floats.fill.Tie as tie
 
 abbrev Inv-loop : tie.InvT-loop
 Inv-loop bits floats₀ i₀ floats i = (length floats₀ ≡ length bits) × (i ≤ length bits) × Filled f0 (λ k. ofBits binary32 (getD bits k 0)) floats₀ i floats

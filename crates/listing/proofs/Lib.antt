@@ -1,0 +1,3 @@
+-- Laws on what a text asks for.
+pub mod Patterns
+pub mod Counts
