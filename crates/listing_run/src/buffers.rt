@@ -9,6 +9,7 @@ use listing::grid_of;
 use listing::rows_of;
 use listing::terms_of;
 use listing_whole::write_listing;
+use terms::Terms;
 use text::COORDINATE_ROOM;
 use text::CROSSING_ROOM;
 use text::ENTRY_ROOM;
@@ -65,7 +66,7 @@ fn list_outcome(
     let topology = head.topology;
     let given = asked.given;
     let tail = asked.tail;
-    let terms = terms_of(tail);
+    let terms: Terms = terms_of(tail);
     let grid = grid_of(head);
     let answer = generate_grid_sdf(
         grid,
@@ -108,7 +109,7 @@ fn list_records(
     let topology = head.topology;
     let given = asked.given;
     let tail = asked.tail;
-    let terms = terms_of(tail);
+    let terms: Terms = terms_of(tail);
     let grid = grid_of(head);
     let answer = run_records(
         grid,
