@@ -1,6 +1,7 @@
 -- Laws on what is put: nothing, one byte, one thing after the other. Assumes nothing.
-use Prim.Native.Nat.{ℕ, suc, _+_, _-_, _≤_, _<_}
+use Prim.Native.Nat.{ℕ, suc, _+_, _-_, _*_, _≤_, _<_}
 use native.Mathlib.Decide.{decLt}
+use native.Mathlib.Nat.{mul-add, mul-one, mul-le-mul-left}
 use native.Mathlib.Omega.{arith}
 use native.Mathlib.Numerals.{add-one}
 use mathlib.Core.Path.{_≡_, refl, sym, ap, _∙_}
@@ -57,16 +58,39 @@ three-words key a b c = simp append-assoc
 pub two-words : (key a b : List ℕ) → (key ++ (a ++ space ∷ [])) ++ (b ++ lf ∷ []) ≡ key ++ (a ++ space ∷ b) ++ lf ∷ []
 two-words key a b = simp append-assoc
 
--- ---- lines, one after the other
+-- ---- a loop that puts n lines, one after the other: f i is line i, and has at most w bytes
 
-pub line-more : (f : ℕ → List ℕ) (i : ℕ) {old mid new : List ℕ} {at r s : ℕ} → Put old at (linesBelow f i) mid r → Put mid r (f i) new s
-    → Put old at (linesBelow f (i + 1)) new s
-unfolding linesBelow
-line-more f i p q = rw add-one (andThen p q)
+module _ (f : ℕ → List ℕ) (w : ℕ) (old : List ℕ) (at n : ℕ) where
+  -- the first i of them are put
+  pub record Lines (new : List ℕ) (i next : ℕ) : Type 0 where
+    pub few : i ≤ n
+    pub near : next ≤ at + w * i
+    pub put : Put old at (linesBelow f i) new next
 
-pub no-line : (f : ℕ → List ℕ) (old : List ℕ) (at : ℕ) → Put old at (linesBelow f 0) old at
-unfolding linesBelow
-no-line f old at = nothing old at
+  pub no-lines : Lines old 0 at
+  unfolding linesBelow
+  no-lines = record { few = omega arith; near = omega arith; put = nothing old at }
+
+  module _ {mid : List ℕ} {i r : ℕ} (l : Lines mid i r) where
+    pub lines-more : {new : List ℕ} {s : ℕ} → i < n → Put mid r (f i) new s → s ≤ r + w → Lines new (i + 1) s
+    unfolding linesBelow
+    lines-more h p c =
+        record {
+          few = omega arith;
+          near = omega (arith, l .near, mul-add w i 1, mul-one w);
+          put = rw add-one (andThen (l .put) p);
+        }
+
+    -- there is room for one more, where there is room for all
+    pub lines-room : i < n → at + w * n ≤ length old → r + w ≤ length mid
+    lines-room h room =
+        let all : w * (i + 1) ≤ w * n = mul-le-mul-left w (omega arith) in
+        omega (arith, l .near, l .put .long, mul-add w i 1, mul-one w)
+
+    pub lines-all : n ≤ i → Put old at (linesBelow f n) mid r × (r ≤ at + w * n)
+    lines-all h =
+        let e : i ≡ n = omega (arith, l .few) in
+        rw (← e) (l .put, l .near)
 
 -- ---- what was put lies within
 

@@ -23,8 +23,9 @@ same-length c = search needs
 
 returns : tie.Need-returns
 returns c =
-    let s = c .before .before .before .before .before .before .before .before .before in
-    let A = c .before .before .before .before .run-text-by .ensures .1 .0 (s .pre) in
+    let r = c .before .before .before .before in
+    let s = r .before .before .before .before .before in
+    let A = r .run-text-by .ensures .1 .0 (s .pre) in
     let e = c .same .ensures in
     ((λ h. subst (Prints (s .args .text .now)) (sym (A .put .front) ∙ e .0 h) (A .prints)), (λ P. e .1 (A .put .front ∙ one-output (A .output) (s .args .owed .now) (A .prints) P)))
 

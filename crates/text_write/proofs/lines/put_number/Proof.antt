@@ -16,7 +16,10 @@ same-length : tie.Need-same-length
 same-length c = search needs
 
 returns : tie.Need-returns
-returns c = (said (simp append-assoc) refl (andThen (c .before .before .before .before .before .before .put-all .ensures) (c .before .before .put-value-then .ensures .0)), search needs)
+returns c =
+    let n = c .before .before in
+    let k = n .before .before .before .before in
+    (said (simp append-assoc) refl (andThen (k .put-all .ensures) (n .put-value-then .ensures .0)), search needs)
 
 pub put-number-spec : {M : Type 1} → statement M
 put-number-spec =

@@ -1,64 +1,48 @@
--- `text_write_job::parts::put_index_lines` meets its contract. The invariant: the lines of the indices below i are put. Assumes nothing.
-use Prim.Native.Nat.{_+_, _*_, _-_, _≤_}
+-- `text_write_job::parts::put_index_lines` meets its contract: a line for each index, one after the other. Assumes nothing.
+use Prim.Native.Nat.{ℕ, _-_}
 use native.Mathlib.Omega.{arith}
-use mathlib.Core.Path.{_≡_, refl, ap}
-use lib.ListN.{length, take}
+use mathlib.Core.Path.{refl}
+use mathlib.Core.List.{List}
+use lib.ListN.{take, getD}
+use lib.Seq.{take-suc}
 use borrow.Author.Needs.{needs}
-use Rattle.text.specs.Words.{line, lines}
+use Rattle.text.specs.Words.{line}
 use Rattle.text.specs.TextJob.{indexLine}
-use Rattle.text_write.specs.Put.{Put}
-use Rattle.text_write.proofs.Puts.{said}
-use Rattle.text_write_job.proofs.Grown.{no-line, line-more, index-more}
+use Rattle.text_write.proofs.Puts.{said, Lines, no-lines, lines-more, lines-room, lines-all}
+use Rattle.text_write_job.proofs.Grown.{lines-held}
 use Rattle.text_write_job.proofs.parts.put_index_lines.Statement.{statement}
 use Rattle.text_write_job.proofs.parts.put_index_lines.Tie as tie
 
+abbrev lineOf : List ℕ → ℕ → List ℕ
+lineOf indices i = indexLine (getD indices i 0)
+
 abbrev Inv-loop : tie.InvT-loop
-Inv-loop out₀ at indices n i₀ next₀ t7 out i next =
-    (i ≤ n) × (next ≤ at + 13 * i) × Put out₀ at (lines indexLine (take i indices)) out next
+Inv-loop out₀ at indices n i₀ next₀ t7 out i next = Lines (lineOf indices) 13 out₀ at n out i next
 
 abbrev μ-loop : tie.MeasureT-loop
 μ-loop out₀ at indices n i₀ next₀ t7 out i next = n - i
 
-loop-holds : tie.Need-loop-holds Inv-loop μ-loop
-loop-holds c = (omega arith, omega arith, no-line indexLine (c .before .before .args .out .now) (c .before .before .args .at))
-
-slice-aggregate-put-number : tie.Need-slice-aggregate-put-number Inv-loop μ-loop
-slice-aggregate-put-number c = search needs
-
-mul-put-number : tie.Need-mul-put-number Inv-loop μ-loop
-mul-put-number c = omega arith
-
-shared-slice-read-put-number : tie.Need-shared-slice-read-put-number Inv-loop μ-loop
-shared-slice-read-put-number c = omega arith
-
 put-number-requires : tie.Need-put-number-requires Inv-loop μ-loop
 put-number-requires c κs =
-    let l = c .before .before .before .before .loop in
-    omega (arith, l .inv .2 .long)
-
-add-i : tie.Need-add-i Inv-loop μ-loop
-add-i c = omega arith
-
-loop-less : tie.Need-loop-less Inv-loop μ-loop
-loop-less c = omega arith
+    let t = c .before .before .before in
+    let s = t .before .before .before .before in
+    omega (arith, lines-room _ _ _ _ _ (t .before .loop .inv) (t .loop-test .taken) (s .pre .1 .1))
 
 loop-again : tie.Need-loop-again Inv-loop μ-loop
 unfolding line
 loop-again c =
-    let s = c .before .before .before .before .before .before .before .before .before .before in
-    let l = c .before .before .before .before .before .before .before .loop in
-    let p = c .before .before .put-number .ensures in
-    (omega arith, omega (arith, p .1), said (ap (lines indexLine) (index-more (l .i) (s .args .indices .now) (omega arith))) refl (line-more indexLine (take (l .i) (s .args .indices .now)) _ (l .inv .2) (p .0)))
-
-same-length : tie.Need-same-length Inv-loop μ-loop
-same-length c = c .before .loop .inv .2 .long
+    let p = c .before .before in
+    let t = p .before .before .before .before in
+    let put = p .put-number .ensures in
+    lines-more _ _ _ _ _ (t .before .loop .inv) (t .loop-test .taken) (put .0) (omega (arith, put .1))
 
 returns : tie.Need-returns Inv-loop μ-loop
 returns c =
     let s = c .before .before .before .before in
-    let l = c .before .loop in
-    let e : l .i ≡ s .args .n = omega arith in
-    (rw (← e) (l .inv .2), omega arith)
+    let a = s .args in
+    let indices = a .indices .now in
+    let put = lines-all _ _ _ _ _ (c .before .loop .inv) (c .loop-test .left) in
+    (said (lines-held indexLine (λ i. take i indices) (λ i. getD indices i 0) (a .n) refl (λ i h. take-suc indices i 0 (omega (arith, s .pre .1 .0)))) refl (put .0), put .1)
 
 pub put-index-lines-spec : {M : Type 1} → statement M
 put-index-lines-spec =
@@ -66,13 +50,13 @@ put-index-lines-spec =
     (tie.spec
     Inv-loop
     μ-loop
-    loop-holds
-    slice-aggregate-put-number
-    mul-put-number
-    shared-slice-read-put-number
+    (λ c. no-lines _ _ _ _ _)
+    (λ c. search needs)
+    (λ c. omega arith)
+    (λ c. omega arith)
     put-number-requires
-    add-i
-    loop-less
+    (λ c. omega arith)
+    (λ c. omega arith)
     loop-again
-    same-length
+    (λ c. c .before .loop .inv .put .long)
     returns)

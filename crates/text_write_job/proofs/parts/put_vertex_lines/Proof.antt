@@ -1,92 +1,53 @@
--- `text_write_job::parts::put_vertex_lines` meets its contract. The invariant: the lines of the vertices below i are put. Assumes nothing.
-use Prim.Native.Nat.{_+_, _*_, _-_, _≤_}
+-- `text_write_job::parts::put_vertex_lines` meets its contract: a line for each vertex, one after the other. Assumes nothing.
+use Prim.Native.Nat.{ℕ, _+_, _*_, _-_}
 use native.Mathlib.Omega.{arith}
-use mathlib.Core.Path.{_≡_, refl, ap}
+use mathlib.Core.Path.{refl}
+use mathlib.Core.List.{List}
+use lib.ListN.{getD}
 use borrow.Author.Needs.{needs}
-use Rattle.text.specs.Words.{line, lines}
+use Rattle.text.specs.declared.Three.{Three}
+use Rattle.text.specs.Words.{line}
 use Rattle.text.specs.TextJob.{vertexLine}
+use Rattle.text.specs.Reader.{three}
 use Rattle.text_read_parts.specs.Told.{threesIn}
-use Rattle.text_write.specs.Put.{Put}
-use Rattle.text_write.proofs.Puts.{said}
-use Rattle.text_write_job.proofs.Grown.{no-line, line-more, vertex-more}
+use Rattle.text_write.proofs.Puts.{said, Lines, no-lines, lines-more, lines-room, lines-all}
+use Rattle.text_write_job.proofs.Grown.{lines-held}
 use Rattle.text_write_job.proofs.parts.put_vertex_lines.Statement.{statement}
 use Rattle.text_write_job.proofs.parts.put_vertex_lines.Tie as tie
 
+abbrev vertexOf : List ℕ → ℕ → Three
+vertexOf vertices i = three (getD vertices (3 * i) 0) (getD vertices (3 * i + 1) 0) (getD vertices (3 * i + 2) 0)
+
+abbrev lineOf : List ℕ → ℕ → List ℕ
+lineOf vertices i = vertexLine (vertexOf vertices i)
+
 abbrev Inv-loop : tie.InvT-loop
-Inv-loop out₀ at vertices n i₀ next₀ t8 out i next =
-    (i ≤ n) × (next ≤ at + 29 * i) × Put out₀ at (lines vertexLine (threesIn i vertices)) out next
+Inv-loop out₀ at vertices n i₀ next₀ t8 out i next = Lines (lineOf vertices) 29 out₀ at n out i next
 
 abbrev μ-loop : tie.MeasureT-loop
 μ-loop out₀ at vertices n i₀ next₀ t8 out i next = n - i
 
-loop-holds : tie.Need-loop-holds Inv-loop μ-loop
-unfolding threesIn
-loop-holds c = (omega arith, omega arith, no-line vertexLine (c .before .before .args .out .now) (c .before .before .args .at))
-
-mul-t10 : tie.Need-mul-t10 Inv-loop μ-loop
-mul-t10 c = omega arith
-
-mul-t11 : tie.Need-mul-t11 Inv-loop μ-loop
-mul-t11 c = omega arith
-
-shared-slice-read-t13 : tie.Need-shared-slice-read-t13 Inv-loop μ-loop
-shared-slice-read-t13 c = omega arith
-
-mul-t14 : tie.Need-mul-t14 Inv-loop μ-loop
-mul-t14 c = omega arith
-
-add-t15 : tie.Need-add-t15 Inv-loop μ-loop
-add-t15 c = omega arith
-
-mul-t16 : tie.Need-mul-t16 Inv-loop μ-loop
-mul-t16 c = omega arith
-
-shared-slice-read-t18 : tie.Need-shared-slice-read-t18 Inv-loop μ-loop
-shared-slice-read-t18 c = omega arith
-
-mul-t19 : tie.Need-mul-t19 Inv-loop μ-loop
-mul-t19 c = omega arith
-
-add-t20 : tie.Need-add-t20 Inv-loop μ-loop
-add-t20 c = omega arith
-
-mul-t21 : tie.Need-mul-t21 Inv-loop μ-loop
-mul-t21 c = omega arith
-
-shared-slice-read-t23 : tie.Need-shared-slice-read-t23 Inv-loop μ-loop
-shared-slice-read-t23 c = omega arith
-
-slice-aggregate-put-three : tie.Need-slice-aggregate-put-three Inv-loop μ-loop
-slice-aggregate-put-three c = search needs
-
 put-three-requires : tie.Need-put-three-requires Inv-loop μ-loop
 put-three-requires c κs =
-    let l = c .before .before .before .before .before .before .loop in
-    omega (arith, l .inv .2 .long)
-
-add-i : tie.Need-add-i Inv-loop μ-loop
-add-i c = omega arith
-
-loop-less : tie.Need-loop-less Inv-loop μ-loop
-loop-less c = omega arith
+    let t = c .before .before .before .before .before in
+    let s = t .before .before .before .before in
+    omega (arith, lines-room _ _ _ _ _ (t .before .loop .inv) (t .loop-test .taken) (s .pre .1 .1))
 
 loop-again : tie.Need-loop-again Inv-loop μ-loop
 unfolding line
 loop-again c =
-    let s = c .before .before .before .before .before .before .before .before .before .before .before .before in
-    let l = c .before .before .before .before .before .before .before .before .before .loop in
-    let p = c .before .before .put-three .ensures in
-    (omega arith, omega (arith, p .1), said (ap (lines vertexLine) (vertex-more (l .i) (s .args .vertices .now))) refl (line-more vertexLine (threesIn (l .i) (s .args .vertices .now)) _ (l .inv .2) (p .0)))
-
-same-length : tie.Need-same-length Inv-loop μ-loop
-same-length c = c .before .loop .inv .2 .long
+    let p = c .before .before in
+    let t = p .before .before .before .before .before .before in
+    let put = p .put-three .ensures in
+    lines-more _ _ _ _ _ (t .before .loop .inv) (t .loop-test .taken) (put .0) (omega (arith, put .1))
 
 returns : tie.Need-returns Inv-loop μ-loop
+unfolding threesIn
 returns c =
-    let s = c .before .before .before .before in
-    let l = c .before .loop in
-    let e : l .i ≡ s .args .n = omega arith in
-    (rw (← e) (l .inv .2), omega arith)
+    let a = c .before .before .before .before .args in
+    let vertices = a .vertices .now in
+    let put = lines-all _ _ _ _ _ (c .before .loop .inv) (c .loop-test .left) in
+    (said (lines-held vertexLine (λ i. threesIn i vertices) (vertexOf vertices) (a .n) refl (λ i h. refl)) refl (put .0), put .1)
 
 pub put-vertex-lines-spec : {M : Type 1} → statement M
 put-vertex-lines-spec =
@@ -94,22 +55,22 @@ put-vertex-lines-spec =
     (tie.spec
     Inv-loop
     μ-loop
-    loop-holds
-    mul-t10
-    mul-t11
-    shared-slice-read-t13
-    mul-t14
-    add-t15
-    mul-t16
-    shared-slice-read-t18
-    mul-t19
-    add-t20
-    mul-t21
-    shared-slice-read-t23
-    slice-aggregate-put-three
+    (λ c. no-lines _ _ _ _ _)
+    (λ c. omega arith)
+    (λ c. omega arith)
+    (λ c. omega arith)
+    (λ c. omega arith)
+    (λ c. omega arith)
+    (λ c. omega arith)
+    (λ c. omega arith)
+    (λ c. omega arith)
+    (λ c. omega arith)
+    (λ c. omega arith)
+    (λ c. omega arith)
+    (λ c. search needs)
     put-three-requires
-    add-i
-    loop-less
+    (λ c. omega arith)
+    (λ c. omega arith)
     loop-again
-    same-length
+    (λ c. c .before .loop .inv .put .long)
     returns)
