@@ -7,11 +7,5 @@ use Rattle.c_geo.proofs.distance_answer.Tie as tie
 pub distance-answer-spec : {M : Type 1} → statement M
 unfolding distanceForC
 distance-answer-spec =
-    tie.close
-    (tie.spec
-    (λ c. search needs)
-    (λ c. search needs)
-    (λ c. search needs)
-    (λ c. cc)
-    (λ c. cc)
-    (λ c. cc))
+    tie.close (tie.spec
+    (λ c. search needs) (λ c. search needs) (λ c. search needs) (λ c. cc) (λ c. cc) (λ c. cc))

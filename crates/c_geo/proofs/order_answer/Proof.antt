@@ -7,14 +7,6 @@ use Rattle.c_geo.proofs.order_answer.Tie as tie
 pub order-answer-spec : {M : Type 1} → statement M
 unfolding comparison
 order-answer-spec =
-    tie.close
-    (tie.spec
-    (λ c. search needs)
-    (λ c. search needs)
-    (λ c. search needs)
-    (λ c. search needs)
-    (λ c. search needs)
-    (λ c. cc)
-    (λ c. cc)
-    (λ c. cc)
-    (λ c. cc))
+    tie.close (tie.spec
+    (λ c. search needs) (λ c. search needs) (λ c. search needs) (λ c. search needs) (λ c. search needs)
+    (λ c. cc) (λ c. cc) (λ c. cc) (λ c. cc))

@@ -7,13 +7,6 @@ use Rattle.c_grid.proofs.box_answer.Tie as tie
 pub box-answer-spec : {M : Type 1} → statement M
 unfolding boxForC
 box-answer-spec =
-    tie.close
-    (tie.spec
-    (λ c. search needs)
-    (λ c κs. tt)
-    (λ c κs. tt)
-    (λ c. search needs)
-    (λ c κs. tt)
-    (λ c κs. tt)
-    (λ c. cc)
+    tie.close (tie.spec
+    (λ c. search needs) (λ c κs. tt) (λ c κs. tt) (λ c. search needs) (λ c κs. tt) (λ c κs. tt) (λ c. cc)
     (λ c. rw (c .before .before .before .a2 .given .1, c .before .point-out .ensures, c .point-out2 .ensures)))

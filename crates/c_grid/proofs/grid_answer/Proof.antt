@@ -7,11 +7,4 @@ use Rattle.c_grid.proofs.grid_answer.Tie as tie
 pub grid-answer-spec : {M : Type 1} → statement M
 unfolding gridForC
 grid-answer-spec =
-    tie.close
-    (tie.spec
-    (λ c. search needs)
-    (λ c κs. tt)
-    (λ c. search needs)
-    (λ c κs. tt)
-    (λ c. cc)
-    (λ c. cc))
+    tie.close (tie.spec (λ c. search needs) (λ c κs. tt) (λ c. search needs) (λ c κs. tt) (λ c. cc) (λ c. cc))

@@ -6,10 +6,4 @@ use Rattle.c_grid.proofs.number_answer.Tie as tie
 
 pub number-answer-spec : {M : Type 1} → statement M
 unfolding numberForC
-number-answer-spec =
-    tie.close
-    (tie.spec
-    (λ c. search needs)
-    (λ c. search needs)
-    (λ c. cc)
-    (λ c. cc))
+number-answer-spec = tie.close (tie.spec (λ c. search needs) (λ c. search needs) (λ c. cc) (λ c. cc))

@@ -11,14 +11,9 @@ kept-is : (e : Entry) (m : ℕ) → (m ≡ 0 → ⊥) → e ≡ keptOf e m
 kept-is e zero h = absurd (h refl)
 kept-is e (suc m) h = refl
 
-none-requires : tie.Need-none-requires
-none-requires c κs = search needs
-
-returns : tie.Need-returns
-returns c = search needs
-
 returns-2 : tie.Need-returns-2
 returns-2 c = kept-is (c .before .args .e) (c .before .args .m) (c .if1 .left)
 
 pub kept-spec : {M : Type 1} → statement M
-kept-spec = tie.close (tie.spec none-requires returns returns-2)
+kept-spec = tie.close (tie.spec
+    (λ c κs. search needs) (λ c. search needs) returns-2)

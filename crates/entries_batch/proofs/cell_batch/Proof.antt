@@ -20,15 +20,6 @@ returns-2 c =
 
 pub cell-batch-spec : {M : Type 1} → statement M
 cell-batch-spec =
-    tie.close
-    (tie.spec
-    (λ c. search needs)
-    (λ c. search needs)
-    (λ c. search needs)
-    (λ c. search needs)
-    float-to-bits-distances
-    (λ c. search needs)
-    (λ c. search needs)
-    (λ c. search needs)
-    returns
-    returns-2)
+    tie.close (tie.spec
+    (λ c. search needs) (λ c. search needs) (λ c. search needs) (λ c. search needs) float-to-bits-distances
+    (λ c. search needs) (λ c. search needs) (λ c. search needs) returns returns-2)

@@ -56,21 +56,10 @@ returns-5 c =
 
 pub consider-spec : {M : Type 1} → statement M
 consider-spec =
-    tie.close
-    (tie.spec
-    returns
-    returns-2
-    (λ c. search needs)
-    slice-read-held
-    (λ c κs. search needs)
-    returns-3
-    (λ c κs. search needs)
-    (λ c. search needs)
-    slice-write-field
-    (λ c. search needs)
-    slice-write-names
-    float-to-bits-v
-    (λ c. search needs)
-    (λ c. search needs)
-    returns-4
-    returns-5)
+    tie.close (tie.spec
+    returns returns-2
+    (λ c. search needs) slice-read-held
+    (λ c κs. search needs) returns-3
+    (λ c κs. search needs) (λ c. search needs) slice-write-field
+    (λ c. search needs) slice-write-names float-to-bits-v
+    (λ c. search needs) (λ c. search needs) returns-4 returns-5)

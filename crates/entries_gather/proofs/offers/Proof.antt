@@ -26,15 +26,7 @@ returns c =
 
 pub offers-spec : {M : Type 1} → statement M
 offers-spec =
-    tie.close
-    (tie.spec
-    (λ c. search needs)
-    (λ c. search needs)
-    (λ c. search needs)
-    look-around-requires
-    (λ c. search needs)
-    (λ c. search needs)
-    gather-requires
-    (λ c. search needs)
-    (λ c. search needs)
-    returns)
+    tie.close (tie.spec
+    (λ c. search needs) (λ c. search needs) (λ c. search needs) look-around-requires
+    (λ c. search needs) (λ c. search needs) gather-requires
+    (λ c. search needs) (λ c. search needs) returns)

@@ -13,4 +13,6 @@ returns-2 : tie.Need-returns-2
 returns-2 c = let s = c .before .before .before .before .before in one-taken (s .args .terms .limit) (s .args .at) (c .before .before .if1 .left)
 
 pub popped-spec : {M : Type 1} → statement M
-popped-spec = tie.close (tie.spec (λ c κs. search needs) returns (λ c. search needs) (λ c. search needs) returns-2)
+popped-spec = tie.close (tie.spec
+    (λ c κs. search needs) returns
+    (λ c. search needs) (λ c. search needs) returns-2)

@@ -26,17 +26,8 @@ floor-at c i b h =
 returns : tie.Need-returns
 returns c = no-row (c .before .args .q) (c .before .args .count) (c .if1 .taken)
 
-sub-last : tie.Need-sub-last
-sub-last c = search needs
-
 truncating-f32-to-u64-requires : tie.Need-truncating-f32-to-u64-requires
 truncating-f32-to-u64-requires c κs = (range c .low, range c .high)
-
-wide-requires : tie.Need-wide-requires
-wide-requires c κs = search needs
-
-cast-index : tie.Need-cast-index
-cast-index c = search needs
 
 returns-2 : tie.Need-returns-2
 returns-2 c =
@@ -58,14 +49,7 @@ returns-5 c = before-every-row (c .before .before .args .q) (c .before .before .
 
 pub cell-spec : {M : Type 1} → statement M
 cell-spec =
-    tie.close
-    (tie.spec
+    tie.close (tie.spec
     returns
-    sub-last
-    truncating-f32-to-u64-requires
-    wide-requires
-    cast-index
-    returns-2
-    returns-3
-    returns-4
-    returns-5)
+    (λ c. search needs) truncating-f32-to-u64-requires
+    (λ c κs. search needs) (λ c. search needs) returns-2 returns-3 returns-4 returns-5)

@@ -12,9 +12,6 @@ use Rattle.float.proofs.finite_at_most.Tie as tie
 both : (x bound size : Float) → size ≡ absOf x → ((size ≦ fMax) && (size ≦ bound)) ≡ finiteAtMost x bound
 both x bound size e = ap (λ (v : Float). (v ≦ fMax) && (v ≦ bound)) e
 
-abs-requires : tie.Need-abs-requires
-abs-requires c κs = search needs
-
 returns : tie.Need-returns
 returns c =
     let s = c .before .before in
@@ -26,4 +23,5 @@ returns-2 c =
     sym (ap (λ (t : Bool). t && (c .before .abs .result ≦ s .args .bound)) (c .if1 .left)) ∙ both (s .args .x) (s .args .bound) (c .before .abs .result) (c .before .abs .ensures)
 
 pub finite-at-most-spec : {M : Type 1} → statement M
-finite-at-most-spec = tie.close (tie.spec abs-requires returns returns-2)
+finite-at-most-spec = tie.close (tie.spec
+    (λ c κs. search needs) returns returns-2)

@@ -22,17 +22,11 @@ one-less k h = ap (λ (z : ℤ). negsuc 0 -ℤ z) (toZ-pos w64 k h) ∙ minus k
 floor-from-zero-requires : tie.Need-floor-from-zero-requires
 floor-from-zero-requires c κs = c .if1 .taken
 
-cast-result : tie.Need-cast-result
-cast-result c = search needs
-
 returns : tie.Need-returns
 returns c = let r = c .floor-from-zero .result in toZ-pos w64 r (c .floor-from-zero .ensures .0) ∙ sym (c .floor-from-zero .ensures .1)
 
 floor-below-zero-requires : tie.Need-floor-below-zero-requires
 floor-below-zero-requires c κs = c .if2 .taken
-
-cast-result-2 : tie.Need-cast-result-2
-cast-result-2 c = search needs
 
 sub-result : tie.Need-sub-result
 sub-result c =
@@ -48,4 +42,7 @@ returns-3 : tie.Need-returns-3
 returns-3 c = sym (neither (c .before .before .args .x) (c .before .if1 .left) (c .if2 .left))
 
 pub floor-spec : {M : Type 1} → statement M
-floor-spec = tie.close (tie.spec floor-from-zero-requires cast-result returns floor-below-zero-requires cast-result-2 sub-result returns-2 returns-3)
+floor-spec = tie.close (tie.spec
+    floor-from-zero-requires
+    (λ c. search needs) returns floor-below-zero-requires
+    (λ c. search needs) sub-result returns-2 returns-3)

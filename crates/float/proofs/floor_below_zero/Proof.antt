@@ -27,9 +27,6 @@ held c = subst T (sym (c .good .0 .1)) tt
 truncating-f32-to-u64-requires : tie.Need-truncating-f32-to-u64-requires
 truncating-f32-to-u64-requires c κs = (range c .low, range c .high)
 
-sub-result : tie.Need-sub-result
-sub-result c = search needs
-
 returns : tie.Need-returns
 returns c = let w = whole (c .before) in (omega (arith, cut-lt w), no-digit-left (held (c .before .before .before)) w (c .if2 .taken))
 
@@ -58,13 +55,6 @@ returns-4 c = (lit< tt, at-the-end (c .before .args .x) (c .before .pre) (c .if1
 
 pub floor-below-zero-spec : {M : Type 1} → statement M
 floor-below-zero-spec =
-    tie.close
-    (tie.spec
+    tie.close (tie.spec
     truncating-f32-to-u64-requires
-    sub-result
-    returns
-    int-to-float-if3
-    returns-2
-    sub-result-2
-    returns-3
-    returns-4)
+    (λ c. search needs) returns int-to-float-if3 returns-2 sub-result-2 returns-3 returns-4)

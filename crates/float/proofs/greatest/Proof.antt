@@ -6,8 +6,7 @@ use Rattle.float.proofs.greatest.Tie as tie
 
 pub greatest-spec : {M : Type 1} → statement M
 greatest-spec =
-    tie.close
-    (tie.spec
+    tie.close (tie.spec
     (λ c. rw (c .if1 .taken))
     (λ c. rw (c .before .if1 .left, sym (ne-itself (c .before .before .args .x)) ∙ c .if2 .taken))
     (λ c. rw (c .before .if1 .left, sym (ne-itself (c .before .before .args .x)) ∙ c .if2 .left)))

@@ -7,8 +7,7 @@ use Rattle.float_order.proofs.beyond.Tie as tie
 
 pub beyond-spec : {M : Type 1} → statement M
 beyond-spec =
-    tie.close
-    (tie.spec
+    tie.close (tie.spec
     (λ c. search needs)
     (λ c. bits-no-nan (c .args .x) (c .pre .0))
     (λ c. bits-no-nan (c .args .y) (c .pre .1))

@@ -28,8 +28,7 @@ neither false false e = (tt, tt)
 
 pub compare-spec : {M : Type 1} → statement M
 compare-spec =
-    tie.close
-    (tie.spec
+    tie.close (tie.spec
     (λ c.
     let h = tested (c .before .args .a) (c .before .args .b) true (c .if1 .taken) in
     record { number = rw h; value = rw h })

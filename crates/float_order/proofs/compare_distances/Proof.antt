@@ -27,11 +27,8 @@ b-positive c =
 
 pub compare-distances-spec : {M : Type 1} → statement M
 compare-distances-spec =
-    tie.close
-    (tie.spec
-    (λ c. search needs)
-    (λ c. search needs)
-    (λ c κs. search needs)
+    tie.close (tie.spec
+    (λ c. search needs) (λ c. search needs) (λ c κs. search needs)
     (λ c. c .order-of .ensures ∙ sym (order-level (first (c .before .before)) (second (c .before .before)) (c .before .if1 .taken)))
     (λ c. search needs)
     (λ c κs. opposite-small (a-positive c))

@@ -23,15 +23,6 @@ sum-lt row rise b h = omega arith
 size : (row rise : ℕ) → 2 ^ 63 ≤ row → row < 2 ^ 64 → rise < 2 ^ 40 → (2 ^ 23 ≤ (row / 2 ^ 35 + rise / 2 ^ 17) / 2 ^ 5) × ((row / 2 ^ 35 + rise / 2 ^ 17) / 2 ^ 5 < 2 ^ 25)
 size row rise a b h = (omega arith, omega arith)
 
-entry-requires : tie.Need-entry-requires
-entry-requires c κs = search needs
-
-cast-d : tie.Need-cast-d
-cast-d c = search needs
-
-sub-bulge : tie.Need-sub-bulge
-sub-bulge c = search needs
-
 mul-bulge : tie.Need-mul-bulge
 mul-bulge c = fits-bits 31 tt (bulge-lt _ _)
 
@@ -49,5 +40,6 @@ returns c = size (c .entry .result) _ (c .entry .ensures) (omega arith) (rise-lt
 
 pub guess-spec : {M : Type 1} → statement M
 guess-spec =
-    tie.close
-    (tie.spec entry-requires cast-d sub-bulge mul-bulge add-rise mul-rise add-result returns)
+    tie.close (tie.spec
+    (λ c κs. search needs) (λ c. search needs) (λ c. search needs) mul-bulge add-rise mul-rise add-result
+    returns)

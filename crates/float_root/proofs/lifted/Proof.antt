@@ -6,18 +6,6 @@ use Rattle.float.proofs.Whole.{even, uneven}
 use Rattle.float_root.proofs.lifted.Statement.{statement}
 use Rattle.float_root.proofs.lifted.Tie as tie
 
-add-m : tie.Need-add-m
-add-m c = search needs
-
-cast-m : tie.Need-cast-m
-cast-m c = search needs
-
-mul-result : tie.Need-mul-result
-mul-result c = search needs
-
-mul-result-2 : tie.Need-mul-result-2
-mul-result-2 c = search needs
-
 returns : tie.Need-returns
 returns c =
     let w = c .before .args .w in
@@ -29,4 +17,5 @@ returns-2 c =
     (search needs, search needs, uneven (w % 0x80_0000 + 0x80_0000) (w / 0x80_0000 % 2) (omega arith))
 
 pub lifted-spec : {M : Type 1} → statement M
-lifted-spec = tie.close (tie.spec add-m cast-m mul-result mul-result-2 returns returns-2)
+lifted-spec = tie.close (tie.spec
+    (λ c. search needs) (λ c. search needs) (λ c. search needs) (λ c. search needs) returns returns-2)

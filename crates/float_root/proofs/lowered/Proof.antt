@@ -17,12 +17,6 @@ some : (n q : ℕ) → 0 < n → n + q ≤ q * q → 0 < q
 some n zero p h = omega arith
 some n (suc q) p h = omega arith
 
-loop-holds : tie.Need-loop-holds Inv-loop μ-loop
-loop-holds c = search needs
-
-add-loop : tie.Need-add-loop Inv-loop μ-loop
-add-loop c = omega arith
-
 mul-loop : tie.Need-mul-loop Inv-loop μ-loop
 mul-loop c = fits-bits 50 tt (mul-lt 25 25 (c .loop .inv) (c .loop .inv))
 
@@ -32,13 +26,9 @@ sub-q c = some (c .before .before .args .n) (c .before .loop .q) (c .before .bef
 loop-less : tie.Need-loop-less Inv-loop μ-loop
 loop-less c = omega (arith, some (c .before .before .args .n) (c .before .loop .q) (c .before .before .pre .0) (c .loop-test .taken))
 
-loop-again : tie.Need-loop-again Inv-loop μ-loop
-loop-again c = search needs
-
-returns : tie.Need-returns Inv-loop μ-loop
-returns c = search needs
-
 pub lowered-spec : {M : Type 1} → statement M
 lowered-spec =
-    tie.close
-    (tie.spec Inv-loop μ-loop loop-holds add-loop mul-loop sub-q loop-less loop-again returns)
+    tie.close (tie.spec
+    Inv-loop μ-loop
+    (λ c. search needs) (λ c. omega arith) mul-loop sub-q loop-less
+    (λ c. search needs) (λ c. search needs))

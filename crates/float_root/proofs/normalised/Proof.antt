@@ -12,9 +12,6 @@ sub c = shifted (c .before .args .b) (c .before .pre .0) (c .if1 .taken)
 sub-result : tie.Need-sub-result
 sub-result c = sub c .few
 
-mul-result : tie.Need-mul-result
-mul-result c = search needs
-
 sub-result-2 : tie.Need-sub-result-2
 sub-result-2 c = omega (arith, sub c .many)
 
@@ -27,9 +24,6 @@ sub-result-3 c = sub c .least
 add-result : tie.Need-add-result
 add-result c = omega (arith, sub c .many, sub c .few, sub c .most)
 
-add-result-2 : tie.Need-add-result-2
-add-result-2 c = search needs
-
 returns : tie.Need-returns
 returns c = normal-low (c .before .args .b) (c .before .pre .0) (c .if1 .taken)
 
@@ -38,14 +32,7 @@ returns-2 c = normal-high (c .before .args .b) (c .if1 .left) (c .before .pre .1
 
 pub normalised-spec : {M : Type 1} → statement M
 normalised-spec =
-    tie.close
-    (tie.spec
+    tie.close (tie.spec
     sub-result
-    mul-result
-    sub-result-2
-    shl-result
-    sub-result-3
-    add-result
-    add-result-2
-    returns
-    returns-2)
+    (λ c. search needs) sub-result-2 shl-result sub-result-3 add-result
+    (λ c. search needs) returns returns-2)

@@ -16,28 +16,19 @@ abbrev μ-loop : tie.MeasureT-loop
 up : (n q : ℕ) → n < 2 ^ 48 → q * q + q < n → (q + 1 < 2 ^ 25) × ((q + 1) * (q + 1) < n + (q + 1))
 up n q h l = (omega (arith, root-digits n q (omega arith) h), omega (arith, next-square q))
 
-loop-holds : tie.Need-loop-holds Inv-loop μ-loop
-loop-holds c = search needs
-
 mul-loop : tie.Need-mul-loop Inv-loop μ-loop
 mul-loop c = fits-bits 50 tt (mul-lt 25 25 (c .loop .inv .0) (c .loop .inv .0))
 
 add-loop : tie.Need-add-loop Inv-loop μ-loop
 add-loop c = omega (arith, mul-lt 25 25 (c .loop .inv .0) (c .loop .inv .0))
 
-add-q : tie.Need-add-q Inv-loop μ-loop
-add-q c = search needs
-
-loop-less : tie.Need-loop-less Inv-loop μ-loop
-loop-less c = omega arith
-
 loop-again : tie.Need-loop-again Inv-loop μ-loop
 loop-again c = up (c .before .before .args .n) (c .before .loop .q) (c .before .before .pre .0) (c .loop-test .taken)
 
-returns : tie.Need-returns Inv-loop μ-loop
-returns c = search needs
-
 pub raised-spec : {M : Type 1} → statement M
 raised-spec =
-    tie.close
-    (tie.spec Inv-loop μ-loop loop-holds mul-loop add-loop add-q loop-less loop-again returns)
+    tie.close (tie.spec
+    Inv-loop μ-loop
+    (λ c. search needs) mul-loop add-loop
+    (λ c. search needs) (λ c. omega arith) loop-again
+    (λ c. search needs))

@@ -29,24 +29,6 @@ near c =
     (is-root (ofBits binary32 b) (w % 2 ^ 23 + 2 ^ 23) (w / 2 ^ 23) q (omega (arith, f .ensures .small)) (omega arith) (omega arith) (f .ensures .same)
     (subst (λ (n : ℕ). NearestTo n q) (c .before .before .lifted .ensures .2) (c .nearest-root .ensures)))
 
-normalised-requires : tie.Need-normalised-requires
-normalised-requires c κs = search needs
-
-lifted-requires : tie.Need-lifted-requires
-lifted-requires c κs = search needs
-
-guess-requires : tie.Need-guess-requires
-guess-requires c κs = search needs
-
-nearest-root-requires : tie.Need-nearest-root-requires
-nearest-root-requires c κs = search needs
-
-add-result : tie.Need-add-result
-add-result c = search needs
-
-mul-result : tie.Need-mul-result
-mul-result c = search needs
-
 cast-result : tie.Need-cast-result
 cast-result c = omega (arith, small c)
 
@@ -63,14 +45,6 @@ returns c =
 
 pub root-bits-spec : {M : Type 1} → statement M
 root-bits-spec =
-    tie.close
-    (tie.spec
-    normalised-requires
-    lifted-requires
-    guess-requires
-    nearest-root-requires
-    add-result
-    mul-result
-    cast-result
-    add-result-2
-    returns)
+    tie.close (tie.spec
+    (λ c κs. search needs) (λ c κs. search needs) (λ c κs. search needs) (λ c κs. search needs)
+    (λ c. search needs) (λ c. search needs) cast-result add-result-2 returns)

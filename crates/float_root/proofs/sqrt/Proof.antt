@@ -70,12 +70,5 @@ returns-4 c =
 
 pub sqrt-spec : {M : Type 1} → statement M
 sqrt-spec =
-    tie.close
-    (tie.spec
-    float-to-bits-b
-    root-bits-requires
-    float-from-bits-result
-    returns
-    returns-2
-    returns-3
-    returns-4)
+    tie.close (tie.spec
+    float-to-bits-b root-bits-requires float-from-bits-result returns returns-2 returns-3 returns-4)

@@ -15,12 +15,6 @@ at a b e h = h ∙ ap (λ (n : ℕ). rootBits n) (sym e)
 returns : tie.Need-returns
 returns c = at 0 (c .before .args .b) (c .if1 .taken) root-bits-zero
 
-root-bits-requires : tie.Need-root-bits-requires
-root-bits-requires c κs = search needs
-
-returns-2 : tie.Need-returns-2
-returns-2 c = search needs
-
 returns-3 : tie.Need-returns-3
 returns-3 c = at 0x7f80_0000 (c .before .before .before .args .b) (c .if3 .taken) root-bits-infinity
 
@@ -34,4 +28,6 @@ returns-5 c =
 
 pub sqrt-bits-spec : {M : Type 1} → statement M
 sqrt-bits-spec =
-    tie.close (tie.spec returns root-bits-requires returns-2 returns-3 returns-4 returns-5)
+    tie.close (tie.spec
+    returns
+    (λ c κs. search needs) (λ c. search needs) returns-3 returns-4 returns-5)

@@ -15,4 +15,5 @@ returns c =
     ) at (c .step .ensures)
 
 pub closest-point-segment-spec : {M : Type 1} → statement M
-closest-point-segment-spec = tie.close (tie.spec (λ c κs. tt) (λ c κs. tt) (λ c κs. tt) (λ c κs. tt) (λ c κs. tt) (λ c κs. tt) returns)
+closest-point-segment-spec = tie.close (tie.spec
+    (λ c κs. tt) (λ c κs. tt) (λ c κs. tt) (λ c κs. tt) (λ c κs. tt) (λ c κs. tt) returns)

@@ -5,4 +5,6 @@ use Rattle.geo_closest_branchless.proofs.start.Tie as tie
 
 pub start-spec : {M : Type 1} → statement M
 unfolding start
-start-spec = tie.close (tie.spec (λ c κs. tt) (λ c κs. tt) (λ c. rw (c .before .pick-point .ensures) at (c .pick-point2 .ensures)))
+start-spec = tie.close (tie.spec
+    (λ c κs. tt) (λ c κs. tt)
+    (λ c. rw (c .before .pick-point .ensures) at (c .pick-point2 .ensures)))

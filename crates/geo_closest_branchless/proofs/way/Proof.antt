@@ -5,4 +5,6 @@ use Rattle.geo_closest_branchless.proofs.way.Tie as tie
 
 pub way-spec : {M : Type 1} → statement M
 unfolding way
-way-spec = tie.close (tie.spec (λ c κs. tt) (λ c κs. tt) (λ c. rw (c .before .pick-point .ensures) at (c .pick-point2 .ensures)))
+way-spec = tie.close (tie.spec
+    (λ c κs. tt) (λ c κs. tt)
+    (λ c. rw (c .before .pick-point .ensures) at (c .pick-point2 .ensures)))

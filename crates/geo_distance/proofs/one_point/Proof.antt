@@ -4,9 +4,6 @@ use Rattle.geo_distance.proofs.one_point.Tie as tie
 
 pub one-point-spec : {M : Type 1} → statement M
 one-point-spec =
-    tie.close
-    (tie.spec
-    (λ c κs. tt)
-    (λ c κs. tt)
-    (λ c κs. tt)
+    tie.close (tie.spec
+    (λ c κs. tt) (λ c κs. tt) (λ c κs. tt)
     (λ c. rw (c .before .before .same .ensures, c .before .same2 .ensures, c .same3 .ensures)))

@@ -6,8 +6,7 @@ use Rattle.geo_distance.proofs.other_end.Tie as tie
 
 pub other-end-spec : {M : Type 1} → statement M
 other-end-spec =
-    tie.close
-    (tie.spec
+    tie.close (tie.spec
     (λ c κs. tt)
     (λ c. picked _ (sym (c .before .same .ensures) ∙ c .if1 .taken) refl)
     (λ c. passed _ (sym (c .before .same .ensures) ∙ c .if1 .left) refl))

@@ -3,4 +3,6 @@ use Rattle.geo_distance.proofs.point_triangle_distance.Statement.{state
 use Rattle.geo_distance.proofs.point_triangle_distance.Tie as tie
 
 pub point-triangle-distance-spec : {M : Type 1} → statement M
-point-triangle-distance-spec = tie.close (tie.spec (λ c κs. tt) (λ c κs. tt) (λ c. rw (c .before .facet-of .ensures) at (c .distance-on .ensures)))
+point-triangle-distance-spec = tie.close (tie.spec
+    (λ c κs. tt) (λ c κs. tt)
+    (λ c. rw (c .before .facet-of .ensures) at (c .distance-on .ensures)))

@@ -3,4 +3,6 @@ use Rattle.geo_distance.proofs.square.Statement.{statement}
 use Rattle.geo_distance.proofs.square.Tie as tie
 
 pub square-spec : {M : Type 1} → statement M
-square-spec = tie.close (tie.spec (λ c κs. tt) (λ c κs. tt) (λ c. rw (c .before .sub .ensures) at (c .dot .ensures)))
+square-spec = tie.close (tie.spec
+    (λ c κs. tt) (λ c κs. tt)
+    (λ c. rw (c .before .sub .ensures) at (c .dot .ensures)))

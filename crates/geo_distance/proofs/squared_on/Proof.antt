@@ -5,4 +5,6 @@ use Rattle.geo_distance.proofs.squared_on.Tie as tie
 
 pub squared-on-spec : {M : Type 1} → statement M
 unfolding squaredOn
-squared-on-spec = tie.close (tie.spec (λ c κs. tt) (λ c κs. tt) (λ c. rw (c .before .closest-on .ensures) at (c .square .ensures)))
+squared-on-spec = tie.close (tie.spec
+    (λ c κs. tt) (λ c κs. tt)
+    (λ c. rw (c .before .closest-on .ensures) at (c .square .ensures)))

@@ -38,8 +38,7 @@ returns-3 c =
 
 pub squares-on-spec : {M : Type 1} → statement M
 squares-on-spec =
-    tie.close
-    (tie.spec
+    tie.close (tie.spec
     (λ c κs. tt)
     (λ c κs. entry (c .before .before .before .before) .pre)
     (λ c κs. tt)

@@ -15,18 +15,11 @@ abbrev μ-loop : tie.MeasureT-loop
 
 pub squares-segment-spec : {M : Type 1} → statement M
 squares-segment-spec =
-    tie.close
-    (tie.spec
-    Inv-loop
-    μ-loop
+    tie.close (tie.spec
+    Inv-loop μ-loop
     (λ c. starts (c .before .before .before .before .pre))
     (λ c κs. (omega arith, omega arith, omega arith))
-    (λ c κs. tt)
-    (λ c κs. tt)
-    (λ c. omega arith)
-    (λ c. omega arith)
-    (λ c. omega arith)
-    (λ c. omega arith)
+    (λ c κs. tt) (λ c κs. tt) (λ c. omega arith) (λ c. omega arith) (λ c. omega arith) (λ c. omega arith)
     (λ c. let p = c .before .before in turn _ _ _ (p .before .loop-test .taken) (p .point-at .ensures) (c .before .closest-point-segment .ensures) (c .square .ensures) (p .before .before .loop .inv))
     (λ c. omega arith)
     (λ c. ends (omega arith) (c .before .loop .inv)))

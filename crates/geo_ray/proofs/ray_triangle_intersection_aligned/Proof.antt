@@ -17,4 +17,5 @@ returns c =
     ∙ in-parts (s .o) (s .v0) (s .v1) (s .v2) (s .axis)
 
 pub ray-triangle-intersection-aligned-spec : {M : Type 1} → statement M
-ray-triangle-intersection-aligned-spec = tie.close (tie.spec (λ c κs. tt) (λ c κs. tt) (λ c κs. tt) (λ c κs. tt) (λ c κs. tt) (λ c κs. tt) returns)
+ray-triangle-intersection-aligned-spec = tie.close (tie.spec
+    (λ c κs. tt) (λ c κs. tt) (λ c κs. tt) (λ c κs. tt) (λ c κs. tt) (λ c κs. tt) returns)

@@ -32,15 +32,7 @@ returns c =
 
 pub accepted-job-spec : {M : Type 1} → statement M
 accepted-job-spec =
-    tie.close
-    (tie.spec
-    (λ c κs. search needs)
-    cleared-job-requires
-    (λ c. search needs)
-    (λ c. search needs)
-    (λ c. search needs)
-    (λ c. search needs)
-    (λ c. search needs)
-    (λ c. search needs)
-    (λ c. search needs)
-    returns)
+    tie.close (tie.spec
+    (λ c κs. search needs) cleared-job-requires
+    (λ c. search needs) (λ c. search needs) (λ c. search needs) (λ c. search needs) (λ c. search needs)
+    (λ c. search needs) (λ c. search needs) returns)

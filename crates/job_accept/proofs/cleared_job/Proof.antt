@@ -36,15 +36,7 @@ returns c =
 
 pub cleared-job-spec : {M : Type 1} → statement M
 cleared-job-spec =
-    tie.close
-    (tie.spec
-    (λ c κs. search needs)
-    conclude-requires
-    (λ c. search needs)
-    (λ c. search needs)
-    (λ c. search needs)
-    (λ c. search needs)
-    (λ c. search needs)
-    (λ c. search needs)
-    (λ c. search needs)
-    returns)
+    tie.close (tie.spec
+    (λ c κs. search needs) conclude-requires
+    (λ c. search needs) (λ c. search needs) (λ c. search needs) (λ c. search needs) (λ c. search needs)
+    (λ c. search needs) (λ c. search needs) returns)

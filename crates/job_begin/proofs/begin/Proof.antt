@@ -42,13 +42,7 @@ returns-2 c =
 
 pub begin-spec : {M : Type 1} → statement M
 begin-spec =
-    tie.close
-    (tie.spec
-    (λ c κs. search needs)
-    returns
-    (λ c κs. search needs)
-    (λ c κs. search needs)
-    seed-requires
-    (λ c. search needs)
-    (λ c. search needs)
-    returns-2)
+    tie.close (tie.spec
+    (λ c κs. search needs) returns
+    (λ c κs. search needs) (λ c κs. search needs) seed-requires
+    (λ c. search needs) (λ c. search needs) returns-2)

@@ -37,16 +37,7 @@ returns-2 c = sym (every-each isCoordinate nan _ (λ k h. c .before .loop .inv .
 
 pub all-coordinates-spec : {M : Type 1} → statement M
 all-coordinates-spec =
-    tie.close
-    (tie.spec
-    Inv-loop
-    μ-loop
-    loop-holds
-    (λ c. search needs)
-    (λ c. search needs)
-    (λ c κs. tt)
-    returns
-    (λ c. search needs)
-    (λ c. search needs)
-    loop-again
-    returns-2)
+    tie.close (tie.spec
+    Inv-loop μ-loop loop-holds
+    (λ c. search needs) (λ c. search needs) (λ c κs. tt) returns
+    (λ c. search needs) (λ c. search needs) loop-again returns-2)

@@ -46,4 +46,6 @@ returns-3 c =
     c .length-refusal .ensures ∙ sym (past-mesh (s .args .grid) (mesh s) (s .args .l) (grid-passed g) (mesh-passed m))
 
 pub first-refusal-spec : {M : Type 1} → statement M
-first-refusal-spec = tie.close (tie.spec (λ c κs. tt) returns (λ c κs. tt) returns-2 length-refusal-requires returns-3)
+first-refusal-spec = tie.close (tie.spec
+    (λ c κs. tt) returns
+    (λ c κs. tt) returns-2 length-refusal-requires returns-3)

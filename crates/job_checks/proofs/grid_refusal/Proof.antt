@@ -10,8 +10,7 @@ grid-found c = sym (ap not (c .in-bounds .ensures))
 
 pub grid-refusal-spec : {M : Type 1} → statement M
 grid-refusal-spec =
-    tie.close
-    (tie.spec
+    tie.close (tie.spec
     (λ c κs. tt)
     (λ c. sym (rw (grid-found (c .before) ∙ c .if1 .taken)))
     (λ c. sym (rw (grid-found (c .before) ∙ c .if1 .left))))

@@ -10,8 +10,7 @@ lengths-found c = sym (c .wrong-lengths .ensures)
 
 pub length-refusal-spec : {M : Type 1} → statement M
 length-refusal-spec =
-    tie.close
-    (tie.spec
+    tie.close (tie.spec
     (λ c κs. search needs)
     (λ c. sym (rw (lengths-found (c .before) ∙ c .if1 .taken)))
     (λ c. sym (rw (lengths-found (c .before) ∙ c .if1 .left))))

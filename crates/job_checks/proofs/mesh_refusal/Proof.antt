@@ -48,5 +48,6 @@ returns-4 c =
 
 pub mesh-refusal-spec : {M : Type 1} → statement M
 mesh-refusal-spec =
-    tie.close
-    (tie.spec (λ c κs. tt) returns (λ c κs. tt) returns-2 in-range-requires returns-3 returns-4)
+    tie.close (tie.spec
+    (λ c κs. tt) returns
+    (λ c κs. tt) returns-2 in-range-requires returns-3 returns-4)

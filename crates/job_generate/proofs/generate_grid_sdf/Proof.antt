@@ -33,16 +33,7 @@ returns-2 c =
 
 pub generate-grid-sdf-spec : {M : Type 1} → statement M
 generate-grid-sdf-spec =
-    tie.close
-    (tie.spec
-    (λ c κs. search needs)
-    returns
-    accepted-job-requires
-    (λ c. search needs)
-    (λ c. search needs)
-    (λ c. search needs)
-    (λ c. search needs)
-    (λ c. search needs)
-    (λ c. search needs)
-    (λ c. search needs)
-    returns-2)
+    tie.close (tie.spec
+    (λ c κs. search needs) returns accepted-job-requires
+    (λ c. search needs) (λ c. search needs) (λ c. search needs) (λ c. search needs) (λ c. search needs)
+    (λ c. search needs) (λ c. search needs) returns-2)

@@ -20,20 +20,8 @@ done c =
 
 pub write-listing-spec : {M : Type 1} → statement M
 write-listing-spec =
-    tie.close
-    (tie.spec
-    (λ c. search needs)
-    (λ c. search needs)
-    (λ c. search needs)
-    (λ c. search needs)
-    (λ c. search needs)
-    (λ c. search needs)
-    (λ c κs. search needs)
-    (λ c. search needs)
-    too-many
-    (λ c. search needs)
-    (λ c κs. search needs)
-    (λ c. search needs)
-    refused
-    (λ c. search needs)
-    done)
+    tie.close (tie.spec
+    (λ c. search needs) (λ c. search needs) (λ c. search needs) (λ c. search needs) (λ c. search needs)
+    (λ c. search needs) (λ c κs. search needs) (λ c. search needs) too-many
+    (λ c. search needs) (λ c κs. search needs) (λ c. search needs) refused
+    (λ c. search needs) done)

@@ -7,9 +7,6 @@ use Rattle.mesh.proofs.corners_of.Tie as tie
 pub corners-of-spec : {M : Type 1} → statement M
 unfolding cornersOf
 corners-of-spec =
-    tie.close
-    (tie.spec
-    (λ c κs. search needs)
-    (λ c κs. search needs)
-    (λ c κs. search needs)
+    tie.close (tie.spec
+    (λ c κs. search needs) (λ c κs. search needs) (λ c κs. search needs)
     (λ c. rw (c .before .before .vertex .ensures, c .before .vertex2 .ensures, c .vertex3 .ensures)))

@@ -26,26 +26,11 @@ found : (c : tie.After-below-count Inv-loop μ-loop) →
     belowCount (s .vertices) (kth (trianglesOf (s .topology) (s .given) (s .indices .now) (s .vertices)) (c .before .before .before .loop .k)) ≡ c .below-count .result
 found c = sym (rw (c .before .triangle-at .ensures) at (c .below-count .ensures))
 
-triangle-count-requires : tie.Need-triangle-count-requires Inv-loop μ-loop
-triangle-count-requires c κs = search needs
-
 loop-holds : tie.Need-loop-holds Inv-loop μ-loop
 loop-holds c = (omega arith, λ j h. absurd (omega arith))
 
-triangle-at-requires : tie.Need-triangle-at-requires Inv-loop μ-loop
-triangle-at-requires c κs = search needs
-
-below-count-requires : tie.Need-below-count-requires Inv-loop μ-loop
-below-count-requires c κs = search needs
-
 returns : tie.Need-returns Inv-loop μ-loop
 returns c = sym (every-not _ (triangle 0 0 0) _ (c .before .before .before .before .loop .k) (omega arith) (found (c .before) ∙ not-true _ (c .if1 .taken)))
-
-add-k : tie.Need-add-k Inv-loop μ-loop
-add-k c = omega arith
-
-loop-less : tie.Need-loop-less Inv-loop μ-loop
-loop-less c = omega arith
 
 loop-again : tie.Need-loop-again Inv-loop μ-loop
 loop-again c = (omega arith, below-more _ _ (c .before .before .before .before .loop .inv .1) (found (c .before) ∙ not-false _ (c .if1 .left)))
@@ -55,16 +40,8 @@ returns-2 c = sym (every-each _ (triangle 0 0 0) _ (λ k h. c .before .loop .inv
 
 pub in-range-spec : {M : Type 1} → statement M
 in-range-spec =
-    tie.close
-    (tie.spec
-    Inv-loop
-    μ-loop
-    triangle-count-requires
-    loop-holds
-    triangle-at-requires
-    below-count-requires
-    returns
-    add-k
-    loop-less
-    loop-again
-    returns-2)
+    tie.close (tie.spec
+    Inv-loop μ-loop
+    (λ c κs. search needs) loop-holds
+    (λ c κs. search needs) (λ c κs. search needs) returns
+    (λ c. omega arith) (λ c. omega arith) loop-again returns-2)

@@ -17,8 +17,7 @@ number c = rw (c .enum-told2 .given .1, length-countFrom) at (c .before .before 
 
 pub corner-spec : {M : Type 1} → statement M
 corner-spec =
-    tie.close
-    (tie.spec
+    tie.close (tie.spec
     (λ c. search needs)
     (λ c. let h = index c in search needs)
     (λ c. let h = index (c .before) in search needs)

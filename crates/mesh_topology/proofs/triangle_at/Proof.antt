@@ -40,12 +40,5 @@ returns c =
 
 pub triangle-at-spec : {M : Type 1} → statement M
 triangle-at-spec =
-    tie.close
-    (tie.spec
-    first-corner-requires
-    corner-requires
-    add-corner
-    corner-requires-2
-    add-corner-2
-    corner-requires-3
-    returns)
+    tie.close (tie.spec
+    first-corner-requires corner-requires add-corner corner-requires-2 add-corner-2 corner-requires-3 returns)

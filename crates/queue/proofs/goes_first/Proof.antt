@@ -29,15 +29,6 @@ returns-4 c =
     let one = two .before .before .before in
     simp (le-ltb _ _ (one .if1 .left), le-ltb _ _ (two .if2 .left), le-ltb _ _ (three .if3 .left), lt-ltb _ _ (c .if4 .taken))
 
-triple-requires : tie.Need-triple-requires
-triple-requires c κs = search needs
-
-triple-requires-2 : tie.Need-triple-requires-2
-triple-requires-2 c κs = search needs
-
-triple-first-requires : tie.Need-triple-first-requires
-triple-first-requires c κs = search needs
-
 returns-5 : tie.Need-returns-5
 unfolding goesFirst
 returns-5 c =
@@ -50,13 +41,6 @@ returns-5 c =
 
 pub goes-first-spec : {M : Type 1} → statement M
 goes-first-spec =
-    tie.close
-    (tie.spec
-    returns
-    returns-2
-    returns-3
-    returns-4
-    triple-requires
-    triple-requires-2
-    triple-first-requires
-    returns-5)
+    tie.close (tie.spec
+    returns returns-2 returns-3 returns-4
+    (λ c κs. search needs) (λ c κs. search needs) (λ c κs. search needs) returns-5)

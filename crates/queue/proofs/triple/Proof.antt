@@ -8,19 +8,11 @@ use Rattle.mesh_topology.specs.Topology.{triangle, trianglesOf}
 use Rattle.queue.proofs.triple.Statement.{statement}
 use Rattle.queue.proofs.triple.Tie as tie
 
-triangle-count-requires : tie.Need-triangle-count-requires
-triangle-count-requires c κs = search needs
-
-triangle-at-requires : tie.Need-triangle-at-requires
-triangle-at-requires c κs = search needs
-
-returns : tie.Need-returns
-returns c = search needs
-
 returns-2 : tie.Need-returns-2
 returns-2 c =
     let s = c .before .before .before .args in
     sym (List·getD-eq-default (trianglesOf (s .topology) (s .given) (now (s .indices)) (s .vertices)) (triangle 0 0 0) (omega arith))
 
 pub triple-spec : {M : Type 1} → statement M
-triple-spec = tie.close (tie.spec triangle-count-requires triangle-at-requires returns returns-2)
+triple-spec = tie.close (tie.spec
+    (λ c κs. search needs) (λ c κs. search needs) (λ c. search needs) returns-2)

@@ -25,9 +25,6 @@ q s = entries (now (s .args .distances)) (now (s .args .cells)) (now (s .args .t
 fits : (s : tie.Start) → s .args .n ≤ length (now (s .args .distances))
 fits s = held-fit (now (s .args .distances)) (now (s .args .cells)) (now (s .args .triangles)) (s .pre .1 .0)
 
-sub-m : tie.Need-sub-m
-sub-m c = search needs
-
 load-requires : tie.Need-load-requires
 load-requires c κs =
     let s = c .before .before .before .before .before .before .before in
@@ -53,15 +50,6 @@ sift-down-requires c κs =
     let even = s .pre .1 .0 .even in
     (s .pre .0, (record { cells = omega arith; triangles = omega arith }, (omega (arith, fits s), lowered (𝓞 s) blank (q s) _ _ (s .pre .1 .1) (s .pre .1 .0 .keeps .heap) (t .store .ensures))))
 
-same-length : tie.Need-same-length
-same-length c = search needs
-
-same-length-2 : tie.Need-same-length-2
-same-length-2 c = search needs
-
-same-length-3 : tie.Need-same-length-3
-same-length-3 c = search needs
-
 returns : tie.Need-returns
 returns c =
     let d = c .before .before .before .before .before .before in
@@ -75,15 +63,6 @@ returns c =
     flat-taken _ _ _ _ _ _ (record { even = h .even; distances = omega (arith, again .0, kept .0); cells = omega (arith, again .1 .0, kept .1 .0); triangles = omega (arith, again .1 .1 .0, kept .1 .1 .0) })
     (λ long. taken-some (𝓞 s) blank _ _ (q s) _ _ _ (h .keeps) (s .pre .1 .1) (omega (arith, d .before .before .before .before .if1 .taken)) long (f .load .ensures) (l .load2 .ensures) (t .store .ensures) (d .sift-down .ensures))
 
-same-length-4 : tie.Need-same-length-4
-same-length-4 c = search needs
-
-same-length-5 : tie.Need-same-length-5
-same-length-5 c = search needs
-
-same-length-6 : tie.Need-same-length-6
-same-length-6 c = search needs
-
 returns-2 : tie.Need-returns-2
 returns-2 c =
     let t = c .before .before .before .before .before .before .before in
@@ -96,18 +75,7 @@ returns-2 c =
 
 pub take-spec : {M : Type 1} → statement M
 take-spec =
-    tie.close
-    (tie.spec
-    sub-m
-    load-requires
-    load-requires-2
-    store-requires
-    sift-down-requires
-    same-length
-    same-length-2
-    same-length-3
-    returns
-    same-length-4
-    same-length-5
-    same-length-6
-    returns-2)
+    tie.close (tie.spec
+    (λ c. search needs) load-requires load-requires-2 store-requires sift-down-requires
+    (λ c. search needs) (λ c. search needs) (λ c. search needs) returns
+    (λ c. search needs) (λ c. search needs) (λ c. search needs) returns-2)

@@ -6,21 +6,6 @@ use Rattle.text_answer.proofs.Read.{one-output}
 use Rattle.replay_jobs.proofs.is_owed.Statement.{statement}
 use Rattle.replay_jobs.proofs.is_owed.Tie as tie
 
-run-text-by-requires : tie.Need-run-text-by-requires
-run-text-by-requires c κs = search needs
-
-slice-reshare-prefix-same : tie.Need-slice-reshare-prefix-same
-slice-reshare-prefix-same c = search needs
-
-slice-aggregate-same : tie.Need-slice-aggregate-same
-slice-aggregate-same c = search needs
-
-same-requires : tie.Need-same-requires
-same-requires c κs = search needs
-
-same-length : tie.Need-same-length
-same-length c = search needs
-
 returns : tie.Need-returns
 returns c =
     let r = c .before .before .before .before in
@@ -31,11 +16,6 @@ returns c =
 
 pub is-owed-spec : {M : Type 1} → statement M
 is-owed-spec =
-    tie.close
-    (tie.spec
-    run-text-by-requires
-    slice-reshare-prefix-same
-    slice-aggregate-same
-    same-requires
-    same-length
+    tie.close (tie.spec
+    (λ c κs. search needs) (λ c. search needs) (λ c. search needs) (λ c κs. search needs) (λ c. search needs)
     returns)

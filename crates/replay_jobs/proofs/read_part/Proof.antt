@@ -9,17 +9,8 @@ use borrow.Author.Needs.{needs}
 use Rattle.replay_jobs.proofs.read_part.Statement.{statement}
 use Rattle.replay_jobs.proofs.read_part.Tie as tie
 
-slice-relend-prefix-read-full : tie.Need-slice-relend-prefix-read-full
-slice-relend-prefix-read-full c = search needs
-
 slice-aggregate-read-full : tie.Need-slice-aggregate-read-full
 slice-aggregate-read-full c = sym (length-take-le (c .before .before .args .n) (c .before .before .args .buf .now) (c .before .before .pre))
-
-read-full-requires : tie.Need-read-full-requires
-read-full-requires c κs = search needs
-
-same-length : tie.Need-same-length
-same-length c = search needs
 
 returns : tie.Need-returns
 returns c =
@@ -31,10 +22,6 @@ returns c =
 
 pub read-part-spec : {M : Type 1} → statement M
 read-part-spec =
-    tie.close
-    (tie.spec
-    slice-relend-prefix-read-full
-    slice-aggregate-read-full
-    read-full-requires
-    same-length
-    returns)
+    tie.close (tie.spec
+    (λ c. search needs) slice-aggregate-read-full
+    (λ c κs. search needs) (λ c. search needs) returns)

@@ -78,13 +78,9 @@ returns c =
 
 pub gather-spec : {M : Type 1} → statement M
 gather-spec =
-    tie.close
-    (tie.spec
-    Inv-loop
-    μ-loop
-    loop-holds
-    (λ c. omega arith)
-    shared-slice-read-step-from
+    tie.close (tie.spec
+    Inv-loop μ-loop loop-holds
+    (λ c. omega arith) shared-slice-read-step-from
     (λ c κs. (c .before .before .before .before .before .before .before .before .pre .0 .0, c .before .before .before .before .before .before .before .before .pre .0 .1))
     get-cell-center-requires
     (λ c. omega arith)
@@ -95,9 +91,7 @@ gather-spec =
     (λ c. omega (arith, c .before .before .before .before .before .before .before .before .before .before .pre .1 .2, c .before .before .before .before .loop .inv .3 .long))
     (λ c. omega arith)
     (λ c. omega (arith, c .before .before .before .before .before .before .before .before .before .before .pre .1 .3, c .before .before .before .before .loop .inv .4 .long))
-    (λ c. omega arith)
-    (λ c. omega arith)
-    loop-again
+    (λ c. omega arith) (λ c. omega arith) loop-again
     (λ c. omega (arith, c .before .loop .inv .1 .long))
     (λ c. omega (arith, c .before .loop .inv .2 .long))
     (λ c. omega (arith, c .before .loop .inv .3 .long))

@@ -34,20 +34,9 @@ returns c =
 
 pub look-around-spec : {M : Type 1} → statement M
 look-around-spec =
-    tie.close
-    (tie.spec
-    (λ c. search needs)
-    (λ c κs. search needs)
-    (λ c κs. search needs)
+    tie.close (tie.spec
+    (λ c. search needs) (λ c κs. search needs) (λ c κs. search needs)
     (λ c κs. c .before .before .before .before .before .before .before .before .pre .0 .bounded)
-    (λ c. search needs)
-    (λ c. search needs)
-    (λ c. search needs)
-    gather-requires
-    (λ c. search needs)
-    (λ c. search needs)
-    (λ c. search needs)
-    squares-on-requires
-    (λ c. search needs)
-    (λ c. search needs)
-    returns)
+    (λ c. search needs) (λ c. search needs) (λ c. search needs) gather-requires
+    (λ c. search needs) (λ c. search needs) (λ c. search needs) squares-on-requires
+    (λ c. search needs) (λ c. search needs) returns)

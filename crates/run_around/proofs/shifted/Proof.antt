@@ -11,10 +11,8 @@ sub-result c = omega (arith, ltb-true 0 (c .before .args .i) (rw (c .if1 .taken)
 
 pub shifted-spec : {M : Type 1} → statement M
 shifted-spec =
-    tie.close
-    (tie.spec
+    tie.close (tie.spec
     sub-result
     (λ c. rw (c .if1 .taken))
-    (λ c. search needs)
-    (λ c. search needs)
+    (λ c. search needs) (λ c. search needs)
     (λ c. rw (shift-ahead _ (c .before .if1 .left) (c .if2 .left))))

@@ -61,14 +61,8 @@ returns-2 c = let s = c .before .before .before .before in sym (spot-off (s .arg
 
 pub step-from-spec : {M : Type 1} → statement M
 step-from-spec =
-    tie.close
-    (tie.spec
+    tie.close (tie.spec
     (λ c κs. c .pre .1 .x-below)
     (λ c κs. c .before .pre .1 .y-below)
     (λ c κs. c .before .before .pre .1 .z-below)
-    shifted-requires
-    shifted-requires-2
-    shifted-requires-3
-    get-cell-idx-requires
-    returns
-    returns-2)
+    shifted-requires shifted-requires-2 shifted-requires-3 get-cell-idx-requires returns returns-2)

@@ -34,9 +34,6 @@ known c =
     let few = s .pre .1 .1 .0 in
     (omega (arith, c .loop-test .taken, n), omega (arith, c .loop-test .taken, n, few))
 
-triangle-count-requires : tie.Need-triangle-count-requires Inv-loop μ-loop
-triangle-count-requires c κs = search needs
-
 loop-holds : tie.Need-loop-holds Inv-loop μ-loop
 loop-holds c =
     let s = entry c in
@@ -111,20 +108,7 @@ returns c =
 
 pub cross-all-spec : {M : Type 1} → statement M
 cross-all-spec =
-    tie.close
-    (tie.spec
-    Inv-loop
-    μ-loop
-    triangle-count-requires
-    loop-holds
-    corners-at-requires
-    cross-triangle-requires
-    add-k
-    loop-less
-    loop-again
-    same-length
-    same-length-2
-    same-length-3
-    same-length-4
-    same-length-5
-    returns)
+    tie.close (tie.spec
+    Inv-loop μ-loop
+    (λ c κs. search needs) loop-holds corners-at-requires cross-triangle-requires add-k loop-less loop-again
+    same-length same-length-2 same-length-3 same-length-4 same-length-5 returns)

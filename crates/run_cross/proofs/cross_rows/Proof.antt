@@ -40,26 +40,11 @@ short c =
     let s = entry (c .before .before) in
     omega (arith, counted (c .before .before), on-axis (bounds-of (s .args .grid) (s .pre .0)) (next (s .args .axis)) .few)
 
-centre-requires : tie.Need-centre-requires Inv-loop μ-loop
-centre-requires c κs = search needs
-
-along-x-requires : tie.Need-along-x-requires Inv-loop μ-loop
-along-x-requires c κs = search needs
-
-next-requires : tie.Need-next-requires Inv-loop μ-loop
-next-requires c κs = search needs
-
-count-on-requires : tie.Need-count-on-requires Inv-loop μ-loop
-count-on-requires c κs = search needs
-
 loop-holds : tie.Need-loop-holds Inv-loop μ-loop
 loop-holds c = let a = entry c .args in (omega arith, refl, refl, axis-none (a .grid) (a .axis) (hits c) (a .crossings .now))
 
 centre-requires-2 : tie.Need-centre-requires-2 Inv-loop μ-loop
 centre-requires-2 c κs = omega (arith, short c)
-
-across-y-requires : tie.Need-across-y-requires Inv-loop μ-loop
-across-y-requires c κs = search needs
 
 cross-row-requires : tie.Need-cross-row-requires Inv-loop μ-loop
 cross-row-requires c κs =
@@ -120,21 +105,8 @@ returns c =
 
 pub cross-rows-spec : {M : Type 1} → statement M
 cross-rows-spec =
-    tie.close
-    (tie.spec
-    Inv-loop
-    μ-loop
-    centre-requires
-    along-x-requires
-    next-requires
-    count-on-requires
-    loop-holds
+    tie.close (tie.spec
+    Inv-loop μ-loop
+    (λ c κs. search needs) (λ c κs. search needs) (λ c κs. search needs) (λ c κs. search needs) loop-holds
     centre-requires-2
-    across-y-requires
-    cross-row-requires
-    add-u
-    loop-less
-    loop-again
-    same-length
-    same-length-2
-    returns)
+    (λ c κs. search needs) cross-row-requires add-u loop-less loop-again same-length same-length-2 returns)

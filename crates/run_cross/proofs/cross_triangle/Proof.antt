@@ -65,14 +65,6 @@ returns c =
 
 pub cross-triangle-spec : {M : Type 1} → statement M
 cross-triangle-spec =
-    tie.close
-    (tie.spec
-    cross-along-requires
-    cross-along-requires-2
-    cross-along-requires-3
-    same-length
-    (λ c. search needs)
-    (λ c. search needs)
-    (λ c. search needs)
-    (λ c. search needs)
-    returns)
+    tie.close (tie.spec
+    cross-along-requires cross-along-requires-2 cross-along-requires-3 same-length
+    (λ c. search needs) (λ c. search needs) (λ c. search needs) (λ c. search needs) returns)

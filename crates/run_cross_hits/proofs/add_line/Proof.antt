@@ -19,20 +19,11 @@ started c =
     let a = c .before .before .before .args in
     c .entry .ensures ∙ ap (entryOf (a .grid) (a .axis)) (c .before .cell-on .ensures)
 
-cell-on-requires : tie.Need-cell-on-requires
-cell-on-requires c κs = search needs
-
 entry-requires : tie.Need-entry-requires
 entry-requires c κs =
     let s = c .before .before in
     let a = s .args in
     (s .pre .0, rw (c .cell-on .ensures) (inside-line (a .grid) (a .axis) 0 (a .u) (a .v) (omega arith) (s .pre .1 .0 .0) (s .pre .1 .0 .1)))
-
-step-requires : tie.Need-step-requires
-step-requires c κs = search needs
-
-add-add-each : tie.Need-add-add-each
-add-add-each c = search needs
 
 add-each-requires : tie.Need-add-each-requires
 add-each-requires c κs =
@@ -46,9 +37,6 @@ add-each-requires c κs =
       ),
     )
 
-same-length : tie.Need-same-length
-same-length c = search needs
-
 returns : tie.Need-returns
 returns c =
     let d = c .before .before in
@@ -60,12 +48,7 @@ returns c =
 
 pub add-line-spec : {M : Type 1} → statement M
 add-line-spec =
-    tie.close
-    (tie.spec
-    cell-on-requires
-    entry-requires
-    step-requires
-    add-add-each
-    add-each-requires
-    same-length
-    returns)
+    tie.close (tie.spec
+    (λ c κs. search needs) entry-requires
+    (λ c κs. search needs) (λ c. search needs) add-each-requires
+    (λ c. search needs) returns)

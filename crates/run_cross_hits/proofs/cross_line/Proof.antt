@@ -15,21 +15,6 @@ use Rattle.run_cross_lines.proofs.Hits.{hit-grown}
 use Rattle.run_cross_hits.proofs.cross_line.Statement.{statement}
 use Rattle.run_cross_hits.proofs.cross_line.Tie as tie
 
-enum-told : tie.Need-enum-told
-enum-told c = search needs
-
-enum-known-hit : tie.Need-enum-known-hit
-enum-known-hit c = search needs
-
-get-requires : tie.Need-get-requires
-get-requires c κs = search needs
-
-count-on-requires : tie.Need-count-on-requires
-count-on-requires c κs = search needs
-
-cell-requires : tie.Need-cell-requires
-cell-requires c κs = search needs
-
 -- the hit lies ahead
 in-front : (c : tie.After-hit) → f0 ≺ c .hit .given .0 .0 ≡ true
 in-front c = sym (ap ahead (c .hit .given .1)) ∙ c .before .before .before .pre .1 .1 .0
@@ -63,9 +48,6 @@ returns c =
     let a = c .before .before .before .args in
     line-missed (a .grid) (a .axis) (a .u) (a .v) (a .hit) (a .crossings .now) (c .enum-told .given .1)
 
-same-length : tie.Need-same-length
-same-length c = search needs
-
 returns-2 : tie.Need-returns-2
 returns-2 c =
     let d = c .before .before in
@@ -77,14 +59,7 @@ returns-2 c =
 
 pub cross-line-spec : {M : Type 1} → statement M
 cross-line-spec =
-    tie.close
-    (tie.spec
-    enum-told
-    enum-known-hit
-    get-requires
-    count-on-requires
-    cell-requires
-    add-line-requires
-    returns
-    same-length
-    returns-2)
+    tie.close (tie.spec
+    (λ c. search needs) (λ c. search needs) (λ c κs. search needs) (λ c κs. search needs)
+    (λ c κs. search needs) add-line-requires returns
+    (λ c. search needs) returns-2)

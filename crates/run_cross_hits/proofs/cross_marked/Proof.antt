@@ -43,26 +43,14 @@ short c =
     let s = entry (c .before .before) in
     omega (arith, counted (c .before .before), on-axis (bounds-of (s .args .grid) (s .pre .0)) (next (next (s .args .axis))) .few)
 
-second-requires : tie.Need-second-requires Inv-loop μ-loop
-second-requires c κs = search needs
-
-count-on-requires : tie.Need-count-on-requires Inv-loop μ-loop
-count-on-requires c κs = search needs
-
 loop-holds : tie.Need-loop-holds Inv-loop μ-loop
 loop-holds c = let a = entry c .args in (omega arith, refl, row-none (a .grid) (a .axis) (a .u) (hits c) (a .crossings .now))
-
-cast-at : tie.Need-cast-at Inv-loop μ-loop
-cast-at c = search needs
 
 shared-slice-read-if1 : tie.Need-shared-slice-read-if1 Inv-loop μ-loop
 shared-slice-read-if1 c = omega (arith, short (c .before))
 
 three-at-requires : tie.Need-three-at-requires Inv-loop μ-loop
 three-at-requires c κs = omega (arith, short (c .before .before))
-
-ray-of-requires : tie.Need-ray-of-requires Inv-loop μ-loop
-ray-of-requires c κs = search needs
 
 cross-line-requires : tie.Need-cross-line-requires Inv-loop μ-loop
 cross-line-requires c κs =
@@ -99,12 +87,6 @@ crossed c =
     rw (w .1) (line-missed (a .grid) (a .axis) (a .u) v (hits (p .before) v) (p .loop .crossings) missed))
     (c .if1 .came)
 
-add-v : tie.Need-add-v Inv-loop μ-loop
-add-v c = search needs
-
-loop-less : tie.Need-loop-less Inv-loop μ-loop
-loop-less c = omega arith
-
 loop-again : tie.Need-loop-again Inv-loop μ-loop
 loop-again c =
     let p = c .before .before .before in
@@ -114,9 +96,6 @@ loop-again c =
     let line = crossed c in
     (omega arith, line .long ∙ l .inv .1, row-more (a .grid) (a .axis) (a .u) (l .v) (hits (p .before)) (l .inv .2) line)
 
-same-length : tie.Need-same-length Inv-loop μ-loop
-same-length c = omega arith
-
 returns : tie.Need-returns Inv-loop μ-loop
 returns c =
     let p = c .before in
@@ -125,20 +104,10 @@ returns c =
 
 pub cross-marked-spec : {M : Type 1} → statement M
 cross-marked-spec =
-    tie.close
-    (tie.spec
-    Inv-loop
-    μ-loop
-    second-requires
-    count-on-requires
-    loop-holds
-    cast-at
-    shared-slice-read-if1
-    three-at-requires
-    ray-of-requires
-    cross-line-requires
-    add-v
-    loop-less
-    loop-again
-    same-length
-    returns)
+    tie.close (tie.spec
+    Inv-loop μ-loop
+    (λ c κs. search needs) (λ c κs. search needs) loop-holds
+    (λ c. search needs) shared-slice-read-if1 three-at-requires
+    (λ c κs. search needs) cross-line-requires
+    (λ c. search needs) (λ c. omega arith) loop-again
+    (λ c. omega arith) returns)

@@ -5,9 +5,6 @@ use Rattle.run_cross_lines.proofs.centre.Tie as tie
 
 pub centre-spec : {M : Type 1} → statement M
 centre-spec =
-    tie.close
-    (tie.spec
-    (λ c κs. search needs)
-    (λ c κs. search needs)
-    (λ c κs. search needs)
+    tie.close (tie.spec
+    (λ c κs. search needs) (λ c κs. search needs) (λ c κs. search needs)
     (λ c. rw (c .before .before .get .ensures, c .before .get2 .ensures) at (c .centre-on .ensures)))

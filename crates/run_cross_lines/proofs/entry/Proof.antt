@@ -9,11 +9,7 @@ use Rattle.run_cross_lines.proofs.entry.Tie as tie
 pub entry-spec : {M : Type 1} → statement M
 unfolding entryOf
 entry-spec =
-    tie.close
-    (tie.spec
-    (λ c κs. search needs)
-    (λ c. search needs)
-    (λ c. search needs)
-    (λ c κs. search needs)
+    tie.close (tie.spec
+    (λ c κs. search needs) (λ c. search needs) (λ c. search needs) (λ c κs. search needs)
     (λ c. omega (arith, place-below (c .before .before .args .axis), c .place .ensures))
     (λ c. search needs))

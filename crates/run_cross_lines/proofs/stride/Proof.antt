@@ -12,12 +12,8 @@ mul-result c =
 
 pub stride-spec : {M : Type 1} → statement M
 stride-spec =
-    tie.close
-    (tie.spec
-    (λ c. search needs)
-    mul-result
-    (λ c. search needs)
-    (λ c. search needs)
+    tie.close (tie.spec
+    (λ c. search needs) mul-result
+    (λ c. search needs) (λ c. search needs)
     (λ c. rw (c .before .enum-told .given .1))
-    (λ c. search needs)
-    (λ c. search needs))
+    (λ c. search needs) (λ c. search needs))

@@ -28,9 +28,6 @@ short c =
     let s = entry (c .before .before) in
     omega (arith, c .before .before .count-on .ensures, on-axis (bounds-of (s .args .grid) (s .pre .0)) (s .args .axis) .few)
 
-count-on-requires : tie.Need-count-on-requires Inv-loop μ-loop
-count-on-requires c κs = search needs
-
 loop-holds : tie.Need-loop-holds Inv-loop μ-loop
 loop-holds c = let a = entry c .args in (omega arith, refl, refl, refl, across-none (a .grid) (a .axis) (a .cast) (a .z0 .now) (a .z1 .now) (a .z2 .now))
 
@@ -39,9 +36,6 @@ cast-at c = omega (arith, short c)
 
 centre-requires : tie.Need-centre-requires Inv-loop μ-loop
 centre-requires c κs = omega (arith, short c)
-
-across-z-requires : tie.Need-across-z-requires Inv-loop μ-loop
-across-z-requires c κs = search needs
 
 mul-z0 : tie.Need-mul-z0 Inv-loop μ-loop
 mul-z0 c = omega (arith, short (c .before .before))
@@ -64,9 +58,6 @@ slice-write-z2 c = omega (arith, short (c .before .before))
 add-i : tie.Need-add-i Inv-loop μ-loop
 add-i c = omega (arith, short (c .before .before))
 
-loop-less : tie.Need-loop-less Inv-loop μ-loop
-loop-less c = omega arith
-
 loop-again : tie.Need-loop-again Inv-loop μ-loop
 loop-again c =
     let p = c .before .before .before in
@@ -84,15 +75,6 @@ loop-again c =
       across-more (a .grid) (a .axis) (a .cast) (l .i) (l .z0) (l .z1) (l .z2) part (omega arith) (omega arith) (omega arith) (c .across-z .ensures ∙ ap (acrossZ (a .cast)) (c .before .centre .ensures)) (l .inv .4),
     )
 
-same-length : tie.Need-same-length Inv-loop μ-loop
-same-length c = omega arith
-
-same-length-2 : tie.Need-same-length-2 Inv-loop μ-loop
-same-length-2 c = omega arith
-
-same-length-3 : tie.Need-same-length-3 Inv-loop μ-loop
-same-length-3 c = omega arith
-
 returns : tie.Need-returns Inv-loop μ-loop
 returns c =
     let p = c .before in
@@ -103,25 +85,9 @@ returns c =
 
 pub fill-across-spec : {M : Type 1} → statement M
 fill-across-spec =
-    tie.close
-    (tie.spec
-    Inv-loop
-    μ-loop
-    count-on-requires
-    loop-holds
-    cast-at
-    centre-requires
-    across-z-requires
-    mul-z0
-    slice-write-z0
-    mul-z1
-    slice-write-z1
-    mul-z2
-    slice-write-z2
-    add-i
-    loop-less
-    loop-again
-    same-length
-    same-length-2
-    same-length-3
-    returns)
+    tie.close (tie.spec
+    Inv-loop μ-loop
+    (λ c κs. search needs) loop-holds cast-at centre-requires
+    (λ c κs. search needs) mul-z0 slice-write-z0 mul-z1 slice-write-z1 mul-z2 slice-write-z2 add-i
+    (λ c. omega arith) loop-again
+    (λ c. omega arith) (λ c. omega arith) (λ c. omega arith) returns)

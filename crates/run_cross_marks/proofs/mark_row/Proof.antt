@@ -32,21 +32,6 @@ loop-holds c =
     let a = c .before .before .before .before .args in
     (omega arith, refl, marked-none (a .z0 .now) (a .z1 .now) (a .z2 .now) (a .ys) (a .flags .now), λ e i h. absurd (not-suc-le-zero h))
 
-three-at-requires : tie.Need-three-at-requires Inv-loop μ-loop
-three-at-requires c κs = omega arith
-
-may-hit-requires : tie.Need-may-hit-requires Inv-loop μ-loop
-may-hit-requires c κs = search needs
-
-slice-write-flags : tie.Need-slice-write-flags Inv-loop μ-loop
-slice-write-flags c = omega arith
-
-add-v : tie.Need-add-v Inv-loop μ-loop
-add-v c = omega arith
-
-loop-less : tie.Need-loop-less Inv-loop μ-loop
-loop-less c = omega arith
-
 loop-again : tie.Need-loop-again Inv-loop μ-loop
 loop-again c =
     let a = c .before .before .before .before .before .before .before .before .args in
@@ -56,9 +41,6 @@ loop-again c =
       marked-more (a .z0 .now) (a .z1 .now) (a .z2 .now) (a .ys) (l .v) (l .flags) (c .may-hit .result) (omega arith) (found c) (l .inv .2),
       none-marked (λ i. mayHit (partsAt (a .z0 .now) (a .z1 .now) (a .z2 .now) i) (a .ys)) (l .any) (c .may-hit .result) (l .v) (found c) (l .inv .3),
     )
-
-same-length : tie.Need-same-length Inv-loop μ-loop
-same-length c = omega arith
 
 returns : tie.Need-returns Inv-loop μ-loop
 returns c =
@@ -71,16 +53,8 @@ returns c =
 
 pub mark-row-spec : {M : Type 1} → statement M
 mark-row-spec =
-    tie.close
-    (tie.spec
-    Inv-loop
-    μ-loop
-    loop-holds
-    three-at-requires
-    may-hit-requires
-    slice-write-flags
-    add-v
-    loop-less
+    tie.close (tie.spec
+    Inv-loop μ-loop loop-holds
+    (λ c κs. omega arith) (λ c κs. search needs) (λ c. omega arith) (λ c. omega arith) (λ c. omega arith)
     loop-again
-    same-length
-    returns)
+    (λ c. omega arith) returns)

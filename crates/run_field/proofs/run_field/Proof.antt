@@ -41,16 +41,8 @@ returns-2 c =
 
 pub run-field-spec : {M : Type 1} → statement M
 run-field-spec =
-    tie.close
-    (tie.spec
+    tie.close (tie.spec
     seed-requires
-    (λ c. search needs)
-    (λ c. search needs)
-    returns
-    spread-seeds-requires
-    (λ c. search needs)
-    (λ c. search needs)
-    (λ c. search needs)
-    (λ c. search needs)
-    (λ c. search needs)
+    (λ c. search needs) (λ c. search needs) returns spread-seeds-requires
+    (λ c. search needs) (λ c. search needs) (λ c. search needs) (λ c. search needs) (λ c. search needs)
     returns-2)

@@ -57,11 +57,8 @@ returns-2 c = let l = c .before .loop in
 
 pub offer-around-spec : {M : Type 1} → statement M
 offer-around-spec =
-    tie.close
-    (tie.spec
-    Inv-loop
-    μ-loop
-    loop-holds
+    tie.close (tie.spec
+    Inv-loop μ-loop loop-holds
     (λ c. omega arith)
     (λ c. omega (arith, c .before .before .before .before .before .before .before .before .before .before .before .before .before .before .before .before .before .pre .1 .1 .2 .to-long))
     (λ c. omega arith)

@@ -20,13 +20,7 @@ returns-2 c =
 
 pub offer-to-spec : {M : Type 1} → statement M
 offer-to-spec =
-    tie.close
-    (tie.spec
-    returns
-    offer-requires
-    (λ c. search needs)
-    (λ c. search needs)
-    (λ c. search needs)
-    (λ c. search needs)
-    (λ c. search needs)
+    tie.close (tie.spec
+    returns offer-requires
+    (λ c. search needs) (λ c. search needs) (λ c. search needs) (λ c. search needs) (λ c. search needs)
     returns-2)

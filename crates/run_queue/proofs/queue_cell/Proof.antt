@@ -23,17 +23,7 @@ returns-2 c = let s = c .before .before .before .before .before .before .before 
 
 pub queue-cell-spec : {M : Type 1} → statement M
 queue-cell-spec =
-    tie.close
-    (tie.spec
-    (λ c. search needs)
-    (λ c. search needs)
-    float-to-bits-distance
-    cast-cell
-    (λ c. search needs)
-    (λ c. search needs)
-    (λ c κs. search needs)
-    (λ c. search needs)
-    (λ c. search needs)
-    (λ c. search needs)
-    returns
-    returns-2)
+    tie.close (tie.spec
+    (λ c. search needs) (λ c. search needs) float-to-bits-distance cast-cell
+    (λ c. search needs) (λ c. search needs) (λ c κs. search needs) (λ c. search needs) (λ c. search needs)
+    (λ c. search needs) returns returns-2)

@@ -51,17 +51,12 @@ returns-2 c =
 
 pub queue-cells-spec : {M : Type 1} → statement M
 queue-cells-spec =
-    tie.close
-    (tie.spec
-    Inv-loop
-    μ-loop
-    loop-holds
-    queue-cell-requires
+    tie.close (tie.spec
+    Inv-loop μ-loop loop-holds queue-cell-requires
     (λ c. omega (arith, c .before .before .before .before .before .before .before .before .queue-cell .kept .1 .1 .1 .1 .1 .1 .1 .0, c .before .before .before .before .before .before .before .before .before .before .before .before .before .loop .inv .0 .long))
     (λ c. omega (arith, c .before .before .before .before .before .before .before .before .queue-cell .kept .1 .1 .1 .1 .1 .1 .1 .1 .0, alike (c .before .before .before .before .before .before .before .before .before .before .before .before .before .loop .inv .0 .long) (c .before .before .before .before .before .before .before .before .before .before .before .before .before .loop .inv .0 .holds) (c .before .before .before .before .before .before .before .before .before .before .before .before .before .before .before .before .before .before .before .before .before .pre .1 .0) .cells-same))
     (λ c. omega (arith, c .before .before .before .before .before .before .before .before .queue-cell .kept .1 .1 .1 .1 .1 .1 .1 .1 .1 .0, alike (c .before .before .before .before .before .before .before .before .before .before .before .before .before .loop .inv .0 .long) (c .before .before .before .before .before .before .before .before .before .before .before .before .before .loop .inv .0 .holds) (c .before .before .before .before .before .before .before .before .before .before .before .before .before .before .before .before .before .before .before .before .before .pre .1 .0) .triangles-same))
-    returns
-    add-c
+    returns add-c
     (λ c. omega (arith, c .before .before .before .before .before .before .before .before .before .before .before .before .loop-test .taken))
     loop-again
     (λ c. omega (arith, c .before .loop .inv .0 .long))

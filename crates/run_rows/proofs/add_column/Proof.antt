@@ -39,41 +39,11 @@ one false = omega arith
 loop-holds : tie.Need-loop-holds Inv-loop μ-loop
 loop-holds c = let a = c .before .before .args in (omega arith, refl, filled-none 0 (more (a .field .now) (a .base) (a .rows .now)) (a .rows .now))
 
-add-counted : tie.Need-add-counted Inv-loop μ-loop
-add-counted c = omega arith
-
-mul-counted : tie.Need-mul-counted Inv-loop μ-loop
-mul-counted c = omega arith
-
-shared-slice-read-counted : tie.Need-shared-slice-read-counted Inv-loop μ-loop
-shared-slice-read-counted c = omega arith
-
-counted-requires : tie.Need-counted-requires Inv-loop μ-loop
-counted-requires c κs = search needs
-
-one-if-requires : tie.Need-one-if-requires Inv-loop μ-loop
-one-if-requires c κs = search needs
-
-mul-rows : tie.Need-mul-rows Inv-loop μ-loop
-mul-rows c = omega arith
-
-slice-read-rows : tie.Need-slice-read-rows Inv-loop μ-loop
-slice-read-rows c = omega arith
-
 add-rows : tie.Need-add-rows Inv-loop μ-loop
 add-rows c =
     let s = c .before .before .before .before .before .before .before .before in
     let z = c .before .before .before .before .before .loop .z in
     omega (arith, stored (c .before), one (counted (getD (s .args .field .now) (s .args .base + z) nan)), s .pre .1 z)
-
-slice-write-rows : tie.Need-slice-write-rows Inv-loop μ-loop
-slice-write-rows c = omega arith
-
-add-z : tie.Need-add-z Inv-loop μ-loop
-add-z c = omega arith
-
-loop-less : tie.Need-loop-less Inv-loop μ-loop
-loop-less c = omega arith
 
 loop-again : tie.Need-loop-again Inv-loop μ-loop
 loop-again c =
@@ -82,9 +52,6 @@ loop-again c =
     let f = filled-more 0 (more (a .field .now) (a .base) (a .rows .now)) (a .rows .now) (l .z) (l .rows) (getD (l .rows) (l .z) 0 + c .before .one-if .result) (omega arith) (stored (c .before)) (l .inv .2) in
     (omega arith, f .long, f)
 
-same-length : tie.Need-same-length Inv-loop μ-loop
-same-length c = omega arith
-
 returns : tie.Need-returns Inv-loop μ-loop
 returns c =
     let l = c .before .loop in
@@ -92,22 +59,9 @@ returns c =
 
 pub add-column-spec : {M : Type 1} → statement M
 add-column-spec =
-    tie.close
-    (tie.spec
-    Inv-loop
-    μ-loop
-    loop-holds
-    add-counted
-    mul-counted
-    shared-slice-read-counted
-    counted-requires
-    one-if-requires
-    mul-rows
-    slice-read-rows
-    add-rows
-    slice-write-rows
-    add-z
-    loop-less
-    loop-again
-    same-length
-    returns)
+    tie.close (tie.spec
+    Inv-loop μ-loop loop-holds
+    (λ c. omega arith) (λ c. omega arith) (λ c. omega arith) (λ c κs. search needs) (λ c κs. search needs)
+    (λ c. omega arith) (λ c. omega arith) add-rows
+    (λ c. omega arith) (λ c. omega arith) (λ c. omega arith) loop-again
+    (λ c. omega arith) returns)

@@ -38,15 +38,6 @@ within c =
 column : (k n : ℕ) → (k + 1) * n ≡ k * n + n
 column k n = omega arith
 
-fill-numbers-requires : tie.Need-fill-numbers-requires Inv-loop μ-loop
-fill-numbers-requires c κs = search needs
-
-layers-requires : tie.Need-layers-requires Inv-loop μ-loop
-layers-requires c κs = tt
-
-cast-height : tie.Need-cast-height Inv-loop μ-loop
-cast-height c = search needs
-
 mul-columns : tie.Need-mul-columns Inv-loop μ-loop
 mul-columns c = record { fits = small (c .before .before .before .before .before .before .before .before) .0 }
 
@@ -104,20 +95,7 @@ returns c =
 
 pub count-rows-spec : {M : Type 1} → statement M
 count-rows-spec =
-    tie.close
-    (tie.spec
-    Inv-loop
-    μ-loop
-    fill-numbers-requires
-    layers-requires
-    cast-height
-    mul-columns
-    cast-columns
-    loop-holds
-    mul-add-column
-    add-column-requires
-    add-k
-    loop-less
-    loop-again
-    same-length
-    returns)
+    tie.close (tie.spec
+    Inv-loop μ-loop
+    (λ c κs. search needs) (λ c κs. tt) (λ c. search needs) mul-columns cast-columns loop-holds mul-add-column
+    add-column-requires add-k loop-less loop-again same-length returns)

@@ -43,12 +43,6 @@ seed-triangle-requires c κs =
     let s = entry l in
     (s .pre .0, (l .loop .inv .2 ∙ s .pre .1 .0 .0, l .loop .inv .3 ∙ s .pre .1 .0 .1))
 
-same-length : tie.Need-same-length Inv-loop μ-loop
-same-length c = omega arith
-
-same-length-2 : tie.Need-same-length-2 Inv-loop μ-loop
-same-length-2 c = omega arith
-
 -- the turn is the triangle's
 turned : (c : tie.After-seed-triangle Inv-loop μ-loop) →
     let a = c .before .before .before in
@@ -65,12 +59,6 @@ returns c =
     let l = o .before .before .before .before .before in
     turns-stop _ _ _ _ _ _ _ _ (l .loop .inv .4) (turned o) (c .if1 .taken) (omega (arith, l .loop .inv .1, o .before .before .before .before .loop-test .taken))
 
-add-k : tie.Need-add-k Inv-loop μ-loop
-add-k c = omega arith
-
-loop-less : tie.Need-loop-less Inv-loop μ-loop
-loop-less c = omega arith
-
 loop-again : tie.Need-loop-again Inv-loop μ-loop
 loop-again c =
     let o = c .before .before .before .before .before in
@@ -82,32 +70,14 @@ loop-again c =
       turns-on _ _ _ _ _ _ (l .loop .inv .4) (turned o) (c .if1 .left),
     )
 
-same-length-3 : tie.Need-same-length-3 Inv-loop μ-loop
-same-length-3 c = omega arith
-
-same-length-4 : tie.Need-same-length-4 Inv-loop μ-loop
-same-length-4 c = omega arith
-
 returns-2 : tie.Need-returns-2 Inv-loop μ-loop
 returns-2 c = let l = c .before .loop .inv in turns-end _ _ _ _ _ (l .4) (omega arith)
 
 pub seed-spec : {M : Type 1} → statement M
 seed-spec =
-    tie.close
-    (tie.spec
-    Inv-loop
-    μ-loop
-    (λ c κs. tt)
-    loop-holds
-    corners-at-requires
-    cast-seed-triangle
-    seed-triangle-requires
-    same-length
-    same-length-2
-    returns
-    add-k
-    loop-less
-    loop-again
-    same-length-3
-    same-length-4
-    returns-2)
+    tie.close (tie.spec
+    Inv-loop μ-loop
+    (λ c κs. tt) loop-holds corners-at-requires cast-seed-triangle seed-triangle-requires
+    (λ c. omega arith) (λ c. omega arith) returns
+    (λ c. omega arith) (λ c. omega arith) loop-again
+    (λ c. omega arith) (λ c. omega arith) returns-2)

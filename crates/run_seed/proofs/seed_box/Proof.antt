@@ -50,18 +50,10 @@ returns-2 c = ends (c .before .loop .inv) (omega arith)
 
 pub seed-box-spec : {M : Type 1} → statement M
 seed-box-spec =
-    tie.close
-    (tie.spec
-    Inv-loop
-    μ-loop
+    tie.close (tie.spec
+    Inv-loop μ-loop
     (λ c. starts)
     seed-plane-requires
-    (λ c. omega arith)
-    (λ c. omega arith)
-    returns
-    add-x
-    (λ c. omega arith)
-    loop-again
-    (λ c. omega arith)
-    (λ c. omega arith)
-    returns-2)
+    (λ c. omega arith) (λ c. omega arith) returns add-x
+    (λ c. omega arith) loop-again
+    (λ c. omega arith) (λ c. omega arith) returns-2)

@@ -64,19 +64,10 @@ returns-2 c = ends (c .before .loop .inv) (omega arith)
 
 pub seed-line-spec : {M : Type 1} → statement M
 seed-line-spec =
-    tie.close
-    (tie.spec
-    Inv-loop
-    μ-loop
+    tie.close (tie.spec
+    Inv-loop μ-loop
     (λ c. starts)
     (λ c κs. c .loop-test .taken)
     offer-four-requires
-    (λ c. omega arith)
-    (λ c. omega arith)
-    returns
-    add-z
-    loop-less
-    loop-again
-    (λ c. omega arith)
-    (λ c. omega arith)
-    returns-2)
+    (λ c. omega arith) (λ c. omega arith) returns add-z loop-less loop-again
+    (λ c. omega arith) (λ c. omega arith) returns-2)

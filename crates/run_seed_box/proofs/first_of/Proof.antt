@@ -17,11 +17,6 @@ returns c =
 
 pub first-of-spec : {M : Type 1} → statement M
 first-of-spec =
-    tie.close
-    (tie.spec
-    (λ c κs. search needs)
-    get-cell-center-requires
-    (λ c κs. search needs)
-    (λ c κs. search needs)
-    (λ c κs. search needs)
-    returns)
+    tie.close (tie.spec
+    (λ c κs. search needs) get-cell-center-requires
+    (λ c κs. search needs) (λ c κs. search needs) (λ c κs. search needs) returns)

@@ -26,10 +26,8 @@ returns c =
 
 pub last-of-spec : {M : Type 1} → statement M
 last-of-spec =
-    tie.close
-    (tie.spec
-    (λ c κs. search needs)
-    get-cell-center-requires
+    tie.close (tie.spec
+    (λ c κs. search needs) get-cell-center-requires
     (λ c κs. on-grid (c .before) .x-below)
     (λ c κs. on-grid (c .before .before) .y-below)
     (λ c κs. on-grid (c .before .before .before) .z-below)

@@ -17,8 +17,7 @@ above i b h = ltb-true 0 i (first (ltb 0 i) h)
 
 pub lowered-spec : {M : Type 1} → statement M
 lowered-spec =
-    tie.close
-    (tie.spec
+    tie.close (tie.spec
     (λ c. let h = above (c .before .args .i) _ (c .if1 .taken) in omega arith)
     (λ c. rw (c .if1 .taken))
     (λ c. rw (c .if1 .left)))

@@ -7,7 +7,6 @@ use Rattle.run_seed_box.proofs.snapped.Tie as tie
 
 pub snapped-spec : {M : Type 1} → statement M
 snapped-spec =
-    tie.close
-    (tie.spec
+    tie.close (tie.spec
     (λ c κs. tt)
     (λ c. ap (λ (s : Snap). s .cell) (c .before .snap-point-to-grid .ensures) ∙ snap-cell (c .before .before .args .grid) (c .before .before .args .p)))

@@ -86,26 +86,15 @@ returns-2 c =
 
 pub offer-four-spec : {M : Type 1} → statement M
 offer-four-spec =
-    tie.close
-    (tie.spec
-    Inv-loop
-    μ-loop
-    squares-from-requires
-    get-cell-idx-requires
+    tie.close (tie.spec
+    Inv-loop μ-loop squares-from-requires get-cell-idx-requires
     (λ c. omega arith)
     (λ c. c .before .before .before .before .before .pre .0 .2)
-    (λ c. omega arith)
-    loop-holds
+    (λ c. omega arith) loop-holds
     (λ c. omega (arith, below (c .before .before)))
     (λ c. omega (arith, few (c .before .before)))
     (λ c. few (c .before .before))
     offer-requires
-    (λ c. omega arith)
-    (λ c. omega arith)
-    returns
-    (λ c. omega arith)
-    (λ c. omega arith)
-    loop-again
-    (λ c. omega arith)
-    (λ c. omega arith)
-    returns-2)
+    (λ c. omega arith) (λ c. omega arith) returns
+    (λ c. omega arith) (λ c. omega arith) loop-again
+    (λ c. omega arith) (λ c. omega arith) returns-2)

@@ -43,18 +43,9 @@ returns c =
 
 pub squares-from-spec : {M : Type 1} → statement M
 squares-from-spec =
-    tie.close
-    (tie.spec
+    tie.close (tie.spec
     get-cell-center-requires
-    (λ c. search needs)
-    centre-on-requires
-    add-centre-on-2
-    centre-on-requires-2
-    add-centre-on-3
+    (λ c. search needs) centre-on-requires add-centre-on-2 centre-on-requires-2 add-centre-on-3
     centre-on-requires-3
-    (λ c. search needs)
-    (λ c. search needs)
-    (λ c. search needs)
-    (λ c. search needs)
-    (λ c κs. search needs)
+    (λ c. search needs) (λ c. search needs) (λ c. search needs) (λ c. search needs) (λ c κs. search needs)
     returns)

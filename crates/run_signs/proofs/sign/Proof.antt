@@ -32,39 +32,12 @@ stored c =
 loop-holds : tie.Need-loop-holds Inv-loop μ-loop
 loop-holds c = let a = c .before .before .args in (omega arith, refl, filled-none nan (signedAt (a .crossings .now) (a .field .now)) (a .field .now))
 
-inside-at-requires : tie.Need-inside-at-requires Inv-loop μ-loop
-inside-at-requires c κs = omega arith
-
-mul-negated-if : tie.Need-mul-negated-if Inv-loop μ-loop
-mul-negated-if c = omega arith
-
-slice-read-negated-if : tie.Need-slice-read-negated-if Inv-loop μ-loop
-slice-read-negated-if c = omega arith
-
-negated-if-requires : tie.Need-negated-if-requires Inv-loop μ-loop
-negated-if-requires c κs = search needs
-
-mul-field : tie.Need-mul-field Inv-loop μ-loop
-mul-field c = omega arith
-
-slice-write-field : tie.Need-slice-write-field Inv-loop μ-loop
-slice-write-field c = omega arith
-
-add-i : tie.Need-add-i Inv-loop μ-loop
-add-i c = omega arith
-
-loop-less : tie.Need-loop-less Inv-loop μ-loop
-loop-less c = omega arith
-
 loop-again : tie.Need-loop-again Inv-loop μ-loop
 loop-again c =
     let a = c .before .before .before .before .before .before .before .args in
     let l = c .before .before .before .before .loop in
     let f = filled-more nan (signedAt (a .crossings .now) (a .field .now)) (a .field .now) (l .i) (l .field) (c .negated-if .result) (omega arith) (stored c) (l .inv .2) in
     (omega arith, f .long, f)
-
-same-length : tie.Need-same-length Inv-loop μ-loop
-same-length c = omega arith
 
 returns : tie.Need-returns Inv-loop μ-loop
 unfolding signedBy
@@ -75,19 +48,8 @@ returns c =
 
 pub sign-spec : {M : Type 1} → statement M
 sign-spec =
-    tie.close
-    (tie.spec
-    Inv-loop
-    μ-loop
-    loop-holds
-    inside-at-requires
-    mul-negated-if
-    slice-read-negated-if
-    negated-if-requires
-    mul-field
-    slice-write-field
-    add-i
-    loop-less
-    loop-again
-    same-length
-    returns)
+    tie.close (tie.spec
+    Inv-loop μ-loop loop-holds
+    (λ c κs. omega arith) (λ c. omega arith) (λ c. omega arith) (λ c κs. search needs) (λ c. omega arith)
+    (λ c. omega arith) (λ c. omega arith) (λ c. omega arith) loop-again
+    (λ c. omega arith) returns)

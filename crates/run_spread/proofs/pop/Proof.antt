@@ -24,17 +24,11 @@ returns c =
 
 pub pop-spec : {M : Type 1} → statement M
 pop-spec =
-    tie.close
-    (tie.spec
-    (λ c κs. search needs)
-    (λ c. search needs)
-    (λ c. search needs)
-    look-around-requires
+    tie.close (tie.spec
+    (λ c κs. search needs) (λ c. search needs) (λ c. search needs) look-around-requires
     (λ c. omega (arith, c .before .before .before .before .before .before .before .before .before .before .before .before .before .before .before .before .before .before .before .before .before .before .before .pre .1 .1 .1))
     (λ c. omega (arith, c .before .before .before .before .before .before .before .before .before .before .before .before .before .before .before .before .before .before .before .before .before .before .before .before .pre .1 .1 .2))
-    (λ c. search needs)
-    (λ c. search needs)
-    offer-around-requires
+    (λ c. search needs) (λ c. search needs) offer-around-requires
     (λ c. omega (arith, c .before .before .before .before .before .before .before .before .before .before .offer-around .kept .1 .1 .1 .1 .1 .0))
     (λ c. omega (arith, c .before .before .before .before .before .before .before .before .before .before .offer-around .kept .1 .1 .1 .1 .1 .1 .0))
     (λ c. omega (arith, c .before .before .before .before .before .before .before .before .before .before .offer-around .kept .1 .1 .1 .1 .1 .1 .1 .0, c .before .before .before .before .before .before .before .before .before .before .before .before .before .before .before .before .before .before .before .before .before .before .before .before .before .before .before .before .before .before .take .kept .0))

@@ -56,11 +56,8 @@ returns-3 c = spread-ends (c .before .before .loop .inv .0) (c .if1 .left)
 
 pub spread-spec : {M : Type 1} → statement M
 spread-spec =
-    tie.close
-    (tie.spec
-    Inv-loop
-    μ-loop
-    loop-holds
+    tie.close (tie.spec
+    Inv-loop μ-loop loop-holds
     (λ c κs. search needs)
     (λ c. omega (arith, alike (c .before .before .before .before .before .before .loop .inv .0 .long) (c .before .before .before .before .before .before .loop .inv .0 .holds) (c .before .before .before .before .before .before .before .before .before .before .before .before .before .before .pre .1 .0) .field-same))
     (λ c. omega (arith, alike (c .before .before .before .before .before .before .loop .inv .0 .long) (c .before .before .before .before .before .before .loop .inv .0 .holds) (c .before .before .before .before .before .before .before .before .before .before .before .before .before .before .pre .1 .0) .names-same))
@@ -68,16 +65,13 @@ spread-spec =
     (λ c. omega (arith, alike (c .before .before .before .before .before .before .loop .inv .0 .long) (c .before .before .before .before .before .before .loop .inv .0 .holds) (c .before .before .before .before .before .before .before .before .before .before .before .before .before .before .pre .1 .0) .cells-same))
     (λ c. omega (arith, alike (c .before .before .before .before .before .before .loop .inv .0 .long) (c .before .before .before .before .before .before .loop .inv .0 .holds) (c .before .before .before .before .before .before .before .before .before .before .before .before .before .before .pre .1 .0) .triangles-same))
     returns
-    (λ c. search needs)
-    pop-requires
+    (λ c. search needs) pop-requires
     (λ c. omega (arith, c .before .before .before .before .before .before .before .before .before .before .before .before .pop .kept .1 .1 .1 .1 .1 .1 .0, alike (c .before .before .before .before .before .before .before .before .before .before .before .before .before .before .before .before .before .before .before .before .before .before .before .before .loop .inv .0 .long) (c .before .before .before .before .before .before .before .before .before .before .before .before .before .before .before .before .before .before .before .before .before .before .before .before .loop .inv .0 .holds) (c .before .before .before .before .before .before .before .before .before .before .before .before .before .before .before .before .before .before .before .before .before .before .before .before .before .before .before .before .before .before .before .before .pre .1 .0) .field-same))
     (λ c. omega (arith, c .before .before .before .before .before .before .before .before .before .before .before .before .pop .kept .1 .1 .1 .1 .1 .1 .1 .0, alike (c .before .before .before .before .before .before .before .before .before .before .before .before .before .before .before .before .before .before .before .before .before .before .before .before .loop .inv .0 .long) (c .before .before .before .before .before .before .before .before .before .before .before .before .before .before .before .before .before .before .before .before .before .before .before .before .loop .inv .0 .holds) (c .before .before .before .before .before .before .before .before .before .before .before .before .before .before .before .before .before .before .before .before .before .before .before .before .before .before .before .before .before .before .before .before .pre .1 .0) .names-same))
     (λ c. omega (arith, c .before .before .before .before .before .before .before .before .before .before .before .before .pop .kept .1 .1 .1 .1 .1 .1 .1 .1 .0, c .before .before .before .before .before .before .before .before .before .before .before .before .before .before .before .before .before .before .before .before .before .before .before .before .loop .inv .0 .long))
     (λ c. omega (arith, c .before .before .before .before .before .before .before .before .before .before .before .before .pop .kept .1 .1 .1 .1 .1 .1 .1 .1 .1 .0, alike (c .before .before .before .before .before .before .before .before .before .before .before .before .before .before .before .before .before .before .before .before .before .before .before .before .loop .inv .0 .long) (c .before .before .before .before .before .before .before .before .before .before .before .before .before .before .before .before .before .before .before .before .before .before .before .before .loop .inv .0 .holds) (c .before .before .before .before .before .before .before .before .before .before .before .before .before .before .before .before .before .before .before .before .before .before .before .before .before .before .before .before .before .before .before .before .pre .1 .0) .cells-same))
     (λ c. omega (arith, c .before .before .before .before .before .before .before .before .before .before .before .before .pop .kept .1 .1 .1 .1 .1 .1 .1 .1 .1 .1 .0, alike (c .before .before .before .before .before .before .before .before .before .before .before .before .before .before .before .before .before .before .before .before .before .before .before .before .loop .inv .0 .long) (c .before .before .before .before .before .before .before .before .before .before .before .before .before .before .before .before .before .before .before .before .before .before .before .before .loop .inv .0 .holds) (c .before .before .before .before .before .before .before .before .before .before .before .before .before .before .before .before .before .before .before .before .before .before .before .before .before .before .before .before .before .before .before .before .pre .1 .0) .triangles-same))
-    returns-2
-    loop-less
-    loop-again
+    returns-2 loop-less loop-again
     (λ c. omega (arith, alike (c .before .before .loop .inv .0 .long) (c .before .before .loop .inv .0 .holds) (c .before .before .before .before .before .before .before .before .before .before .pre .1 .0) .field-same))
     (λ c. omega (arith, alike (c .before .before .loop .inv .0 .long) (c .before .before .loop .inv .0 .holds) (c .before .before .before .before .before .before .before .before .before .before .pre .1 .0) .names-same))
     (λ c. omega (arith, c .before .before .loop .inv .0 .long))

@@ -45,21 +45,12 @@ add-s c =
 slice-write-s : tie.Need-slice-write-s Inv-loop μ-loop
 slice-write-s c = let h = here (c .before) in omega arith
 
-add-i : tie.Need-add-i Inv-loop μ-loop
-add-i c = omega arith
-
-loop-less : tie.Need-loop-less Inv-loop μ-loop
-loop-less c = omega arith
-
 loop-again : tie.Need-loop-again Inv-loop μ-loop
 loop-again c =
     let a = c .before .before .before .args in
     let l = c .before .before .loop in
     let s = stepped-more (a .start) (a .step) (l .i) (a .s .now) (l .s) (c .before .before .before .pre .1 .0) (here (c .before)) (l .inv .2) in
     (omega arith, s .long, s)
-
-same-length : tie.Need-same-length Inv-loop μ-loop
-same-length c = omega arith
 
 returns : tie.Need-returns Inv-loop μ-loop
 returns c =
@@ -70,19 +61,7 @@ returns c =
 
 pub add-each-spec : {M : Type 1} → statement M
 add-each-spec =
-    tie.close
-    (tie.spec
-    Inv-loop
-    μ-loop
-    loop-holds
-    mul-at
-    add-at
-    mul-s
-    slice-read-s
-    add-s
-    slice-write-s
-    add-i
-    loop-less
-    loop-again
-    same-length
-    returns)
+    tie.close (tie.spec
+    Inv-loop μ-loop loop-holds mul-at add-at mul-s slice-read-s add-s slice-write-s
+    (λ c. omega arith) (λ c. omega arith) loop-again
+    (λ c. omega arith) returns)

@@ -82,25 +82,14 @@ returns-2 c =
 
 pub run-text-by-spec : {M : Type 1} → statement M
 run-text-by-spec =
-    tie.close
-    (tie.spec
+    tie.close (tie.spec
     returns
-    (λ c κs. tt)
-    (λ c κs. tt)
-    (λ c. search needs)
-    (λ c. search needs)
-    (λ c κs. search needs)
-    (λ c. search needs)
-    (λ c. search needs)
-    (λ c κs. search needs)
-    (λ c. search needs)
-    mul-n
+    (λ c κs. tt) (λ c κs. tt) (λ c. search needs) (λ c. search needs) (λ c κs. search needs)
+    (λ c. search needs) (λ c. search needs) (λ c κs. search needs) (λ c. search needs) mul-n
     (λ c. bits-fit (c .before .before))
     (λ c. sym (length-take-le _ _ (bits-fit (c .before .before .before))))
     (λ c. indices-fit (c .before .before .before))
     (λ c. sym (length-take-le _ _ (indices-fit (c .before .before .before .before))))
     answer-job-requires
-    (λ c. search needs)
-    returns-2
-    (λ c. search needs)
-    returns-3)
+    (λ c. search needs) returns-2
+    (λ c. search needs) returns-3)

@@ -123,8 +123,7 @@ returns-6 c =
 
 pub read-job-spec : {M : Type 1} → statement M
 read-job-spec =
-    tie.close
-    (tie.spec
+    tie.close (tie.spec
     (λ c κs. tt)
     (λ c. c .match .keys1)
     (λ c. c .match .keys2)
@@ -132,24 +131,14 @@ read-job-spec =
     (λ c κs. search needs)
     (λ c. c .match2 .keys1)
     (λ c. c .match2 .keys2)
-    (λ c. search needs)
-    returns-2
+    (λ c. search needs) returns-2
     (λ c κs. search needs)
     (λ c. c .match3 .keys1)
     (λ c. c .match3 .keys2)
-    (λ c. search needs)
-    (λ c. search needs)
-    returns-3
+    (λ c. search needs) (λ c. search needs) returns-3
     (λ c κs. tt)
     (λ c. c .match4 .keys1)
     (λ c. c .match4 .keys2)
-    (λ c. search needs)
-    (λ c. search needs)
-    returns-4
-    (λ c. search needs)
-    (λ c. search needs)
-    returns-5
-    (λ c. search needs)
-    (λ c. search needs)
-    (λ c. search needs)
-    returns-6)
+    (λ c. search needs) (λ c. search needs) returns-4
+    (λ c. search needs) (λ c. search needs) returns-5
+    (λ c. search needs) (λ c. search needs) (λ c. search needs) returns-6)

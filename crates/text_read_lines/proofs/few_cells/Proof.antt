@@ -33,5 +33,7 @@ mul-result c =
 
 pub few-cells-spec : {M : Type 1} → statement M
 few-cells-spec =
-    tie.close
-    (tie.spec (λ c. search needs) (λ c. search needs) mul-layer returns (λ c. search needs) mul-result (λ c. search needs))
+    tie.close (tie.spec
+    (λ c. search needs) (λ c. search needs) mul-layer returns
+    (λ c. search needs) mul-result
+    (λ c. search needs))

@@ -18,11 +18,6 @@ returns-2 c =
 
 pub floats-line-spec : {M : Type 1} → statement M
 floats-line-spec =
-    tie.close
-    (tie.spec
-    (λ c κs. search needs)
-    (λ c. search needs)
-    (λ c. search needs)
-    returns
-    (λ c κs. search needs)
-    returns-2)
+    tie.close (tie.spec
+    (λ c κs. search needs) (λ c. search needs) (λ c. search needs) returns
+    (λ c κs. search needs) returns-2)

@@ -45,20 +45,12 @@ loop-again c =
 
 pub index-lines-spec : {M : Type 1} → statement M
 index-lines-spec =
-    tie.close
-    (tie.spec
-    Inv-loop
-    μ-loop
-    loop-holds
-    (λ c κs. tt)
-    (λ c. search needs)
-    (λ c. search needs)
-    (λ c. search needs)
-    returns
+    tie.close (tie.spec
+    Inv-loop μ-loop loop-holds
+    (λ c κs. tt) (λ c. search needs) (λ c. search needs) (λ c. search needs) returns
     (λ c. omega (arith, reach (c .before .before .before .before)))
     (λ c. omega (arith, reach (c .before .before .before .before)))
     (λ c. omega (arith, reach (c .before .before .before .before)))
-    (λ c. search needs)
-    loop-again
+    (λ c. search needs) loop-again
     (λ c. search needs)
     (λ c. stored-all indexAt take (c .before .loop .inv) (c .loop-test .left)))

@@ -27,16 +27,12 @@ returns-3 c =
 
 pub tail-spec : {M : Type 1} → statement M
 tail-spec =
-    tie.close
-    (tie.spec
-    (λ c. refl)
-    (λ c κs. tt)
+    tie.close (tie.spec
+    (λ c. refl) (λ c κs. tt)
     (λ c. c .match .keys1)
     (λ c. c .match .keys2)
     returns
-    (λ c. refl)
-    (λ c κs. tt)
+    (λ c. refl) (λ c κs. tt)
     (λ c. c .match2 .keys1)
     (λ c. c .match2 .keys2)
-    returns-2
-    returns-3)
+    returns-2 returns-3)

@@ -40,16 +40,9 @@ loop-again c =
 
 pub vertex-lines-spec : {M : Type 1} → statement M
 vertex-lines-spec =
-    tie.close
-    (tie.spec
-    Inv-loop
-    μ-loop
-    loop-holds
-    (λ c κs. tt)
-    (λ c. search needs)
-    (λ c. search needs)
-    (λ c. search needs)
-    returns
+    tie.close (tie.spec
+    Inv-loop μ-loop loop-holds
+    (λ c κs. tt) (λ c. search needs) (λ c. search needs) (λ c. search needs) returns
     (λ c. let h = reach (c .before .before .before .before) in omega arith)
     (λ c. let h = reach (c .before .before .before .before) in omega arith)
     (λ c. let h = reach (c .before .before .before .before) in omega arith)

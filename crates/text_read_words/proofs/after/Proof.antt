@@ -39,17 +39,9 @@ returns-3 c = sym (c .before .loop .inv .1 ∙ word-end _ _ (c .before .before .
 
 pub after-spec : {M : Type 1} → statement M
 after-spec =
-    tie.close
-    (tie.spec
-    Inv-loop
-    μ-loop
+    tie.close (tie.spec
+    Inv-loop μ-loop
     (λ c. (search needs, refl))
     returns
-    (λ c. search needs)
-    (λ c. search needs)
-    returns-2
-    (λ c. omega arith)
-    (λ c. omega arith)
-    (λ c. omega arith)
-    loop-again
-    returns-3)
+    (λ c. search needs) (λ c. search needs) returns-2
+    (λ c. omega arith) (λ c. omega arith) (λ c. omega arith) loop-again returns-3)

@@ -76,29 +76,11 @@ returns-7 c = sym (c .before .loop .inv .1 ∙ digits-past _ _ _ _ (c .loop-test
 
 pub decimal-spec : {M : Type 1} → statement M
 decimal-spec =
-    tie.close
-    (tie.spec
-    Inv-loop
-    μ-loop
-    returns
-    (λ c. search needs)
-    (λ c κs. search needs)
-    returns-2
-    (λ c. search needs)
-    loop-holds
-    (λ c. search needs)
-    (λ c. search needs)
-    returns-3
-    returns-4
-    (λ c κs. search needs)
-    returns-5
-    (λ c. search needs)
-    (λ c. search needs)
-    (λ c. search needs)
-    (λ c. search needs)
-    returns-6
-    (λ c. search needs)
-    (λ c. search needs)
-    (λ c. search needs)
-    loop-again
-    returns-7)
+    tie.close (tie.spec
+    Inv-loop μ-loop returns
+    (λ c. search needs) (λ c κs. search needs) returns-2
+    (λ c. search needs) loop-holds
+    (λ c. search needs) (λ c. search needs) returns-3 returns-4
+    (λ c κs. search needs) returns-5
+    (λ c. search needs) (λ c. search needs) (λ c. search needs) (λ c. search needs) returns-6
+    (λ c. search needs) (λ c. search needs) (λ c. search needs) loop-again returns-7)

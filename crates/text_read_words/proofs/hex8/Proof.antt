@@ -76,25 +76,15 @@ fits c = small (c .before .loop .i) (c .before .loop .value) (c .before .loop .i
 
 pub hex8-spec : {M : Type 1} → statement M
 hex8-spec =
-    tie.close
-    (tie.spec
-    Inv-loop
-    μ-loop
+    tie.close (tie.spec
+    Inv-loop μ-loop
     (λ c. (omega arith, omega arith, refl))
     returns
-    (λ c. search needs)
-    (λ c κs. search needs)
-    returns-2
+    (λ c. search needs) (λ c κs. search needs) returns-2
     (λ c. let h = fits (c .before .before .before .before) in omega arith)
     (λ c. search needs)
     (λ c. let h = fits (c .before .before .before .before) in omega arith)
-    (λ c. search needs)
-    (λ c. search needs)
-    (λ c. search needs)
-    loop-again
-    returns-3
-    (λ c. search needs)
-    returns-4
+    (λ c. search needs) (λ c. search needs) (λ c. search needs) loop-again returns-3
+    (λ c. search needs) returns-4
     (λ c. let l = c .before .before .before .before .loop in let h = small (l .i) (l .value) (l .inv .0) (l .inv .1) in omega arith)
-    (λ c. search needs)
-    returns-5)
+    (λ c. search needs) returns-5)

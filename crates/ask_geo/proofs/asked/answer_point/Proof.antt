@@ -7,8 +7,7 @@ use Rattle.ask_geo.proofs.asked.answer_point.Tie as tie
 
 pub answer-point-spec : {M : Type 1} → statement M
 answer-point-spec =
-    tie.close
-    (tie.spec
+    tie.close (tie.spec
     (λ c κs. tt)
     (λ c. no-number pointNan _ (c .before .before .if1 .taken) (sym (c .before .point-nan .ensures) ∙ c .if2 .taken))
     (λ c. given pointNan _ (c .before .before .if1 .taken) (sym (c .before .point-nan .ensures) ∙ c .if2 .left))

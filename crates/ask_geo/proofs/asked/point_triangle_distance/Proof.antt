@@ -24,4 +24,5 @@ returns-3 : tie.Need-returns-3
 returns-3 c = outside isNan _ (rw (c .before .within4 .ensures, c .before .before .within3 .ensures, c .before .before .before .within2 .ensures, c .before .before .before .before .within .ensures) at (c .if1 .left))
 
 pub point-triangle-distance-spec : {M : Type 1} → statement M
-point-triangle-distance-spec = tie.close (tie.spec (λ c κs. tt) (λ c κs. tt) (λ c κs. tt) (λ c κs. tt) (λ c κs. tt) returns returns-2 returns-3)
+point-triangle-distance-spec = tie.close (tie.spec
+    (λ c κs. tt) (λ c κs. tt) (λ c κs. tt) (λ c κs. tt) (λ c κs. tt) returns returns-2 returns-3)

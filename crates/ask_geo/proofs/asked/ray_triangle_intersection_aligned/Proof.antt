@@ -18,4 +18,5 @@ returns-2 c =
     outside rayNan (rayAligned (s .o) (s .v0) (s .v1) (s .v2) (s .axis)) (rw (c .before .within4 .ensures, c .before .before .within3 .ensures, c .before .before .before .within2 .ensures, c .before .before .before .before .within .ensures) at (c .if1 .left))
 
 pub ray-triangle-intersection-aligned-spec : {M : Type 1} → statement M
-ray-triangle-intersection-aligned-spec = tie.close (tie.spec (λ c κs. tt) (λ c κs. tt) (λ c κs. tt) (λ c κs. tt) (λ c κs. tt) returns returns-2)
+ray-triangle-intersection-aligned-spec = tie.close (tie.spec
+    (λ c κs. tt) (λ c κs. tt) (λ c κs. tt) (λ c κs. tt) (λ c κs. tt) returns returns-2)

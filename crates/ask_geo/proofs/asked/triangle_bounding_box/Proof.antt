@@ -15,4 +15,5 @@ returns-2 : tie.Need-returns-2
 returns-2 c = outside boxNan _ (rw (c .before .within3 .ensures, c .before .before .within2 .ensures, c .before .before .before .within .ensures) at (c .if1 .left))
 
 pub triangle-bounding-box-spec : {M : Type 1} → statement M
-triangle-bounding-box-spec = tie.close (tie.spec (λ c κs. tt) (λ c κs. tt) (λ c κs. tt) (λ c κs. tt) returns returns-2)
+triangle-bounding-box-spec = tie.close (tie.spec
+    (λ c κs. tt) (λ c κs. tt) (λ c κs. tt) (λ c κs. tt) returns returns-2)

@@ -5,9 +5,7 @@ use Rattle.grid.proofs.Grid.from_bounding_box.Tie as tie
 
 pub from-bounding-box-spec : {M : Type 1} → statement M
 from-bounding-box-spec =
-    tie.close
-    (tie.spec
-    (λ c κs. tt)
-    (λ c κs. tt)
+    tie.close (tie.spec
+    (λ c κs. tt) (λ c κs. tt)
     (λ c. rw (← c .before .before .from-bounding-box .ensures, fails (c .before .in-bounds .ensures) (c .if1 .taken)))
     (λ c. rw (← c .before .before .from-bounding-box .ensures, passes (c .before .in-bounds .ensures) (c .if1 .left))))

@@ -5,8 +5,7 @@ use Rattle.grid.proofs.Grid.get_bounding_box.Tie as tie
 
 pub get-bounding-box-spec : {M : Type 1} → statement M
 get-bounding-box-spec =
-    tie.close
-    (tie.spec
+    tie.close (tie.spec
     (λ c κs. tt)
     (λ c. rw (fails (c .before .in-bounds .ensures) (c .if1 .taken)))
     (λ c κs. tt)

@@ -6,8 +6,7 @@ use Rattle.grid.proofs.Grid.get_cell_center.Tie as tie
 
 pub get-cell-center-spec : {M : Type 1} → statement M
 get-cell-center-spec =
-    tie.close
-    (tie.spec
+    tie.close (tie.spec
     (λ c κs. tt)
     (λ c. rw (fails (c .before .in-bounds .ensures) (c .if1 .taken)))
     (λ c κs. tt)

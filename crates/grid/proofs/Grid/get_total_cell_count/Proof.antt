@@ -5,8 +5,7 @@ use Rattle.grid.proofs.Grid.get_total_cell_count.Tie as tie
 
 pub get-total-cell-count-spec : {M : Type 1} → statement M
 get-total-cell-count-spec =
-    tie.close
-    (tie.spec
+    tie.close (tie.spec
     (λ c κs. tt)
     (λ c. rw (fails (c .before .in-bounds .ensures) (c .if1 .taken)))
     (λ c κs. passes (c .before .in-bounds .ensures) (c .if1 .left))

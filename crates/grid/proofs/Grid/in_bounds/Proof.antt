@@ -27,11 +27,8 @@ fit c =
 pub in-bounds-spec : {M : Type 1} → statement M
 unfolding inBounds
 in-bounds-spec =
-    tie.close
-    (tie.spec
-    (λ c κs. tt)
-    (λ c κs. tt)
-    (λ c κs. tt)
+    tie.close (tie.spec
+    (λ c κs. tt) (λ c κs. tt) (λ c κs. tt)
     (λ c. rw (found (c .before) ∙ not-true _ (c .if1 .taken)))
     (λ c. record { fits = fit (c .before) .0 })
     (λ c. record { fits = fit (c .before .before) .1 })

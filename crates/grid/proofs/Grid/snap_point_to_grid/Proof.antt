@@ -5,8 +5,7 @@ use Rattle.grid.proofs.Grid.snap_point_to_grid.Tie as tie
 
 pub snap-point-to-grid-spec : {M : Type 1} → statement M
 snap-point-to-grid-spec =
-    tie.close
-    (tie.spec
+    tie.close (tie.spec
     (λ c κs. tt)
     (λ c. rw (fails (c .before .in-bounds .ensures) (c .if1 .taken)))
     (λ c κs. tt)

@@ -6,14 +6,8 @@ use Rattle.grid.proofs.parts.get_bounding_box.Tie as tie
 pub get-bounding-box-spec : {M : Type 1} → statement M
 unfolding boxMin boxMax
 get-bounding-box-spec =
-    tie.close
-    (tie.spec
-    (λ c κs. tt)
-    (λ c κs. tt)
-    (λ c κs. tt)
-    (λ c κs. tt)
-    (λ c κs. tt)
-    (λ c κs. tt)
+    tie.close (tie.spec
+    (λ c κs. tt) (λ c κs. tt) (λ c κs. tt) (λ c κs. tt) (λ c κs. tt) (λ c κs. tt)
     (λ c.
     rw (
       c .before .before .before .before .before .low-on .ensures,

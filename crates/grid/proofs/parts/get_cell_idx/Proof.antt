@@ -14,8 +14,7 @@ parts c = parts-fit (c .args .grid) (c .args .cell) (c .pre .0) (c .pre .1)
 pub get-cell-idx-spec : {M : Type 1} → statement M
 unfolding index
 get-cell-idx-spec =
-    tie.close
-    (tie.spec
+    tie.close (tie.spec
     (λ c. record { fits = parts (c .before .before) .y-nz })
     (λ c. record { fits = parts (c .before .before .before) .z-y })
     (λ c. record { fits = parts (c .before .before .before .before .before) .x-ny })

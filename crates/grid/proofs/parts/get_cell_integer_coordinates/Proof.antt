@@ -13,8 +13,7 @@ bound c = bounds-of (c .args .grid) (c .pre)
 pub get-cell-integer-coordinates-spec : {M : Type 1} → statement M
 unfolding coordinates
 get-cell-integer-coordinates-spec =
-    tie.close
-    (tie.spec
+    tie.close (tie.spec
     (λ c. let b = bound (c .before) in record { fits = counts-fit _ _ _ (b .on-y .few) (b .on-z .few) (b .on-x .few) .0 })
     (λ c. let b = bound (c .before) in mul-pos (b .on-y .some) (b .on-z .some))
     (λ c. let b = bound (c .before .before) in omega arith)

@@ -6,9 +6,6 @@ use Rattle.grid.proofs.parts.get_last_cell.Tie as tie
 pub get-last-cell-spec : {M : Type 1} → statement M
 unfolding lastCell
 get-last-cell-spec =
-    tie.close
-    (tie.spec
-    (λ c κs. tt)
-    (λ c κs. tt)
-    (λ c κs. tt)
+    tie.close (tie.spec
+    (λ c κs. tt) (λ c κs. tt) (λ c κs. tt)
     (λ c. rw (c .before .before .end-on .ensures, c .before .end-on2 .ensures, c .end-on3 .ensures)))

@@ -10,8 +10,7 @@ fit c = let b = bounds-of (c .args .grid) (c .pre) in counts-fit _ _ _ (b .on-x 
 
 pub get-total-cell-count-spec : {M : Type 1} → statement M
 get-total-cell-count-spec =
-    tie.close
-    (tie.spec
+    tie.close (tie.spec
     (λ c. record { fits = fit (c .before) .0 })
     (λ c. record { fits = fit (c .before .before) .1 })
     (λ c. search needs))

@@ -28,10 +28,7 @@ past c = rw (c .before .before .snap-on .ensures .past, c .before .snap-on2 .ens
 pub snap-point-to-grid-spec : {M : Type 1} → statement M
 unfolding snap
 snap-point-to-grid-spec =
-    tie.close
-    (tie.spec
-    (λ c κs. tt)
-    (λ c κs. tt)
-    (λ c κs. tt)
+    tie.close (tie.spec
+    (λ c κs. tt) (λ c κs. tt) (λ c κs. tt)
     (λ c. let b = c .before .before .before .before in ap (found Outside) (snapped b) ∙ sym (rw (past b ∙ c .if1 .taken)))
     (λ c. let b = c .before .before .before .before in ap (found Inside) (snapped b) ∙ sym (rw (past b ∙ c .if1 .left))))

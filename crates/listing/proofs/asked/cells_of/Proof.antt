@@ -9,5 +9,6 @@ mul-result c = record { fits = wide-product (search needs) (search needs) }
 
 pub cells-of-spec : {M : Type 1} → statement M
 cells-of-spec =
-    tie.close
-    (tie.spec (λ c. search needs) (λ c. search needs) mul-result (λ c. search needs) (λ c. search needs) (λ c. search needs))
+    tie.close (tie.spec
+    (λ c. search needs) (λ c. search needs) mul-result
+    (λ c. search needs) (λ c. search needs) (λ c. search needs))

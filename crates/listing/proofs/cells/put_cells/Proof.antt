@@ -31,20 +31,11 @@ loop-again c =
 
 pub put-cells-spec : {M : Type 1} → statement M
 put-cells-spec =
-    tie.close
-    (tie.spec
-    Inv-loop
-    μ-loop
+    tie.close (tie.spec
+    Inv-loop μ-loop
     (λ c. no-lines _ _ _ _ _)
-    (λ c. omega arith)
-    (λ c. omega arith)
-    (λ c. omega arith)
-    (λ c κs. tt)
-    (λ c. omega arith)
-    (λ c. omega arith)
-    put-cell-requires
-    (λ c. omega arith)
-    (λ c. omega arith)
-    loop-again
+    (λ c. omega arith) (λ c. omega arith) (λ c. omega arith) (λ c κs. tt) (λ c. omega arith)
+    (λ c. omega arith) put-cell-requires
+    (λ c. omega arith) (λ c. omega arith) loop-again
     (λ c. c .before .loop .inv .put .long)
     (λ c. lines-all _ _ _ _ _ (c .before .loop .inv) (c .loop-test .left)))

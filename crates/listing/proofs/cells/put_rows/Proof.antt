@@ -30,17 +30,10 @@ loop-again c =
 
 pub put-rows-spec : {M : Type 1} → statement M
 put-rows-spec =
-    tie.close
-    (tie.spec
-    Inv-loop
-    μ-loop
+    tie.close (tie.spec
+    Inv-loop μ-loop
     (λ c. no-lines _ _ _ _ _)
-    (λ c. omega arith)
-    (λ c. omega arith)
-    (λ c. omega arith)
-    put-row-requires
-    (λ c. omega arith)
-    (λ c. omega arith)
-    loop-again
+    (λ c. omega arith) (λ c. omega arith) (λ c. omega arith) put-row-requires
+    (λ c. omega arith) (λ c. omega arith) loop-again
     (λ c. c .before .loop .inv .put .long)
     (λ c. lines-all _ _ _ _ _ (c .before .loop .inv) (c .loop-test .left)))

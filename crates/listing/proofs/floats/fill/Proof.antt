@@ -21,28 +21,10 @@ abbrev μ-loop : tie.MeasureT-loop
 loop-holds : tie.Need-loop-holds Inv-loop μ-loop
 loop-holds c = (c .before .before .pre, omega arith, filled-none f0 _ (c .before .before .args .floats .now))
 
-mul-float-of : tie.Need-mul-float-of Inv-loop μ-loop
-mul-float-of c = omega arith
-
-shared-slice-read-float-of : tie.Need-shared-slice-read-float-of Inv-loop μ-loop
-shared-slice-read-float-of c = omega arith
-
-float-of-requires : tie.Need-float-of-requires Inv-loop μ-loop
-float-of-requires c κs = tt
-
-mul-floats : tie.Need-mul-floats Inv-loop μ-loop
-mul-floats c = omega arith
-
 slice-write-floats : tie.Need-slice-write-floats Inv-loop μ-loop
 slice-write-floats c =
     let l = c .before .before .before .loop in
     omega (arith, l .inv .0, l .inv .2 .long)
-
-add-i : tie.Need-add-i Inv-loop μ-loop
-add-i c = omega arith
-
-loop-less : tie.Need-loop-less Inv-loop μ-loop
-loop-less c = omega arith
 
 loop-again : tie.Need-loop-again Inv-loop μ-loop
 loop-again c =
@@ -64,18 +46,7 @@ returns c =
 
 pub fill-spec : {M : Type 1} → statement M
 fill-spec =
-    tie.close
-    (tie.spec
-    Inv-loop
-    μ-loop
-    loop-holds
-    mul-float-of
-    shared-slice-read-float-of
-    float-of-requires
-    mul-floats
-    slice-write-floats
-    add-i
-    loop-less
-    loop-again
-    same-length
-    returns)
+    tie.close (tie.spec
+    Inv-loop μ-loop loop-holds
+    (λ c. omega arith) (λ c. omega arith) (λ c κs. tt) (λ c. omega arith) slice-write-floats
+    (λ c. omega arith) (λ c. omega arith) loop-again same-length returns)

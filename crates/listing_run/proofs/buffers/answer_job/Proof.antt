@@ -59,17 +59,9 @@ returns c =
 
 pub answer-job-spec : {M : Type 1} → statement M
 answer-job-spec =
-    tie.close
-    (tie.spec
-    (λ c κs. search needs)
-    (λ c κs. tt)
-    (λ c. search needs)
-    (λ c κs. tt)
-    (λ c. search needs)
+    tie.close (tie.spec
+    (λ c κs. search needs) (λ c κs. tt) (λ c. search needs) (λ c κs. tt) (λ c. search needs)
     (λ c. sym (front-long (c .before)))
     (λ c κs. front-long (c .before))
-    array-share-prefix-floats
-    slice-aggregate-list-run
-    (λ c κs. search needs)
-    (λ c. search needs)
-    returns)
+    array-share-prefix-floats slice-aggregate-list-run
+    (λ c κs. search needs) (λ c. search needs) returns)

@@ -38,12 +38,8 @@ returns c =
 
 pub list-outcome-spec : {M : Type 1} → statement M
 list-outcome-spec =
-    tie.close
-    (tie.spec
-    (λ c κs. tt)
-    (λ c κs. tt)
-    (λ c κs. tt)
-    put-listing-requires
+    tie.close (tie.spec
+    (λ c κs. tt) (λ c κs. tt) (λ c κs. tt) put-listing-requires
     (λ c. ran c .generate-grid-sdf .kept .1 .1 .1 .1 .1 .0)
     (λ c. ran c .generate-grid-sdf .kept .1 .1 .1 .1 .1 .1 .0)
     (λ c. ran c .generate-grid-sdf .kept .1 .1 .1 .1 .1 .1 .1 .0)

@@ -42,10 +42,8 @@ returns c =
 
 pub list-records-spec : {M : Type 1} → statement M
 list-records-spec =
-    tie.close
-    (tie.spec
-    (λ c κs. tt)
-    (λ c κs. tt)
+    tie.close (tie.spec
+    (λ c κs. tt) (λ c κs. tt)
     (λ c κs. c .before .before .before .before .before .before .before .before .before .before .before .before .before .before .before .pre .1)
     put-listing-requires
     (λ c. ran c .run-records .kept .1 .1 .1 .1 .1 .0)

@@ -118,33 +118,14 @@ returns-2 c =
 
 pub list-run-spec : {M : Type 1} → statement M
 list-run-spec =
-    tie.close
-    (tie.spec
-    (λ c κs. tt)
-    (λ c κs. tt)
-    (λ c κs. tt)
-    (λ c κs. tt)
-    (λ c. search needs)
-    (λ c. search needs)
+    tie.close (tie.spec
+    (λ c κs. tt) (λ c κs. tt) (λ c κs. tt) (λ c κs. tt) (λ c. search needs) (λ c. search needs)
     slice-aggregate-field
-    (λ c. search needs)
-    slice-aggregate-names
-    (λ c. search needs)
-    slice-aggregate-crossings
-    (λ c. search needs)
-    slice-aggregate-rows
-    list-records-requires
-    (λ c. search needs)
-    returns
-    (λ c κs. tt)
-    (λ c κs. tt)
-    (λ c κs. tt)
-    (λ c. search needs)
-    slice-aggregate-list-outcome
-    (λ c. search needs)
-    slice-aggregate-list-outcome-2
-    (λ c. search needs)
-    slice-aggregate-list-outcome-3
-    list-outcome-requires
-    (λ c. search needs)
-    returns-2)
+    (λ c. search needs) slice-aggregate-names
+    (λ c. search needs) slice-aggregate-crossings
+    (λ c. search needs) slice-aggregate-rows list-records-requires
+    (λ c. search needs) returns
+    (λ c κs. tt) (λ c κs. tt) (λ c κs. tt) (λ c. search needs) slice-aggregate-list-outcome
+    (λ c. search needs) slice-aggregate-list-outcome-2
+    (λ c. search needs) slice-aggregate-list-outcome-3 list-outcome-requires
+    (λ c. search needs) returns-2)

@@ -17,12 +17,6 @@ never c =
 
 pub put-listing-spec : {M : Type 1} → statement M
 put-listing-spec =
-    tie.close
-    (tie.spec
-    (λ c κs. tt)
-    (λ c. search needs)
-    (λ c. search needs)
-    (λ c. search needs)
-    written
-    (λ c. search needs)
-    never)
+    tie.close (tie.spec
+    (λ c κs. tt) (λ c. search needs) (λ c. search needs) (λ c. search needs) written
+    (λ c. search needs) never)

@@ -5,13 +5,7 @@ use Rattle.replay_steps.proofs.geometry.distance.Tie as tie
 
 pub distance-spec : {M : Type 1} → statement M
 distance-spec =
-    tie.close
-    (tie.spec
-    (λ c κs. search needs)
-    (λ c κs. search needs)
-    (λ c κs. search needs)
-    (λ c κs. search needs)
-    (λ c κs. search needs)
-    (λ c κs. search needs)
-    (λ c κs. search needs)
+    tie.close (tie.spec
+    (λ c κs. search needs) (λ c κs. search needs) (λ c κs. search needs) (λ c κs. search needs)
+    (λ c κs. search needs) (λ c κs. search needs) (λ c κs. search needs)
     (λ c. rw (c .is-real .ensures, c .before .is-word .ensures, c .before .before .sdf-point-triangle-distance .ensures, c .before .before .before .point4 .ensures, c .before .before .before .before .point3 .ensures, c .before .before .before .before .before .point2 .ensures, c .before .before .before .before .before .before .point .ensures)))

@@ -5,9 +5,6 @@ use Rattle.replay_steps.proofs.words.grid.Tie as tie
 
 pub grid-spec : {M : Type 1} → statement M
 grid-spec =
-    tie.close
-    (tie.spec
-    (λ c κs. search needs)
-    (λ c κs. search needs)
-    (λ c κs. search needs)
+    tie.close (tie.spec
+    (λ c κs. search needs) (λ c κs. search needs) (λ c κs. search needs)
     (λ c. rw (c .cell .ensures, c .before .point2 .ensures, c .before .before .point .ensures)))

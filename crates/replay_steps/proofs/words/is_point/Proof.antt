@@ -5,11 +5,7 @@ use Rattle.replay_steps.proofs.words.is_point.Tie as tie
 
 pub is-point-spec : {M : Type 1} → statement M
 is-point-spec =
-    tie.close
-    (tie.spec
-    (λ c κs. search needs)
-    (λ c. search needs)
-    (λ c κs. search needs)
-    (λ c. search needs)
+    tie.close (tie.spec
+    (λ c κs. search needs) (λ c. search needs) (λ c κs. search needs) (λ c. search needs)
     (λ c κs. search needs)
     (λ c. rw (c .is-real3 .ensures, c .before .is-real2 .ensures, c .before .before .is-real .ensures)))

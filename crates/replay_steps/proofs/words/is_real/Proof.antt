@@ -7,8 +7,7 @@ use Rattle.replay_steps.proofs.words.is_real.Tie as tie
 
 pub is-real-spec : {M : Type 1} → statement M
 is-real-spec =
-    tie.close
-    (tie.spec
+    tie.close (tie.spec
     (λ c κs. search needs)
     (λ c. rw (c .before .word .ensures, nan-pattern _ (c .if1 .taken)))
     (λ c. is-number _ (c .if1 .left))

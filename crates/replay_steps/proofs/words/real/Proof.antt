@@ -10,8 +10,7 @@ use Rattle.replay_steps.proofs.words.real.Tie as tie
 
 pub real-spec : {M : Type 1} → statement M
 real-spec =
-    tie.close
-    (tie.spec
+    tie.close (tie.spec
     (λ c κs. search needs)
     (λ c. no-number ∙ sym (nan-at _ (c .if1 .taken)) ∙ ap (ofBits binary32) (c .before .word .ensures))
     (λ c. bits-no-nan _ (omega arith))

@@ -20,10 +20,8 @@ decided NotANumber false o e = cc
 
 pub sdf-compare-distances-spec : {M : Type 1} → statement M
 sdf-compare-distances-spec =
-    tie.close
-    (tie.spec
-    (λ c κs. tt)
-    (λ c κs. tt)
+    tie.close (tie.spec
+    (λ c κs. tt) (λ c κs. tt)
     (λ c.
     let s = c .before .before .args in
     rw (c .order-answer .ensures, decided (c .before .compare .result) (isNan (s .a) || isNan (s .b)) (order (s .a) (s .b)) (c .before .compare .ensures .value))))

@@ -4,12 +4,6 @@ use Rattle.sdf_c.proofs.geometry.sdf_point_triangle_distance.Tie as tie
 
 pub sdf-point-triangle-distance-spec : {M : Type 1} → statement M
 sdf-point-triangle-distance-spec =
-    tie.close
-    (tie.spec
-    (λ c κs. tt)
-    (λ c κs. tt)
-    (λ c κs. tt)
-    (λ c κs. tt)
-    (λ c κs. tt)
-    (λ c κs. tt)
+    tie.close (tie.spec
+    (λ c κs. tt) (λ c κs. tt) (λ c κs. tt) (λ c κs. tt) (λ c κs. tt) (λ c κs. tt)
     (λ c. rw (c .distance-answer .ensures, c .before .point-triangle-distance .ensures, c .before .before .point4 .ensures, c .before .before .before .point3 .ensures, c .before .before .before .before .point2 .ensures, c .before .before .before .before .before .point .ensures)))

@@ -5,9 +5,7 @@ use Rattle.sdf_c.proofs.job.answer_out.Tie as tie
 
 pub answer-out-spec : {M : Type 1} → statement M
 answer-out-spec =
-    tie.close
-    (tie.spec
-    (λ c. search needs)
-    (λ c. search needs)
+    tie.close (tie.spec
+    (λ c. search needs) (λ c. search needs)
     (λ c. rw (c .before .a .given .1))
     (λ c. rw (c .before .a2 .given .1)))

@@ -6,15 +6,6 @@ use Rattle.text_write.proofs.Puts.{said, andThen}
 use Rattle.text_write.proofs.lines.put_number.Statement.{statement}
 use Rattle.text_write.proofs.lines.put_number.Tie as tie
 
-put-all-requires : tie.Need-put-all-requires
-put-all-requires c κs = search needs
-
-put-value-then-requires : tie.Need-put-value-then-requires
-put-value-then-requires c κs = search needs
-
-same-length : tie.Need-same-length
-same-length c = search needs
-
 returns : tie.Need-returns
 returns c =
     let n = c .before .before in
@@ -23,4 +14,4 @@ returns c =
 
 pub put-number-spec : {M : Type 1} → statement M
 put-number-spec =
-    tie.close (tie.spec put-all-requires put-value-then-requires same-length returns)
+    tie.close (tie.spec (λ c κs. search needs) (λ c κs. search needs) (λ c. search needs) returns)

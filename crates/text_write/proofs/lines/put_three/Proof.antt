@@ -6,21 +6,6 @@ use Rattle.text_write.proofs.Puts.{said, andThen, three-words}
 use Rattle.text_write.proofs.lines.put_three.Statement.{statement}
 use Rattle.text_write.proofs.lines.put_three.Tie as tie
 
-put-all-requires : tie.Need-put-all-requires
-put-all-requires c κs = search needs
-
-put-value-then-requires : tie.Need-put-value-then-requires
-put-value-then-requires c κs = search needs
-
-put-value-then-requires-2 : tie.Need-put-value-then-requires-2
-put-value-then-requires-2 c κs = search needs
-
-put-value-then-requires-3 : tie.Need-put-value-then-requires-3
-put-value-then-requires-3 c κs = search needs
-
-same-length : tie.Need-same-length
-same-length c = search needs
-
 returns : tie.Need-returns
 returns c =
     let z = c .before .before in
@@ -33,11 +18,6 @@ returns c =
 
 pub put-three-spec : {M : Type 1} → statement M
 put-three-spec =
-    tie.close
-    (tie.spec
-    put-all-requires
-    put-value-then-requires
-    put-value-then-requires-2
-    put-value-then-requires-3
-    same-length
-    returns)
+    tie.close (tie.spec
+    (λ c κs. search needs) (λ c κs. search needs) (λ c κs. search needs) (λ c κs. search needs)
+    (λ c. search needs) returns)

@@ -4,18 +4,6 @@ use borrow.Author.Tests.{lt-ltb, le-ltb}
 use Rattle.text_write.proofs.numbers.hex_digit.Statement.{statement}
 use Rattle.text_write.proofs.numbers.hex_digit.Tie as tie
 
-cast-result : tie.Need-cast-result
-cast-result c = search needs
-
-add-result : tie.Need-add-result
-add-result c = search needs
-
-cast-result-2 : tie.Need-cast-result-2
-cast-result-2 c = search needs
-
-add-result-2 : tie.Need-add-result-2
-add-result-2 c = search needs
-
 returns : tie.Need-returns
 returns c = simp (lt-ltb _ _ (c .if1 .taken))
 
@@ -23,4 +11,5 @@ returns-2 : tie.Need-returns-2
 returns-2 c = simp (le-ltb _ _ (c .if1 .left))
 
 pub hex-digit-spec : {M : Type 1} → statement M
-hex-digit-spec = tie.close (tie.spec cast-result add-result cast-result-2 add-result-2 returns returns-2)
+hex-digit-spec = tie.close (tie.spec
+    (λ c. search needs) (λ c. search needs) (λ c. search needs) (λ c. search needs) returns returns-2)

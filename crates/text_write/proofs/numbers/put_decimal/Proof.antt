@@ -8,13 +8,12 @@ use Rattle.text_write.proofs.numbers.put_decimal.Tie as tie
 put-digits-requires : tie.Need-put-digits-requires
 put-digits-requires c κs = (search needs, all-few (c .before .before .args .n) (search needs))
 
-same-length : tie.Need-same-length
-same-length c = search needs
-
 returns : tie.Need-returns
 returns c =
     let p = c .before .before .put-digits .ensures in
     (p, omega (arith, p .next, few 9 (c .before .before .before .before .before .args .n)))
 
 pub put-decimal-spec : {M : Type 1} → statement M
-put-decimal-spec = tie.close (tie.spec put-digits-requires same-length returns)
+put-decimal-spec = tie.close (tie.spec
+    put-digits-requires
+    (λ c. search needs) returns)

@@ -5,16 +5,11 @@ use Rattle.text_write.proofs.Spelled.{hex-long}
 use Rattle.text_write.proofs.numbers.put_hex8.Statement.{statement}
 use Rattle.text_write.proofs.numbers.put_hex8.Tie as tie
 
-put-hex-requires : tie.Need-put-hex-requires
-put-hex-requires c κs = search needs
-
-same-length : tie.Need-same-length
-same-length c = search needs
-
 returns : tie.Need-returns
 returns c =
     let p = c .before .before .put-hex .ensures in
     (p, omega (arith, p .next, hex-long 8 (c .before .before .before .before .before .args .b)))
 
 pub put-hex8-spec : {M : Type 1} → statement M
-put-hex8-spec = tie.close (tie.spec put-hex-requires same-length returns)
+put-hex8-spec = tie.close (tie.spec
+    (λ c κs. search needs) (λ c. search needs) returns)

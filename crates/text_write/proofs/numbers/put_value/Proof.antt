@@ -22,13 +22,8 @@ returns-2 c =
 
 pub put-value-spec : {M : Type 1} → statement M
 put-value-spec =
-    tie.close
-    (tie.spec
-    (λ c. search needs)
-    put-decimal-requires
-    (λ c. search needs)
-    put-hex8-requires
-    (λ c. search needs)
-    returns
-    (λ c. search needs)
-    returns-2)
+    tie.close (tie.spec
+    (λ c. search needs) put-decimal-requires
+    (λ c. search needs) put-hex8-requires
+    (λ c. search needs) returns
+    (λ c. search needs) returns-2)

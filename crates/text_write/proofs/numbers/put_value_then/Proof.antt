@@ -4,15 +4,6 @@ use Rattle.text_write.proofs.Puts.{andThen}
 use Rattle.text_write.proofs.numbers.put_value_then.Statement.{statement}
 use Rattle.text_write.proofs.numbers.put_value_then.Tie as tie
 
-put-value-requires : tie.Need-put-value-requires
-put-value-requires c κs = search needs
-
-put-requires : tie.Need-put-requires
-put-requires c κs = search needs
-
-same-length : tie.Need-same-length
-same-length c = search needs
-
 returns : tie.Need-returns
 returns c =
     let b = c .before .before in
@@ -20,4 +11,5 @@ returns c =
     (andThen (v .put-value .ensures .0) (b .put .ensures), search needs)
 
 pub put-value-then-spec : {M : Type 1} → statement M
-put-value-then-spec = tie.close (tie.spec put-value-requires put-requires same-length returns)
+put-value-then-spec = tie.close (tie.spec
+    (λ c κs. search needs) (λ c κs. search needs) (λ c. search needs) returns)

@@ -46,17 +46,10 @@ returns c =
 
 pub put-index-lines-spec : {M : Type 1} → statement M
 put-index-lines-spec =
-    tie.close
-    (tie.spec
-    Inv-loop
-    μ-loop
+    tie.close (tie.spec
+    Inv-loop μ-loop
     (λ c. no-lines _ _ _ _ _)
-    (λ c. search needs)
-    (λ c. omega arith)
-    (λ c. omega arith)
-    put-number-requires
-    (λ c. omega arith)
-    (λ c. omega arith)
-    loop-again
+    (λ c. search needs) (λ c. omega arith) (λ c. omega arith) put-number-requires
+    (λ c. omega arith) (λ c. omega arith) loop-again
     (λ c. c .before .loop .inv .put .long)
     returns)

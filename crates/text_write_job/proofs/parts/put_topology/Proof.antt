@@ -21,15 +21,7 @@ strip c =
 
 pub put-topology-spec : {M : Type 1} → statement M
 put-topology-spec =
-    tie.close
-    (tie.spec
-    (λ c. search needs)
-    (λ c. search needs)
-    (λ c κs. search needs)
-    (λ c. search needs)
-    (λ c. search needs)
-    (λ c κs. search needs)
-    (λ c. search needs)
-    list
-    (λ c. search needs)
-    strip)
+    tie.close (tie.spec
+    (λ c. search needs) (λ c. search needs) (λ c κs. search needs) (λ c. search needs) (λ c. search needs)
+    (λ c κs. search needs) (λ c. search needs) list
+    (λ c. search needs) strip)

@@ -42,11 +42,6 @@ returns c =
 
 pub put-job-spec : {M : Type 1} → statement M
 put-job-spec =
-    tie.close
-    (tie.spec
-    (λ c κs. search needs)
-    (λ c κs. search needs)
-    put-indices-requires
-    put-tail-requires
-    (λ c. search needs)
-    returns)
+    tie.close (tie.spec
+    (λ c κs. search needs) (λ c κs. search needs) put-indices-requires put-tail-requires
+    (λ c. search needs) returns)

@@ -13,16 +13,7 @@ written c = (search needs, c .before .before .put-job .ensures)
 
 pub write-job-spec : {M : Type 1} → statement M
 write-job-spec =
-    tie.close
-    (tie.spec
-    (λ c. search needs)
-    (λ c. search needs)
-    too-many-vertices
-    (λ c. search needs)
-    (λ c. search needs)
-    (λ c κs. search needs)
-    (λ c. search needs)
-    (λ c. search needs)
-    (λ c κs. search needs)
-    (λ c. search needs)
-    written)
+    tie.close (tie.spec
+    (λ c. search needs) (λ c. search needs) too-many-vertices
+    (λ c. search needs) (λ c. search needs) (λ c κs. search needs) (λ c. search needs) (λ c. search needs)
+    (λ c κs. search needs) (λ c. search needs) written)
