@@ -5,28 +5,49 @@ use Rattle.run_offer.proofs.Offers.{not-below, offered-nan, offered-pas
 use Rattle.run_offer.proofs.offer.Statement.{statement}
 use Rattle.run_offer.proofs.offer.Tie as tie
 
+-- the entry, from the test of the square; where the square was found to be a number, from where its root is known
+abbrev entry : tie.After-slice-known5 → tie.Start
+entry c = c .before .before .before .before .before .before .before
+
+abbrev number : tie.After-sqrt → tie.Else1
+number c = c .before .before .before .before
+
 returns : tie.Need-returns
 returns c =
-    let s = c .before .before .before .before .before .before .before .before .before in
-    rw (c .refused .ensures) (offered-nan (s .args .at) (s .args .k) (s .args .c) (s .args .q) (s .pre .1 .0) (s .pre .1 .1 .3) (c .before .if1 .taken))
+    let t = c .before in
+    let s = entry (t .before) in
+    let a = s .args in
+    rw (c .refused .ensures) (offered-nan (a .at) (a .k) (a .c) (a .q) (s .pre .1 .0) (s .pre .1 .1 .3) (t .if1 .taken))
 
 returns-2 : tie.Need-returns-2
 returns-2 c =
-    let s = c .before .before .before .before .before .before .before .before .before .before .before in
-    offered-passed (s .args .at) (s .args .k) (s .args .c) (s .args .q) (s .pre .1 .0) (s .pre .1 .1 .0) (s .pre .1 .1 .3) (c .before .before .before .if1 .left) (c .before .root-not-below .ensures .not-below (c .if2 .taken))
+    let n = c .before .before .before in
+    let s = entry (n .before) in
+    let a = s .args in
+    let not-less = c .before .root-not-below .ensures .not-below (c .if2 .taken) in
+    offered-passed (a .at) (a .k) (a .c) (a .q) (s .pre .1 .0) (s .pre .1 .1 .0) (s .pre .1 .1 .3) (n .if1 .left) not-less
 
 float-to-bits-distance : tie.Need-float-to-bits-distance
 float-to-bits-distance c = less-no-nan _ _ (c .if3 .taken)
 
 returns-3 : tie.Need-returns-3
 returns-3 c =
-    let s = c .before .before .before .before .before .before .before .before .before .before .before .before .before .before .before .before .before .before .before .before .before .before .before in
-    offered-taken (s .args .at) (s .args .k) (s .args .c) (s .args .q) (s .pre .1 .0) (s .pre .1 .1 .1) (s .pre .1 .1 .2) (s .pre .1 .1 .3) (c .before .before .before .before .before .before .before .before .before .before .before .before .before .before .before .if1 .left) (c .before .before .before .before .before .before .before .before .before .before .before .sqrt .ensures .is) (c .before .before .before .before .before .before .before .before .before .before .if3 .taken) (c .before .before .before .before .before .before .enqueue .ensures)
+    let queued = c .before .before .before .before .before .before in
+    let nearer = queued .before .before .before .before in
+    let root = nearer .before in
+    let s = entry (number root .before) in
+    let a = s .args in
+    let p = s .pre .1 .1 in
+    offered-taken (a .at) (a .k) (a .c) (a .q) (s .pre .1 .0) (p .1) (p .2) (p .3)
+    (number root .if1 .left) (root .sqrt .ensures .is) (nearer .if3 .taken) (queued .enqueue .ensures)
 
 returns-4 : tie.Need-returns-4
 returns-4 c =
-    let s = c .before .before .before .before .before .before .before .before .before .before .before .before .before in
-    offered-passed (s .args .at) (s .args .k) (s .args .c) (s .args .q) (s .pre .1 .0) (s .pre .1 .1 .0) (s .pre .1 .1 .3) (c .before .before .before .before .before .if1 .left) (not-below _ (c .before .sqrt .ensures .is) (c .if3 .left))
+    let root = c .before in
+    let s = entry (number root .before) in
+    let a = s .args in
+    let not-less = not-below _ (root .sqrt .ensures .is) (c .if3 .left) in
+    offered-passed (a .at) (a .k) (a .c) (a .q) (s .pre .1 .0) (s .pre .1 .1 .0) (s .pre .1 .1 .3) (number root .if1 .left) not-less
 
 pub offer-spec : {M : Type 1} → statement M
 offer-spec =
