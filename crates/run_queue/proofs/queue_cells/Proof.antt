@@ -1,65 +1,98 @@
 -- `queue_cells`: the loop's turns are those of `queueing`. Assumes nothing.
 use Prim.Native.Nat.{ℕ, _-_, _≤_, _<_}
 use native.Mathlib.Omega.{arith}
-use mathlib.Core.Path.{subst}
+use mathlib.Core.Path.{_∙_, subst}
 use lib.ListN.{length}
 use Rattle.grid.specs.Index.{total}
 use Rattle.mesh.specs.Mesh.{meshOf}
 use Rattle.run.specs.Run.{queueCell}
 use Rattle.run_queue.proofs.Queues.{cell-small, all-cells}
-use Rattle.run_state.proofs.Loops.{told-as, After, begins, goes-on, stops, ends, alike, at-end}
+use Rattle.run_state.proofs.Loops.{told-as, After, begins, goes-on, stops, ends, Alike, alike, at-end}
 use Rattle.run_queue.proofs.queue_cells.Statement.{statement}
 use Rattle.run_queue.proofs.queue_cells.Tie as tie
 
 abbrev Inv-loop : tie.InvT-loop
 Inv-loop grid vertices topology given indices field names distances₀ cells₀ triangles₀ reached₀ c₀ distances cells triangles reached c =
-    After grid (meshOf vertices topology given indices) queueCell field names distances₀ cells₀ triangles₀ reached₀ c field names distances cells triangles reached
+    After grid (meshOf vertices topology given indices) queueCell field names distances₀ cells₀ triangles₀ reached₀ c
+    field names distances cells triangles reached
     × (c ≤ length field)
 
 abbrev μ-loop : tie.MeasureT-loop
 μ-loop grid vertices topology given indices field names distances₀ cells₀ triangles₀ reached₀ c₀ distances cells triangles reached c =
     length field - c
 
+-- the entry; the turn, from where its cell is queued; the queueing, from where its result is looked at
+abbrev entry : tie.At-loop Inv-loop μ-loop → tie.Start Inv-loop μ-loop
+entry l = l .before .before .before .before .before .before .before .before
+
+abbrev turning : tie.After-queue-cell-arg3 Inv-loop μ-loop → tie.In-loop Inv-loop μ-loop
+turning c = c .before .before .before
+
+abbrev queued : tie.After-struct-known Inv-loop μ-loop → tie.After-queue-cell Inv-loop μ-loop
+queued c = c .before .before .before .before .before .before .before
+
+-- the lengths are those of the entry, at the loop's head and behind a cell's queueing
+alike-at : (l : tie.At-loop Inv-loop μ-loop) →
+    let o = l .loop in
+    let a = entry l .args in
+    Alike (a .field .now) (a .field .now) (a .names .now) (o .distances) (o .cells) (o .triangles)
+    (a .names .now) (a .distances .now) (a .cells .now) (a .triangles .now)
+alike-at l = alike (l .loop .inv .0 .long) (l .loop .inv .0 .holds) (entry l .pre .1 .0)
+
+alike-behind : (q : tie.After-queue-cell Inv-loop μ-loop) →
+    let x = q .queue-cell .last .1 .1 .1 .1 .1 .1 .1 in
+    let a = entry (turning (q .before) .before) .args in
+    Alike (a .field .now) (a .field .now) (a .names .now) (x .0) (x .1 .0) (x .1 .1 .0)
+    (a .names .now) (a .distances .now) (a .cells .now) (a .triangles .now)
+alike-behind q =
+    let l = turning (q .before) .before in
+    alike (q .queue-cell .kept .1 .1 .1 .1 .1 .1 .1 .0 ∙ l .loop .inv .0 .long) (q .queue-cell .ensures .holds) (entry l .pre .1 .0)
+
 loop-holds : tie.Need-loop-holds Inv-loop μ-loop
-loop-holds c = (begins queueCell (c .before .before .before .before .before .before .before .pre .1 .1 .1) (c .before .before .before .before .before .before .before .pre .1 .0), omega arith)
+loop-holds c = let s = c .before .before .before .before .before .before .before in (begins queueCell (s .pre .1 .1 .1) (s .pre .1 .0), omega arith)
 
 queue-cell-requires : tie.Need-queue-cell-requires Inv-loop μ-loop
 queue-cell-requires c κs =
-    let s = c .before .before .before .before .before .before .before .before .before .before .before .before in
-    let a = c .before .before .before .before .loop .inv .0 in
-    (s .pre .0, (a .holds, (s .pre .1 .1 .0, (a .fine, c .before .before .before .loop-test .taken))))
+    let i = turning c in
+    let s = entry (i .before) in
+    let a = i .before .loop .inv .0 in
+    (s .pre .0, (a .holds, (s .pre .1 .1 .0, (a .fine, i .loop-test .taken))))
 
 returns : tie.Need-returns Inv-loop μ-loop
 returns c =
-    let s = c .before .before .before .before .before .before .before .before .before .before .before .before .before .before .before .before .before .before .before .before .before in
-    told-as (all-cells (s .args .grid) _)
-    (stops queueCell (total (s .args .grid)) (c .before .before .before .before .before .before .before .before .before .before .before .before .before .loop .inv .0) (c .before .before .before .before .before .before .before .before .queue-cell .ensures) (c .if1 .taken) (subst (λ (n : ℕ). c .before .before .before .before .before .before .before .before .before .before .before .before .before .loop .c < n) (s .pre .1 .0 .field-long) (c .before .before .before .before .before .before .before .before .before .before .before .before .loop-test .taken)))
+    let q = queued (c .before) in
+    let i = turning (q .before) in
+    let s = entry (i .before) in
+    let l = i .before .loop in
+    let below = subst (λ (n : ℕ). l .c < n) (s .pre .1 .0 .field-long) (i .loop-test .taken) in
+    told-as (all-cells (s .args .grid) _) (stops queueCell (total (s .args .grid)) (l .inv .0) (q .queue-cell .ensures) (c .if1 .taken) below)
 
 loop-again : tie.Need-loop-again Inv-loop μ-loop
-loop-again c = (goes-on queueCell (c .before .before .before .before .before .before .before .before .before .before .before .before .before .loop .inv .0) (c .before .before .before .before .before .before .before .before .queue-cell .ensures) (c .before .before .before .before .before .before .before .before .queue-cell .kept .1 .1 .1 .1 .1 .1 .1 .0) (c .if1 .left), omega (arith, c .before .before .before .before .before .before .before .before .before .before .before .before .loop-test .taken))
+loop-again c =
+    let q = queued (c .before) in
+    let i = turning (q .before) in
+    let kept = q .queue-cell .kept .1 .1 .1 .1 .1 .1 .1 .0 in
+    (goes-on queueCell (i .before .loop .inv .0) (q .queue-cell .ensures) kept (c .if1 .left), omega (arith, i .loop-test .taken))
 
 add-c : tie.Need-add-c Inv-loop μ-loop
 add-c c =
-    let s = c .before .before .before .before .before .before .before .before .before .before .before .before .before .before .before .before .before .before .before .before .before in
-    omega (arith, cell-small (s .args .grid) _ _ (s .pre .0 .bounded) (s .pre .1 .0 .field-long) (c .before .before .before .before .before .before .before .before .before .before .before .before .loop-test .taken))
+    let i = turning (queued (c .before) .before) in
+    let s = entry (i .before) in
+    omega (arith, cell-small (s .args .grid) _ _ (s .pre .0 .bounded) (s .pre .1 .0 .field-long) (i .loop-test .taken))
 
 returns-2 : tie.Need-returns-2 Inv-loop μ-loop
 returns-2 c =
-    let l = c .before .loop in
-    told-as (all-cells (c .before .before .before .before .before .before .before .before .before .args .grid) _)
-    (ends queueCell (total (c .before .before .before .before .before .before .before .before .before .args .grid)) (l .inv .0) (at-end _ _ _ (c .before .before .before .before .before .before .before .before .before .pre .1 .0 .field-long) (l .inv .1) (c .loop-test .left)))
+    let i = c .before .loop .inv in
+    let s = entry (c .before) in
+    told-as (all-cells (s .args .grid) _)
+    (ends queueCell (total (s .args .grid)) (i .0) (at-end _ _ _ (s .pre .1 .0 .field-long) (i .1) (c .loop-test .left)))
 
 pub queue-cells-spec : {M : Type 1} → statement M
 queue-cells-spec =
     tie.close (tie.spec
     Inv-loop μ-loop loop-holds queue-cell-requires
-    (λ c. omega (arith, c .before .before .before .before .before .before .before .before .queue-cell .kept .1 .1 .1 .1 .1 .1 .1 .0, c .before .before .before .before .before .before .before .before .before .before .before .before .before .loop .inv .0 .long))
-    (λ c. omega (arith, c .before .before .before .before .before .before .before .before .queue-cell .kept .1 .1 .1 .1 .1 .1 .1 .1 .0, alike (c .before .before .before .before .before .before .before .before .before .before .before .before .before .loop .inv .0 .long) (c .before .before .before .before .before .before .before .before .before .before .before .before .before .loop .inv .0 .holds) (c .before .before .before .before .before .before .before .before .before .before .before .before .before .before .before .before .before .before .before .before .before .pre .1 .0) .cells-same))
-    (λ c. omega (arith, c .before .before .before .before .before .before .before .before .queue-cell .kept .1 .1 .1 .1 .1 .1 .1 .1 .1 .0, alike (c .before .before .before .before .before .before .before .before .before .before .before .before .before .loop .inv .0 .long) (c .before .before .before .before .before .before .before .before .before .before .before .before .before .loop .inv .0 .holds) (c .before .before .before .before .before .before .before .before .before .before .before .before .before .before .before .before .before .before .before .before .before .pre .1 .0) .triangles-same))
-    returns add-c
-    (λ c. omega (arith, c .before .before .before .before .before .before .before .before .before .before .before .before .loop-test .taken))
-    loop-again
-    (λ c. omega (arith, c .before .loop .inv .0 .long))
-    (λ c. omega (arith, alike (c .before .loop .inv .0 .long) (c .before .loop .inv .0 .holds) (c .before .before .before .before .before .before .before .before .before .pre .1 .0) .cells-same))
-    (λ c. omega (arith, alike (c .before .loop .inv .0 .long) (c .before .loop .inv .0 .holds) (c .before .before .before .before .before .before .before .before .before .pre .1 .0) .triangles-same))
+    (λ c. alike-behind (queued (c .before)) .distances-same) (λ c. alike-behind (queued (c .before)) .cells-same)
+    (λ c. alike-behind (queued (c .before)) .triangles-same) returns add-c
+    (λ c. let i = turning (queued (c .before) .before) in omega (arith, i .loop-test .taken)) loop-again
+    (λ c. alike-at (c .before) .distances-same) (λ c. alike-at (c .before) .cells-same) (λ c. alike-at (c .before) .triangles-same)
     returns-2)
