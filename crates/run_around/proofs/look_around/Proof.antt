@@ -1,6 +1,7 @@
 -- `look_around`: what is gathered from the entry's cell, and the squares for its triangle. Assumes nothing.
 use borrow.Author.Needs.{needs}
 use mathlib.Core.Path.{refl, sym, ap, _∙_}
+use Rattle.grid.specs.Index.{Inside}
 use Rattle.grid.proofs.Laws.{cell-within}
 use Rattle.geo_closest.specs.Closest.{facetOf}
 use Rattle.mesh.specs.declared.Corners.{Corners}
@@ -12,31 +13,45 @@ use Rattle.run_around.proofs.look_around.Tie as tie
 abbrev mesh : tie.Start → Mesh
 mesh s = meshOf (s .args .vertices .now) (s .args .topology) (s .args .given) (s .args .indices .now)
 
+-- from each call back to the one before it: the entry, the cell of the entry that is given, and what is gathered around it
+abbrev entry : tie.After-facet-of → tie.Start
+entry c = c .before .before .before .before .before .before .before .before
+
+abbrev located : tie.After-zs → tie.After-get-cell-integer-coordinates
+located c = c .before .before .before .before
+
+abbrev gathered : tie.After-squares-on-arg → tie.After-gather
+gathered c = c .before .before .before .before .before .before .before .before .before
+
+inside : (l : tie.After-get-cell-integer-coordinates) → Inside (entry (l .before) .args .grid) (l .get-cell-integer-coordinates .result)
+inside l = rw (l .get-cell-integer-coordinates .ensures) (cell-within (entry (l .before) .pre .1 .0 .cell-below))
+
 gather-requires : tie.Need-gather-requires
 gather-requires c κs =
-    let s = c .before .before .before .before .before .before .before .before .before .before .before .before .before in
-    ((s .pre .0 .bounded, rw (c .before .before .before .before .get-cell-integer-coordinates .ensures) (cell-within (s .pre .1 .0 .cell-below)), s .pre .1 .1 .0), (s .pre .1 .1 .1, refl, refl, refl))
+    let s = entry (located c .before) in
+    ((s .pre .0 .bounded, inside (located c), s .pre .1 .1 .0), (s .pre .1 .1 .1, refl, refl, refl))
 
 squares-on-requires : tie.Need-squares-on-requires
 squares-on-requires c κs =
-    let s = c .before .before .before .before .before .before .before .before .before .before .before .before .before .before .before .before .before .before .before .before .before .before .before in
-    let l = gathered-long (c .before .before .before .before .before .before .before .before .before .gather .ensures) in
+    let s = entry (located (gathered c .before) .before) in
+    let l = gathered-long (gathered c .gather .ensures) in
     (l .1 ∙ sym (l .0), l .2 ∙ sym (l .0), s .pre .1 .1 .2 ∙ sym (l .0))
 
 returns : tie.Need-returns
 returns c =
-    let s = c .before .before .before .before .before .before .before .before .before .before .before .before .before .before .before .before .before .before .before .before .before .before .before .before .before .before in
+    let squared = c .before .before in
+    let g = gathered (squared .before) in
+    let l = located (g .before) in
+    let f = l .before in
+    let s = entry f in
     looked (s .args .grid) (mesh s) (s .args .e) (s .pre .0 .bounded) (s .pre .1 .0)
-    (c .before .before .before .before .before .before .before .before .before .before .before .before .before .before .before .before .before .before .facet-of .ensures ∙ ap (λ (t : Corners). facetOf (t .a) (t .b) (t .c)) (c .before .before .before .before .before .before .before .before .before .before .before .before .before .before .before .before .before .before .before .corners-at .ensures))
-    (c .before .before .before .before .before .before .before .before .before .before .before .before .before .before .before .before .before .get-cell-integer-coordinates .ensures)
-    (c .before .before .before .before .before .before .before .before .before .before .before .before .gather .ensures)
-    (c .before .before .squares-on .ensures)
+    (f .facet-of .ensures ∙ ap (λ (t : Corners). facetOf (t .a) (t .b) (t .c)) (f .before .corners-at .ensures))
+    (l .get-cell-integer-coordinates .ensures) (g .gather .ensures) (squared .squares-on .ensures)
 
 pub look-around-spec : {M : Type 1} → statement M
 look-around-spec =
     tie.close (tie.spec
-    (λ c. search needs) (λ c κs. search needs) (λ c κs. search needs)
-    (λ c κs. c .before .before .before .before .before .before .before .before .pre .0 .bounded)
+    (λ c. search needs) (λ c κs. search needs) (λ c κs. search needs) (λ c κs. entry c .pre .0 .bounded)
     (λ c. search needs) (λ c. search needs) (λ c. search needs) gather-requires
     (λ c. search needs) (λ c. search needs) (λ c. search needs) squares-on-requires
     (λ c. search needs) (λ c. search needs) returns)
