@@ -1,38 +1,58 @@
 -- `run_field::spread_seeds`: queueing ends it, or spreading goes on from what was queued. Assumes nothing.
+use Prim.Native.Nat.{ℕ}
 use borrow.Author.Needs.{needs}
 use mathlib.Core.Path.{refl}
 use lib.ListN.{length}
 use Rattle.mesh.specs.Mesh.{meshOf}
+use Rattle.run.specs.Run.{State}
 use Rattle.run_field.specs.Running.{seeded}
 use Rattle.run_field.proofs.Runs.{as-left, rest-stops, rest-begins, rest-goes-on}
 use Rattle.run_field.proofs.spread_seeds.Statement.{statement}
 use Rattle.run_field.proofs.spread_seeds.Tie as tie
 
+-- the entry, from where the cells are queued; the queueing, from where its result is looked at;
+-- that it was not refused, from where the spreading is called
+abbrev entry : tie.After-queue-cells-arg5 → tie.Start
+entry c = c .before .before .before .before .before .before .before .before .before .before .before .before
+
+abbrev queued : tie.After-struct-known → tie.After-queue-cells
+queued c = c .before .before .before .before .before .before .before
+
+abbrev fine : tie.After-spread-arg5 → tie.Else1
+fine c = c .before .before .before .before .before
+
+-- the state that was seeded, the queue's room and the limit of pops
+abbrev seeds : tie.After-queue-cells → State
+seeds q =
+    let a = entry (q .before) .args in
+    seeded (meshOf (a .vertices .now) (a .topology) (a .given) (a .indices .now))
+    (a .field .now) (a .names .now) (a .distances .now) (a .cells .now) (a .triangles .now)
+
+abbrev room : tie.After-queue-cells → ℕ
+room q = length (entry (q .before) .args .distances .now)
+
+abbrev limit : tie.After-queue-cells → ℕ
+limit q = entry (q .before) .args .terms .limit
+
 queue-cells-requires : tie.Need-queue-cells-requires
-queue-cells-requires c κs =
-    let s = c .before .before .before .before .before .before .before .before .before .before .before .before in
-    (s .pre .0, (s .pre .1 .0, (s .pre .1 .1, refl)))
+queue-cells-requires c κs = let s = entry c in (s .pre .0, (s .pre .1 .0, (s .pre .1 .1, refl)))
 
 returns : tie.Need-returns
-returns c =
-    let q = c .before .before .before .before .before .before .before .before in
-    let s = q .before .before .before .before .before .before .before .before .before .before .before .before .before in
-    rest-stops (seeded (meshOf (s .args .vertices .now) (s .args .topology) (s .args .given) (s .args .indices .now)) (s .args .field .now) (s .args .names .now) (s .args .distances .now) (s .args .cells .now) (s .args .triangles .now)) (length (s .args .distances .now)) (s .args .terms .limit) (as-left (q .queue-cells .ensures)) (c .if1 .taken)
+returns c = let q = queued (c .before) in rest-stops (seeds q) (room q) (limit q) (as-left (q .queue-cells .ensures)) (c .if1 .taken)
 
 spread-requires : tie.Need-spread-requires
 spread-requires c κs =
-    let e = c .before .before .before .before .before in
-    let q = e .before .before .before .before .before .before .before .before in
-    let s = q .before .before .before .before .before .before .before .before .before .before .before .before .before in
-    (s .pre .0, (q .queue-cells .ensures .holds, (e .if1 .left, rest-begins (seeded (meshOf (s .args .vertices .now) (s .args .topology) (s .args .given) (s .args .indices .now)) (s .args .field .now) (s .args .names .now) (s .args .distances .now) (s .args .cells .now) (s .args .triangles .now)) (length (s .args .distances .now)) (s .args .terms .limit) (as-left (q .queue-cells .ensures)) (e .if1 .left) refl)))
+    let q = queued (fine c .before) in
+    let none = rest-begins (seeds q) (room q) (limit q) (as-left (q .queue-cells .ensures)) (fine c .if1 .left) refl in
+    (entry (q .before) .pre .0, (q .queue-cells .ensures .holds, (fine c .if1 .left, none)))
 
 returns-2 : tie.Need-returns-2
 returns-2 c =
-    let d = c .before .before .before .before .before .before .before .before .before .before in
-    let e = d .before .before .before .before .before .before in
-    let q = e .before .before .before .before .before .before .before .before in
-    let s = q .before .before .before .before .before .before .before .before .before .before .before .before .before in
-    rest-goes-on (seeded (meshOf (s .args .vertices .now) (s .args .topology) (s .args .given) (s .args .indices .now)) (s .args .field .now) (s .args .names .now) (s .args .distances .now) (s .args .cells .now) (s .args .triangles .now)) (length (s .args .distances .now)) (s .args .terms .limit) (as-left (q .queue-cells .ensures)) (e .if1 .left) (q .queue-cells .kept .1 .1 .1 .1 .1 .1 .1 .0) (as-left (d .spread .ensures))
+    let spread = c .before .before .before .before .before .before .before .before .before .before in
+    let f = fine (spread .before) in
+    let q = queued (f .before) in
+    let kept = q .queue-cells .kept .1 .1 .1 .1 .1 .1 .1 .0 in
+    rest-goes-on (seeds q) (room q) (limit q) (as-left (q .queue-cells .ensures)) (f .if1 .left) kept (as-left (spread .spread .ensures))
 
 pub spread-seeds-spec : {M : Type 1} → statement M
 spread-seeds-spec =
