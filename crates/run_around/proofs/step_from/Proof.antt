@@ -1,6 +1,6 @@
 -- `step_from`: the three tests are the test of a step, and the three shifts its cell. Assumes nothing.
 use mathlib.Core.Path.{_≡_, sym, ap, _∙_}
-use mathlib.Core.Bool.{true, false}
+use mathlib.Core.Bool.{Bool, true, false, _&&_}
 use Rattle.point.specs.declared.Axis.{Axis}
 use Rattle.point.specs.declared.Axis.the-variants.{X, Y, Z}
 use Rattle.grid.specs.declared.Cell.{Cell}
@@ -24,11 +24,13 @@ abbrev tested : tie.After-shifted3 → tie.Then1
 tested c = c .before .before .before
 
 -- what the tests found is what the step's test says
-on : (c : tie.Then1) → let s = entry (c .before) in stays (s .args .grid) (s .args .cell) (step s) ≡ true
-on c = rw (← (c .before .before .before .stays-on .ensures), ← (c .before .before .stays-on2 .ensures), ← (c .before .stays-on3 .ensures)) (c .if1 .taken)
+found : (c : tie.After-stays-on3) (b : Bool) → (c .before .before .stays-on .result && c .before .stays-on2 .result && c .stays-on3 .result) ≡ b →
+    let s = entry c in
+    stays (s .args .grid) (s .args .cell) (step s) ≡ b
+found c b t = rw (← (c .before .before .stays-on .ensures), ← (c .before .stays-on2 .ensures), ← (c .stays-on3 .ensures)) t
 
-not-on : (c : tie.Else1) → let s = entry (c .before) in stays (s .args .grid) (s .args .cell) (step s) ≡ false
-not-on c = rw (← (c .before .before .before .stays-on .ensures), ← (c .before .before .stays-on2 .ensures), ← (c .before .stays-on3 .ensures)) (c .if1 .left)
+on : (c : tie.Then1) → let s = entry (c .before) in stays (s .args .grid) (s .args .cell) (step s) ≡ true
+on c = found (c .before) true (c .if1 .taken)
 
 on-axis : (c : tie.Then1) (a : Axis) →
     let s = entry (c .before) in
@@ -64,7 +66,7 @@ returns c =
     ∙ sym (spot-on (s .args .grid) (s .args .cell) (step s) (on (tested m)))
 
 returns-2 : tie.Need-returns-2
-returns-2 c = let s = entry (c .before) in sym (spot-off (s .args .grid) (s .args .cell) (step s) (not-on c))
+returns-2 c = let s = entry (c .before) in sym (spot-off (s .args .grid) (s .args .cell) (step s) (found (c .before) false (c .if1 .left)))
 
 pub step-from-spec : {M : Type 1} → statement M
 step-from-spec =
