@@ -4,7 +4,7 @@ use mathlib.Core.Path.{sym, ap, _∙_}
 use Rattle.job_checks.specs.Job.{Job, Lent}
 use Rattle.job_outcome.proofs.Numbers.{number-0}
 use Rattle.demand_3.proofs.Theorem.{demand-3}
-use Rattle.sdf_c.specs.declared.job.SdfJobAnswer.{SdfJobAnswer}
+use Rattle.c_job.specs.declared.SdfJobAnswer.{SdfJobAnswer}
 use Rattle.demand_3_c.specs.AfterC.{AfterCallFromC}
 
 pub after-a-call-from-c : (j : Job) (b : Lent) (answer : SdfJobAnswer) (left : Lent) → AfterCallFromC j b answer left

@@ -6,8 +6,8 @@ use Rattle.job_checks.specs.Job.{Job, Lent}
 use Rattle.job_outcome.specs.Outcome.{outcome}
 use Rattle.demand_3.specs.Meaning.{CellMeans}
 use Rattle.demand_3.specs.Demand3.{groundFor}
-use Rattle.sdf_c.specs.declared.job.SdfJobAnswer.{SdfJobAnswer}
-use Rattle.sdf_c.specs.Job.{GivesC}
+use Rattle.c_job.specs.declared.SdfJobAnswer.{SdfJobAnswer}
+use Rattle.c_job.specs.Job.{GivesC}
 
 -- Of a call of `sdf_generate_grid_sdf` or of `sdf_generate_grid_sdf_records`, by its contract: it was given the job j and lent the
 -- buffers b, and it answered and left what the contract says. If its number is 0, then what it left means this.

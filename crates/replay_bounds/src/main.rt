@@ -8,6 +8,7 @@ use sdf::Grid;
 use sdf::Indices;
 use sdf::Point;
 use sdf::Topology;
+ghost use Prim.Native.Nat.{_≤_};
 
 fn tell(name: &[u8], number: u32) {
     io::print_decimal(1, number as u64);
@@ -35,14 +36,10 @@ fn try_counts(name: &[u8], x: u32, y: u32, z: u32) {
     try_grid(name, trial::grid_of(x, y, z));
 }
 
-fn try_first(name: &[u8], x: f32, y: f32, z: f32) {
+fn try_cell(name: &[u8], first: Point, size: Point) {
     let grid = Grid {
-        first_cell: Point { x: x, y: y, z: z },
-        cell_size: Point {
-            x: 1.0,
-            y: 1.0,
-            z: 1.0,
-        },
+        first_cell: first,
+        cell_size: size,
         count_x: 1,
         count_y: 1,
         count_z: 1,
@@ -50,19 +47,22 @@ fn try_first(name: &[u8], x: f32, y: f32, z: f32) {
     try_grid(name, grid);
 }
 
-fn try_size(name: &[u8], x: f32, y: f32, z: f32) {
-    let grid = Grid {
-        first_cell: Point {
-            x: 0.0,
-            y: 0.0,
-            z: 0.0,
-        },
-        cell_size: Point { x: x, y: y, z: z },
-        count_x: 1,
-        count_y: 1,
-        count_z: 1,
+fn try_first(name: &[u8], x: f32, y: f32, z: f32) {
+    let size = Point {
+        x: 1.0,
+        y: 1.0,
+        z: 1.0,
     };
-    try_grid(name, grid);
+    try_cell(name, Point { x: x, y: y, z: z }, size);
+}
+
+fn try_size(name: &[u8], x: f32, y: f32, z: f32) {
+    let first = Point {
+        x: 0.0,
+        y: 0.0,
+        z: 0.0,
+    };
+    try_cell(name, first, Point { x: x, y: y, z: z });
 }
 
 fn counts() {
@@ -278,151 +278,61 @@ fn index_bounds() {
     try_index(b"strip 3 3, no triangle", Topology::TriangleStrip, &[3, 3]);
 }
 
-// ---- 5: the lengths of what is lent, over a grid of 2 x 1 x 3 cells
+// ---- 5: the lengths of what is lent, over a grid of 2 x 1 x 3 cells: 6 magnitudes, 6 names, 18 crossing counts,
+// 3 rows, and three buffers of one length for the queue are right.
 
-fn try_field(name: &[u8], field: &mut [f32]) {
-    let mut names = [0u32; 6];
-    let mut crossings = [0u32; 18];
-    let mut rows = [0u32; 3];
-    let mut a = [0u32; 4];
-    let mut b = [0u32; 4];
-    let mut c = [0u32; 4];
-    tell(
-        name,
-        trial::no_triangles(
-            field,
-            &mut names,
-            &mut crossings,
-            &mut rows,
-            &mut a,
-            &mut b,
-            &mut c,
-        ),
+fn try_lengths(
+    name: &[u8],
+    field: usize,
+    names: usize,
+    crossings: usize,
+    rows: usize,
+    distances: usize,
+    cells: usize,
+    triangles: usize,
+)
+    requires { ⌜ (field ≤ 7) × (names ≤ 7) × (crossings ≤ 19) × (rows ≤ 4) ⌝ }
+    requires { ⌜ (distances ≤ 5) × (cells ≤ 5) × (triangles ≤ 5) ⌝ }
+{
+    let mut f = [0.0f32; 7];
+    let mut n = [0u32; 7];
+    let mut k = [0u32; 19];
+    let mut r = [0u32; 4];
+    let mut d = [0u32; 5];
+    let mut c = [0u32; 5];
+    let mut t = [0u32; 5];
+    let number = trial::no_triangles(
+        &mut f[..field],
+        &mut n[..names],
+        &mut k[..crossings],
+        &mut r[..rows],
+        &mut d[..distances],
+        &mut c[..cells],
+        &mut t[..triangles],
     );
-}
-
-fn try_names(name: &[u8], names: &mut [u32]) {
-    let mut field = [0.0f32; 6];
-    let mut crossings = [0u32; 18];
-    let mut rows = [0u32; 3];
-    let mut a = [0u32; 4];
-    let mut b = [0u32; 4];
-    let mut c = [0u32; 4];
-    tell(
-        name,
-        trial::no_triangles(
-            &mut field,
-            names,
-            &mut crossings,
-            &mut rows,
-            &mut a,
-            &mut b,
-            &mut c,
-        ),
-    );
-}
-
-fn try_crossings(name: &[u8], crossings: &mut [u32]) {
-    let mut field = [0.0f32; 6];
-    let mut names = [0u32; 6];
-    let mut rows = [0u32; 3];
-    let mut a = [0u32; 4];
-    let mut b = [0u32; 4];
-    let mut c = [0u32; 4];
-    tell(
-        name,
-        trial::no_triangles(
-            &mut field,
-            &mut names,
-            crossings,
-            &mut rows,
-            &mut a,
-            &mut b,
-            &mut c,
-        ),
-    );
-}
-
-fn try_rows(name: &[u8], rows: &mut [u32]) {
-    let mut field = [0.0f32; 6];
-    let mut names = [0u32; 6];
-    let mut crossings = [0u32; 18];
-    let mut a = [0u32; 4];
-    let mut b = [0u32; 4];
-    let mut c = [0u32; 4];
-    tell(
-        name,
-        trial::no_triangles(
-            &mut field,
-            &mut names,
-            &mut crossings,
-            rows,
-            &mut a,
-            &mut b,
-            &mut c,
-        ),
-    );
-}
-
-fn try_queue(name: &[u8], distances: &mut [u32], cells: &mut [u32], triangles: &mut [u32]) {
-    let mut field = [0.0f32; 6];
-    let mut names = [0u32; 6];
-    let mut crossings = [0u32; 18];
-    let mut rows = [0u32; 3];
-    tell(
-        name,
-        trial::no_triangles(
-            &mut field,
-            &mut names,
-            &mut crossings,
-            &mut rows,
-            distances,
-            cells,
-            triangles,
-        ),
-    );
+    tell(name, number);
 }
 
 fn length_bounds() {
-    let mut f5 = [0.0f32; 5];
-    let mut f6 = [0.0f32; 6];
-    let mut f7 = [0.0f32; 7];
-    try_field(b"field 5", &mut f5);
-    try_field(b"field 6", &mut f6);
-    try_field(b"field 7", &mut f7);
-    let mut n5 = [0u32; 5];
-    let mut n6 = [0u32; 6];
-    let mut n7 = [0u32; 7];
-    try_names(b"names 5", &mut n5);
-    try_names(b"names 6", &mut n6);
-    try_names(b"names 7", &mut n7);
-    let mut c17 = [0u32; 17];
-    let mut c18 = [0u32; 18];
-    let mut c19 = [0u32; 19];
-    try_crossings(b"crossings 17", &mut c17);
-    try_crossings(b"crossings 18", &mut c18);
-    try_crossings(b"crossings 19", &mut c19);
-    let mut r2 = [0u32; 2];
-    let mut r3 = [0u32; 3];
-    let mut r4 = [0u32; 4];
-    try_rows(b"rows 2", &mut r2);
-    try_rows(b"rows 3", &mut r3);
-    try_rows(b"rows 4", &mut r4);
-}
-
-fn queue_bounds() {
-    let mut q3 = [0u32; 3];
-    let mut a4 = [0u32; 4];
-    let mut b4 = [0u32; 4];
-    let mut c4 = [0u32; 4];
-    let mut q5 = [0u32; 5];
-    try_queue(b"queue 4 4 4", &mut a4, &mut b4, &mut c4);
-    try_queue(b"queue 3 4 4", &mut q3, &mut b4, &mut c4);
-    try_queue(b"queue 5 4 4", &mut q5, &mut b4, &mut c4);
-    try_queue(b"queue 4 3 4", &mut a4, &mut q3, &mut c4);
-    try_queue(b"queue 4 5 4", &mut a4, &mut q5, &mut c4);
-    try_queue(b"queue 4 4 3", &mut a4, &mut b4, &mut q3);
-    try_queue(b"queue 4 4 5", &mut a4, &mut b4, &mut q5);
+    try_lengths(b"field 5", 5, 6, 18, 3, 4, 4, 4);
+    try_lengths(b"field 6", 6, 6, 18, 3, 4, 4, 4);
+    try_lengths(b"field 7", 7, 6, 18, 3, 4, 4, 4);
+    try_lengths(b"names 5", 6, 5, 18, 3, 4, 4, 4);
+    try_lengths(b"names 6", 6, 6, 18, 3, 4, 4, 4);
+    try_lengths(b"names 7", 6, 7, 18, 3, 4, 4, 4);
+    try_lengths(b"crossings 17", 6, 6, 17, 3, 4, 4, 4);
+    try_lengths(b"crossings 18", 6, 6, 18, 3, 4, 4, 4);
+    try_lengths(b"crossings 19", 6, 6, 19, 3, 4, 4, 4);
+    try_lengths(b"rows 2", 6, 6, 18, 2, 4, 4, 4);
+    try_lengths(b"rows 3", 6, 6, 18, 3, 4, 4, 4);
+    try_lengths(b"rows 4", 6, 6, 18, 4, 4, 4, 4);
+    try_lengths(b"queue 4 4 4", 6, 6, 18, 3, 4, 4, 4);
+    try_lengths(b"queue 3 4 4", 6, 6, 18, 3, 3, 4, 4);
+    try_lengths(b"queue 5 4 4", 6, 6, 18, 3, 5, 4, 4);
+    try_lengths(b"queue 4 3 4", 6, 6, 18, 3, 4, 3, 4);
+    try_lengths(b"queue 4 5 4", 6, 6, 18, 3, 4, 5, 4);
+    try_lengths(b"queue 4 4 3", 6, 6, 18, 3, 4, 4, 3);
+    try_lengths(b"queue 4 4 5", 6, 6, 18, 3, 4, 4, 5);
 }
 
 // ---- 6: a NaN distance. The corners (0,0,0), (0,0,0), (x,0,0) and a cell at (0,0,0): where the squared
@@ -454,6 +364,5 @@ fn main() {
     triangle_bounds();
     index_bounds();
     length_bounds();
-    queue_bounds();
     not_a_number();
 }

@@ -131,21 +131,7 @@ pub fn no_triangles(
         (now (distances .entry)) (now (cells .entry)) (now (triangles .entry)) in
         ⌜ r ≡ numberOf (outcome noTriangles lent .answer) ⌝ }
 {
-    let grid = Grid {
-        first_cell: Point {
-            x: 0.0,
-            y: 0.0,
-            z: 0.0,
-        },
-        cell_size: Point {
-            x: 1.0,
-            y: 1.0,
-            z: 1.0,
-        },
-        count_x: 2,
-        count_y: 1,
-        count_z: 3,
-    };
+    let grid = grid_of(2, 1, 3);
     let vertices = [0.0f32; 3];
     let indices = [0u32; 1];
     asked(

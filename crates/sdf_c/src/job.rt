@@ -1,61 +1,17 @@
 // The whole job for C, over three arrays or over a row of records: `sdf::generate_grid_sdf` and
 // `sdf::generate_grid_sdf_records`, with the answer as a record. A slice is two parameters in C, a pointer and a count.
+use c_job::SdfJobAnswer;
+use c_job::answer_out;
+use c_job::indices_in;
+use c_job::topology_in;
 use c_records::SdfGrid;
 use c_records::SdfTerms;
-use sdf::Answer;
 use sdf::Entry;
-use sdf::Indices;
-use sdf::Topology;
-ghost use mathlib.Core.Path.{_≡_};
 ghost use Rattle.c_records.specs.C.{gridIn, termsIn};
 ghost use Rattle.job_checks.specs.Job.{jobOf, lentOf};
 ghost use Rattle.job_outcome.specs.Outcome.{outcome};
 ghost use Rattle.entries_generate.specs.LentRow.{lentRow};
-ghost use Rattle.sdf_c.specs.Job.{topologyIn, indicesIn, answerOut, GivesC};
-
-// Document 01's number, 0 where the job is done, with the entries taken and the most that waited at once;
-// on a refusal both are 0.
-#[repr(C)]
-pub struct SdfJobAnswer {
-    pub number: u32,
-    pub pops: u32,
-    pub peak: usize,
-}
-
-pub(crate) fn topology_in(topology: u32) -> Topology
-    ensures { λ r. ⌜ r ≡ topologyIn topology ⌝ }
-{
-    if topology == 0 {
-        return Topology::TriangleList;
-    }
-    Topology::TriangleStrip
-}
-
-pub(crate) fn indices_in(given: u32) -> Indices
-    ensures { λ r. ⌜ r ≡ indicesIn given ⌝ }
-{
-    if given == 0 {
-        return Indices::None;
-    }
-    Indices::Given
-}
-
-pub(crate) fn answer_out(a: Answer) -> SdfJobAnswer
-    ensures { λ r. ⌜ r ≡ answerOut a ⌝ }
-{
-    match a {
-        Answer::Refused(n) => SdfJobAnswer {
-            number: n,
-            pops: 0,
-            peak: 0,
-        },
-        Answer::Done(t) => SdfJobAnswer {
-            number: 0,
-            pops: t.pops,
-            peak: t.peak,
-        },
-    }
-}
+ghost use Rattle.c_job.specs.Job.{topologyIn, indicesIn, GivesC};
 
 // `topology` is 0 for a list and any other number for a strip; `given` is 0 where there are no indices.
 #[no_mangle]

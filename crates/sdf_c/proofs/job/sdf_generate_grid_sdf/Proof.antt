@@ -1,7 +1,7 @@
 -- `job::sdf_generate_grid_sdf`: the answer of the whole job, written out, and what C handed in, read. Assumes nothing.
 use borrow.Author.Needs.{needs}
 use Rattle.job_checks.specs.Job.{lentOf}
-use Rattle.sdf_c.proofs.Given.{gives-c}
+use Rattle.c_job.proofs.Given.{gives-c}
 use Rattle.sdf_c.proofs.job.sdf_generate_grid_sdf.Statement.{statement}
 use Rattle.sdf_c.proofs.job.sdf_generate_grid_sdf.Tie as tie
 

@@ -11,15 +11,15 @@ use Rattle.entries_generate.proofs.ByValue.{a-grid, a-terms, an-answer}
 use Rattle.c_records.specs.C.{gridIn, termsIn}
 use Rattle.c_records.proofs.SdfGrid as Cg
 use Rattle.c_records.proofs.SdfTerms as Ct
-use Rattle.sdf_c.specs.Job.{topologyIn, indicesIn, answerOut}
-use Rattle.sdf_c.proofs.job.SdfJobAnswer as Ca
-use Rattle.sdf_c.proofs.Given.{gives-c}
+use Rattle.c_job.specs.Job.{topologyIn, indicesIn, answerOut}
+use Rattle.c_job.proofs.SdfJobAnswer as Ca
+use Rattle.c_job.proofs.Given.{gives-c}
 use Rattle.c_records.proofs.SdfGrid.grid as grid-of
 use Rattle.c_records.proofs.SdfTerms.terms as terms-of
-use Rattle.sdf_c.proofs.job.topology_in as topology-in
-use Rattle.sdf_c.proofs.job.indices_in as indices-in
+use Rattle.c_job.proofs.topology_in as topology-in
+use Rattle.c_job.proofs.indices_in as indices-in
 use Rattle.entries_generate.proofs.generate_grid_sdf_records as job
-use Rattle.sdf_c.proofs.job.answer_out as answer-out
+use Rattle.c_job.proofs.answer_out as answer-out
 use Rattle.sdf_c.proofs.job.sdf_generate_grid_sdf_records as f
 
 module _ {M : Type 1} (𝓤 : URA M) (H : Heap 𝓤) (A : Atoms 𝓤) (W : Given 𝓤 H A) (mem : Memory → SProp 𝓤) (run : Routine → Fun 𝓤) (𝓣 : Tables 𝓤 H) where
@@ -115,9 +115,9 @@ sdf-generate-grid-sdf-records-spec 𝓤 H 𝓜 𝓖 𝓡 =
     (tables 𝓤 H 𝓜 𝓡 f.Code.env .C) (tables 𝓤 H 𝓜 𝓡 f.Code.env .Λ) f.Key.name f.Code.function (f.Code.unfolded 𝓤 H 𝓜 𝓡)
     (meets 𝓤 H (𝓖 .A) (givenOf 𝓤 H 𝓜 𝓖) (𝓜 .mem) (𝓡 .run) (tablesOf 𝓤 H 𝓜 (tables 𝓤 H 𝓜 𝓡 f.Code.env)) (
       cited 𝓤 H (tripleOf 𝓤 H (𝓖 .A) grid-of.signature (grid-of.spec 𝓤 H (𝓖 .A) (𝓜 .mem) (𝓡 .run))) 𝓜 𝓡 f.Code.env grid-of.Symbol.name grid-of.Symbol.routine f.Code.calls-c-records·SdfGrid·grid (grid-of.Met.met 𝓤 H 𝓜 𝓖 𝓡),
-      cited 𝓤 H (tripleOf 𝓤 H (𝓖 .A) topology-in.signature (topology-in.spec 𝓤 H (𝓖 .A) (𝓜 .mem) (𝓡 .run))) 𝓜 𝓡 f.Code.env topology-in.Symbol.name topology-in.Symbol.routine f.Code.calls-sdf-c·job·topology-in (topology-in.Met.met 𝓤 H 𝓜 𝓖 𝓡),
-      cited 𝓤 H (tripleOf 𝓤 H (𝓖 .A) indices-in.signature (indices-in.spec 𝓤 H (𝓖 .A) (𝓜 .mem) (𝓡 .run))) 𝓜 𝓡 f.Code.env indices-in.Symbol.name indices-in.Symbol.routine f.Code.calls-sdf-c·job·indices-in (indices-in.Met.met 𝓤 H 𝓜 𝓖 𝓡),
+      cited 𝓤 H (tripleOf 𝓤 H (𝓖 .A) topology-in.signature (topology-in.spec 𝓤 H (𝓖 .A) (𝓜 .mem) (𝓡 .run))) 𝓜 𝓡 f.Code.env topology-in.Symbol.name topology-in.Symbol.routine f.Code.calls-c-job·topology-in (topology-in.Met.met 𝓤 H 𝓜 𝓖 𝓡),
+      cited 𝓤 H (tripleOf 𝓤 H (𝓖 .A) indices-in.signature (indices-in.spec 𝓤 H (𝓖 .A) (𝓜 .mem) (𝓡 .run))) 𝓜 𝓡 f.Code.env indices-in.Symbol.name indices-in.Symbol.routine f.Code.calls-c-job·indices-in (indices-in.Met.met 𝓤 H 𝓜 𝓖 𝓡),
       cited 𝓤 H (tripleOf 𝓤 H (𝓖 .A) terms-of.signature (terms-of.spec 𝓤 H (𝓖 .A) (𝓜 .mem) (𝓡 .run))) 𝓜 𝓡 f.Code.env terms-of.Symbol.name terms-of.Symbol.routine f.Code.calls-c-records·SdfTerms·terms (terms-of.Met.met 𝓤 H 𝓜 𝓖 𝓡),
       cited 𝓤 H (tripleOf 𝓤 H (𝓖 .A) job.signature (job.spec 𝓤 H (𝓖 .A) (𝓜 .mem) (𝓡 .run))) 𝓜 𝓡 f.Code.env job.Symbol.name job.Symbol.routine f.Code.calls-entries-generate·generate-grid-sdf-records (job.Met.met 𝓤 H 𝓜 𝓖 𝓡),
-      cited 𝓤 H (tripleOf 𝓤 H (𝓖 .A) answer-out.signature (answer-out.spec 𝓤 H (𝓖 .A) (𝓜 .mem) (𝓡 .run))) 𝓜 𝓡 f.Code.env answer-out.Symbol.name answer-out.Symbol.routine f.Code.calls-sdf-c·job·answer-out (answer-out.Met.met 𝓤 H 𝓜 𝓖 𝓡),
+      cited 𝓤 H (tripleOf 𝓤 H (𝓖 .A) answer-out.signature (answer-out.spec 𝓤 H (𝓖 .A) (𝓜 .mem) (𝓡 .run))) 𝓜 𝓡 f.Code.env answer-out.Symbol.name answer-out.Symbol.routine f.Code.calls-c-job·answer-out (answer-out.Met.met 𝓤 H 𝓜 𝓖 𝓡),
     ))

@@ -10,8 +10,8 @@ use Rattle.terms.specs.declared.Terms.{Terms}
 use Rattle.job_outcome.specs.declared.Answer.{Answer}
 use Rattle.job_checks.specs.Job.{Lent, jobOf}
 use Rattle.job_outcome.specs.Outcome.{Outcome, Gives, outcome}
-use Rattle.sdf_c.specs.declared.job.SdfJobAnswer.{SdfJobAnswer}
-use Rattle.sdf_c.specs.Job.{answerOut, GivesC}
+use Rattle.c_job.specs.declared.SdfJobAnswer.{SdfJobAnswer}
+use Rattle.c_job.specs.Job.{answerOut, GivesC}
 
 pub gives-c : {g g′ : Grid} {t t′ : Topology} {i i′ : Indices} {s s′ : Terms} {a : Answer} {r : SdfJobAnswer} (vs : List Float) (is : List ℕ) (b : Lent) {left : Lent}
     → g ≡ g′ → t ≡ t′ → i ≡ i′ → s ≡ s′ → r ≡ answerOut a → Gives (outcome (jobOf g vs t i is s) b) a left → GivesC (outcome (jobOf g′ vs t′ i′ is s′) b) r left

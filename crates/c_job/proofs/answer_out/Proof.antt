@@ -1,7 +1,7 @@
--- `job::answer_out`: by the answer's case. Assumes nothing.
+-- `answer_out`: by the answer's case. Assumes nothing.
 use borrow.Author.Needs.{needs}
-use Rattle.sdf_c.proofs.job.answer_out.Statement.{statement}
-use Rattle.sdf_c.proofs.job.answer_out.Tie as tie
+use Rattle.c_job.proofs.answer_out.Statement.{statement}
+use Rattle.c_job.proofs.answer_out.Tie as tie
 
 pub answer-out-spec : {M : Type 1} → statement M
 answer-out-spec =

@@ -1,7 +1,7 @@
--- `job::indices_in`: by the test that led there. Assumes nothing.
+-- `indices_in`: by the test that led there. Assumes nothing.
 use borrow.Author.Tests.{eq-eqb, ne-eqb}
-use Rattle.sdf_c.proofs.job.indices_in.Statement.{statement}
-use Rattle.sdf_c.proofs.job.indices_in.Tie as tie
+use Rattle.c_job.proofs.indices_in.Statement.{statement}
+use Rattle.c_job.proofs.indices_in.Tie as tie
 
 pub indices-in-spec : {M : Type 1} → statement M
 indices-in-spec =

@@ -11,7 +11,7 @@ use Rattle.mesh_topology.specs.declared.Indices.the-variants as Indices
 use Rattle.job_outcome.specs.declared.Answer.{Answer}
 use Rattle.job_checks.specs.Job.{Lent}
 use Rattle.job_outcome.specs.Outcome.{Outcome, numberOf, popsOf, peakOf}
-use Rattle.sdf_c.specs.declared.job.SdfJobAnswer.{SdfJobAnswer}
+use Rattle.c_job.specs.declared.SdfJobAnswer.{SdfJobAnswer}
 
 -- 0 is a list, and any other number a strip
 abbrev pub topologyIn : ℕ → Topology

@@ -1,7 +1,7 @@
--- `job::topology_in`: by the test that led there. Assumes nothing.
+-- `topology_in`: by the test that led there. Assumes nothing.
 use borrow.Author.Tests.{eq-eqb, ne-eqb}
-use Rattle.sdf_c.proofs.job.topology_in.Statement.{statement}
-use Rattle.sdf_c.proofs.job.topology_in.Tie as tie
+use Rattle.c_job.proofs.topology_in.Statement.{statement}
+use Rattle.c_job.proofs.topology_in.Tie as tie
 
 pub topology-in-spec : {M : Type 1} → statement M
 topology-in-spec =
