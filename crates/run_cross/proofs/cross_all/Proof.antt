@@ -50,13 +50,13 @@ cross-triangle-requires : tie.Need-cross-triangle-requires Inv-loop μ-loop
 cross-triangle-requires c κs =
     let turn : tie.In-loop Inv-loop μ-loop = search in
     let l = turn .before .loop in
-    let n = turn .before .before in
-    let s = entry n in
+    let begin = turn .before .before in
+    let s = entry begin in
     let long = s .pre .1 .1 .1 .0 in (
       s .pre .0,
       (
         (omega (arith, l .inv .1), omega (arith, l .inv .2), omega (arith, l .inv .3), omega (arith, l .inv .4)),
-        (l .inv .5 .long, counted-room (s .args .grid) (mesh n) (l .k) (l .crossings) (omega (arith, known turn .1)) (l .inv .5)),
+        (l .inv .5 .long, counted-room (s .args .grid) (mesh begin) (l .k) (l .crossings) (omega (arith, known turn .1)) (l .inv .5)),
       ),
     )
 
@@ -65,10 +65,10 @@ crossed : (c : tie.After-cross-triangle Inv-loop μ-loop) → let p = head c in
     Counted (entry (p .before) .args .grid) (mesh (p .before)) (p .loop .k + 1) (c .cross-triangle .last .1 .1 .1 .1 .1 .1 .0)
 crossed c =
     let t : tie.After-corners-at Inv-loop μ-loop = search in
-    let n = head c .before in
-    let g = entry n .args .grid in
+    let begin = head c .before in
+    let g = entry begin .args .grid in
     let l = head c .loop in
-    counted-more g (mesh n) (l .k) (l .inv .5)
+    counted-more g (mesh begin) (l .k) (l .inv .5)
     (subst (λ (x : Corners). Grown g (crossedBy g x) (l .crossings) (c .cross-triangle .last .1 .1 .1 .1 .1 .1 .0)) (t .corners-at .ensures)
     (c .cross-triangle .ensures))
 
@@ -94,8 +94,9 @@ same-length-5 c =
 returns : tie.Need-returns Inv-loop μ-loop
 returns c =
     let l = c .before .loop in
-    let n = c .before .before in
-    counted-all (entry n .args .grid) (mesh n) (l .k) (l .crossings) (omega (arith, n .triangle-count .ensures, c .loop-test .left, l .inv .0)) (l .inv .5)
+    let begin = c .before .before in
+    counted-all (entry begin .args .grid) (mesh begin) (l .k) (l .crossings)
+    (omega (arith, begin .triangle-count .ensures, c .loop-test .left, l .inv .0)) (l .inv .5)
 
 pub cross-all-spec : {M : Type 1} → statement M
 cross-all-spec =

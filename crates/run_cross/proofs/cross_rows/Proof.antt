@@ -53,28 +53,28 @@ cross-row-requires : tie.Need-cross-row-requires Inv-loop μ-loop
 cross-row-requires c κs =
     let turn : tie.In-loop Inv-loop μ-loop = search in
     let l = turn .before .loop in
-    let n = turn .before .before in
-    let s = entry n in
+    let begin = turn .before .before in
+    let s = entry begin in
     let long = s .pre .1 .0 in (
       s .pre .0,
       (
-        (omega (arith, counted n), long .0, long .1, long .2, omega (arith, l .inv .1)),
+        (omega (arith, counted begin), long .0, long .1, long .2, omega (arith, l .inv .1)),
         (l .inv .2 ∙ s .pre .1 .1 .0, room-after 2 3 refl (s .pre .1 .1 .0) (s .pre .1 .1 .1) (l .inv .3)),
       ),
     )
 
 -- row u is crossed
-crossed : (c : tie.After-cross-row Inv-loop μ-loop) → let l = head c .loop in let n = head c .before in let a = entry n .args in
-    Grown (a .grid) (rowCrossed (a .grid) (a .axis) (l .u) (hits n (l .u))) (l .crossings) (c .cross-row .last .1 .1 .1 .1 .1 .1 .1 .1 .1 .0)
+crossed : (c : tie.After-cross-row Inv-loop μ-loop) → let l = head c .loop in let begin = head c .before in let a = entry begin .args in
+    Grown (a .grid) (rowCrossed (a .grid) (a .axis) (l .u) (hits begin (l .u))) (l .crossings) (c .cross-row .last .1 .1 .1 .1 .1 .1 .1 .1 .1 .0)
 crossed c =
     let y = c .before .before .before in
     let u = head c .loop .u in
-    let n = head c .before in
-    let x = n .before .before in
-    let a = entry n .args in
-    let ys = y .across-y .ensures ∙ ap (acrossY (a .cast)) (y .before .centre2 .ensures ∙ ap (λ x. centreAlong (a .grid) x u) (n .before .next .ensures)) in
+    let begin = head c .before in
+    let x = begin .before .before in
+    let a = entry begin .args in
+    let ys = y .across-y .ensures ∙ ap (acrossY (a .cast)) (y .before .centre2 .ensures ∙ ap (λ x. centreAlong (a .grid) x u) (begin .before .next .ensures)) in
     let xs = x .along-x .ensures ∙ ap (alongX (a .cast)) (x .before .centre .ensures) in
-    row-as (a .grid) (a .axis) u (rowHit (a .z0 .now) (a .z1 .now) (a .z2 .now) (y .across-y .result) (x .along-x .result)) (hits n u)
+    row-as (a .grid) (a .axis) u (rowHit (a .z0 .now) (a .z1 .now) (a .z2 .now) (y .across-y .result) (x .along-x .result)) (hits begin u)
     (λ v. ap₂ (λ (y′ : Three) (x′ : Three). rowHit (a .z0 .now) (a .z1 .now) (a .z2 .now) y′ x′ v) ys xs)
     (c .cross-row .ensures)
 
@@ -83,17 +83,17 @@ loop-again c =
     let call : tie.After-cross-row Inv-loop μ-loop = search in
     let turn : tie.In-loop Inv-loop μ-loop = search in
     let l = turn .before .loop in
-    let n = turn .before .before in
-    let a = entry n .args in
+    let begin = turn .before .before in
+    let a = entry begin .args in
     let row = crossed call in
-    (omega arith, omega (arith, call .cross-row .kept, l .inv .1), row .long ∙ l .inv .2, axis-more (a .grid) (a .axis) (l .u) (hits n) (l .inv .3) row)
+    (omega arith, omega (arith, call .cross-row .kept, l .inv .1), row .long ∙ l .inv .2, axis-more (a .grid) (a .axis) (l .u) (hits begin) (l .inv .3) row)
 
 returns : tie.Need-returns Inv-loop μ-loop
 returns c =
     let l = c .before .loop in
-    let n = c .before .before in
-    let a = entry n .args in
-    axis-all (a .grid) (a .axis) (l .u) (hits n) (omega (arith, counted n, c .loop-test .left)) (l .inv .3)
+    let begin = c .before .before in
+    let a = entry begin .args in
+    axis-all (a .grid) (a .axis) (l .u) (hits begin) (omega (arith, counted begin, c .loop-test .left)) (l .inv .3)
 
 pub cross-rows-spec : {M : Type 1} → statement M
 cross-rows-spec =

@@ -71,32 +71,32 @@ crossed : (c : tie.Joined1 Inv-loop μ-loop) → let p = c .before .before .befo
 crossed c =
     let p = c .before .before .before in
     let l = p .loop in
-    let n = p .before in
-    let s = entry n in
+    let begin = p .before in
+    let s = entry begin in
     let a = s .args in
     let zs = partsAt (a .z0 .now) (a .z1 .now) (a .z2 .now) (l .v) in
     ⊎-elim
     (λ w. let e = w .2 .ensures ∙ ap (λ (t : Three). rayOf t (a .ys) (a .xs)) (w .1 .ensures) in rw (w .7) (rw e at (w .4 .ensures)))
     (λ w.
-    let missed = must-miss zs (a .ys) (a .xs) (sym (s .pre .1 .1 .0 .each (l .v) (omega (arith, counted n))) ∙ w .0 .left) in
-    rw (w .1) (line-missed (a .grid) (a .axis) (a .u) (l .v) (hits n (l .v)) (l .crossings) missed))
+    let missed = must-miss zs (a .ys) (a .xs) (sym (s .pre .1 .1 .0 .each (l .v) (omega (arith, counted begin))) ∙ w .0 .left) in
+    rw (w .1) (line-missed (a .grid) (a .axis) (a .u) (l .v) (hits begin (l .v)) (l .crossings) missed))
     (c .if1 .came)
 
 loop-again : tie.Need-loop-again Inv-loop μ-loop
 loop-again c =
     let turn : tie.In-loop Inv-loop μ-loop = search in
     let l = turn .before .loop in
-    let n = turn .before .before in
-    let a = entry n .args in
+    let begin = turn .before .before in
+    let a = entry begin .args in
     let line = crossed c in
-    (omega arith, line .long ∙ l .inv .1, row-more (a .grid) (a .axis) (a .u) (l .v) (hits n) (l .inv .2) line)
+    (omega arith, line .long ∙ l .inv .1, row-more (a .grid) (a .axis) (a .u) (l .v) (hits begin) (l .inv .2) line)
 
 returns : tie.Need-returns Inv-loop μ-loop
 returns c =
     let l = c .before .loop in
-    let n = c .before .before in
-    let a = entry n .args in
-    row-all (a .grid) (a .axis) (a .u) (l .v) (hits n) (omega (arith, counted n)) (l .inv .2)
+    let begin = c .before .before in
+    let a = entry begin .args in
+    row-all (a .grid) (a .axis) (a .u) (l .v) (hits begin) (omega (arith, counted begin)) (l .inv .2)
 
 pub cross-marked-spec : {M : Type 1} → statement M
 cross-marked-spec =

@@ -19,30 +19,30 @@ abbrev μ-loop : tie.MeasureT-loop
 
 -- the function's entry, from where the loop begins; and the cells of a column
 abbrev entry : tie.After-struct-known Inv-loop μ-loop → tie.Start Inv-loop μ-loop
-entry p = p .before .before .before .before .before .before .before .before
+entry begin = begin .before .before .before .before .before .before .before .before
 
 abbrev height : tie.After-struct-known Inv-loop μ-loop → ℕ
-height p = p .before .layers .result
+height begin = begin .before .layers .result
 
 -- the grid's numbers are small
-small : (p : tie.After-struct-known Inv-loop μ-loop) → let g = entry p .args .grid in (g .«count_x» * g .«count_y» < 2 ^ 32) × (total g ≤ 1048576)
-small p =
-    let g = entry p .args .grid in
-    let b = bounds-of g (entry p .pre .0) in
+small : (begin : tie.After-struct-known Inv-loop μ-loop) → let g = entry begin .args .grid in (g .«count_x» * g .«count_y» < 2 ^ 32) × (total g ≤ 1048576)
+small begin =
+    let g = entry begin .args .grid in
+    let b = bounds-of g (entry begin .pre .0) in
     (counts-fit (g .«count_x») (g .«count_y») (g .«count_z») (b .on-x .few) (b .on-y .few) (b .on-z .few) .0, b .total-few)
 
 column : (k n : ℕ) → (k + 1) * n ≡ k * n + n
 column k n = omega arith
 
 -- column k lies within the field
-within : (c : tie.In-loop Inv-loop μ-loop) → let p = c .before .before in c .before .loop .k * height p + height p ≤ total (entry p .args .grid)
+within : (c : tie.In-loop Inv-loop μ-loop) → let begin = c .before .before in c .before .loop .k * height begin + height begin ≤ total (entry begin .args .grid)
 within c =
-    let p = c .before .before in
-    let g = entry p .args .grid in
+    let begin = c .before .before in
+    let g = entry begin .args .grid in
     let k = c .before .loop .k in
     let columns : k + 1 ≤ g .«count_x» * g .«count_y» = omega arith in
-    let whole : g .«count_x» * g .«count_y» * height p ≡ total g = ap (λ (n : ℕ). g .«count_x» * g .«count_y» * n) (p .before .layers .ensures) in
-    omega (arith, mul-le-mul-right (height p) columns, whole, column k (height p))
+    let whole : g .«count_x» * g .«count_y» * height begin ≡ total g = ap (λ (n : ℕ). g .«count_x» * g .«count_y» * n) (begin .before .layers .ensures) in
+    omega (arith, mul-le-mul-right (height begin) columns, whole, column k (height begin))
 
 loop-holds : tie.Need-loop-holds Inv-loop μ-loop
 loop-holds c =
@@ -55,9 +55,9 @@ add-column-requires : tie.Need-add-column-requires Inv-loop μ-loop
 add-column-requires c κs =
     let turn = c .before in
     let l = turn .before .loop in
-    let p = turn .before .before in (
-      omega (arith, within turn, l .inv .1 .long, entry p .pre .1 .0),
-      rowed-room (height p) (entry p .args .field .now) (l .k) (l .rows) (omega (arith, within turn, small p .1)) (l .inv .1),
+    let begin = turn .before .before in (
+      omega (arith, within turn, l .inv .1 .long, entry begin .pre .1 .0),
+      rowed-room (height begin) (entry begin .args .field .now) (l .k) (l .rows) (omega (arith, within turn, small begin .1)) (l .inv .1),
     )
 
 add-k : tie.Need-add-k Inv-loop μ-loop
@@ -68,17 +68,17 @@ loop-again c =
     let added : tie.After-add-column Inv-loop μ-loop = search in
     let turn = added .before .before in
     let l = turn .before .loop in
-    let p = turn .before .before in
-    (omega arith, rowed-more (height p) (entry p .args .field .now) (l .k) (l .inv .1) (added .add-column .ensures))
+    let begin = turn .before .before in
+    (omega arith, rowed-more (height begin) (entry begin .args .field .now) (l .k) (l .inv .1) (added .add-column .ensures))
 
 same-length : tie.Need-same-length Inv-loop μ-loop
-same-length c = let p = c .before .before in c .before .loop .inv .1 .long ∙ p .before .layers .ensures ∙ sym (entry p .pre .1 .1)
+same-length c = let begin = c .before .before in c .before .loop .inv .1 .long ∙ begin .before .layers .ensures ∙ sym (entry begin .pre .1 .1)
 
 returns : tie.Need-returns Inv-loop μ-loop
 returns c =
     let l = c .before .loop in
-    let p = c .before .before in
-    rowed-all (entry p .args .grid) (entry p .args .field .now) (l .k) (l .rows) (omega arith) (rw (p .before .layers .ensures) at (l .inv .1))
+    let begin = c .before .before in
+    rowed-all (entry begin .args .grid) (entry begin .args .field .now) (l .k) (l .rows) (omega arith) (rw (begin .before .layers .ensures) at (l .inv .1))
 
 pub count-rows-spec : {M : Type 1} → statement M
 count-rows-spec =

@@ -47,16 +47,12 @@ loop-again c =
     let call : tie.After-seed-line Inv-loop μ-loop = search in
     turn-goes-on (head call .loop .inv) _ _ _ (omega arith) (call .seed-line .ensures) (c .if1 .left) (omega arith) (omega arith)
 
-returns-2 : tie.Need-returns-2 Inv-loop μ-loop
-unfolding alongPlane
-returns-2 c = ends (c .before .loop .inv) (omega arith)
-
 pub seed-plane-spec : {M : Type 1} → statement M
+unfolding alongPlane
 seed-plane-spec =
     tie.close (tie.spec
     Inv-loop μ-loop
-    (λ c. starts)
-    seed-line-requires
+    (λ c. starts) seed-line-requires
     (λ c. omega arith) (λ c. omega arith) returns add-y
     (λ c. omega arith) loop-again
-    (λ c. omega arith) (λ c. omega arith) returns-2)
+    (λ c. omega arith) (λ c. omega arith) (λ c. ends (c .before .loop .inv) (omega arith)))
