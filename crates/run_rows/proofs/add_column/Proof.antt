@@ -36,9 +36,9 @@ rows-then l = let a = entry l .args in more (a .field .now) (a .base) (a .rows .
 stored : (c : tie.After-one-if Inv-loop μ-loop) → let l = head c in getD (l .loop .rows) (l .loop .z) 0 + c .one-if .result ≡ rows-then l (l .loop .z)
 stored c =
     let l = head c .loop in
-    let one = c .one-if .ensures ∙ ap (λ (b : Bool). cond b 1 0) (c .before .counted .ensures) in
+    let counts = c .one-if .ensures ∙ ap (λ (b : Bool). cond b 1 0) (c .before .counted .ensures) in
     ap (λ (n : ℕ). n + c .one-if .result) (l .inv .2 .back (l .z) (omega arith))
-    ∙ ap (λ (n : ℕ). getD (entry (head c) .args .rows .now) (l .z) 0 + n) one
+    ∙ ap (λ (n : ℕ). getD (entry (head c) .args .rows .now) (l .z) 0 + n) counts
 
 one : (b : Bool) → cond b 1 0 ≤ 1
 one true = omega arith
@@ -58,9 +58,8 @@ loop-again : tie.Need-loop-again Inv-loop μ-loop
 loop-again c =
     let h = head (c .before) in
     let l = h .loop in
-    let f =
-    filled-more 0 (rows-then h) (entry h .args .rows .now) (l .z) (l .rows) (getD (l .rows) (l .z) 0 + c .before .one-if .result)
-    (omega arith) (stored (c .before)) (l .inv .2) in
+    let value = getD (l .rows) (l .z) 0 + c .before .one-if .result in
+    let f = filled-more 0 (rows-then h) (entry h .args .rows .now) (l .z) (l .rows) value (omega arith) (stored (c .before)) (l .inv .2) in
     (omega arith, f .long, f)
 
 returns : tie.Need-returns Inv-loop μ-loop
