@@ -3,5 +3,6 @@ pub mod Sift
 pub mod Moves
 pub mod Order
 pub mod Flat
+pub mod Gaps
 pub mod Meaning
 pub mod Uses

@@ -33,10 +33,6 @@ module _ {turn : ℕ → State → Turn State} {lo hi : ℕ} {field₀ : List Fl
       }
 
   module _ {field : List Float} {names : List ℕ} {k : ℕ} (a : Along turn lo hi field₀ names₀ field names k) where
-    -- a piece of one turn
-    pub turned : {t : Turn State} → turn k (seedState field names) ≡ t → between turn k (k + 1) (seedState field names) ≡ t
-    turned h = one-turn turn k (seedState field names) ∙ h
-
     -- a piece, from k to below m, that tells r
     pub goes-on : (field′ : List Float) (names′ : List ℕ) (m r : ℕ) → k ≤ m → m ≤ hi + 1
         → between turn k m (seedState field names) ≡ told r (seedState field′ names′) → r ≡ 0
@@ -55,6 +51,14 @@ module _ {turn : ℕ → State → Turn State} {lo hi : ℕ} {field₀ : List Fl
         → through turn lo hi (seedState field₀ names₀) ≡ told r (seedState field′ names′)
     stops field′ names′ m r from upto piece nonzero =
         piece-stop turn lo k m (a .from) from (hi + 1) _ _ _ _ r (a .left) piece nonzero upto
+
+    -- a piece of one turn, k's own
+    module _ (field′ : List Float) (names′ : List ℕ) (r : ℕ) (low : k ≤ hi) (one : turn k (seedState field names) ≡ told r (seedState field′ names′)) where
+      pub turn-goes-on : r ≡ 0 → length field′ ≡ length field → length names′ ≡ length names → Along turn lo hi field₀ names₀ field′ names′ (k + 1)
+      turn-goes-on = goes-on field′ names′ (k + 1) r (omega arith) (omega arith) (one-turn turn k (seedState field names) ∙ one)
+
+      pub turn-stops : (r ≡ 0 → ⊥) → through turn lo hi (seedState field₀ names₀) ≡ told r (seedState field′ names′)
+      turn-stops = stops field′ names′ (k + 1) r (omega arith) (omega arith) (one-turn turn k (seedState field names) ∙ one)
 
     pub ends : hi + 1 ≤ k → through turn lo hi (seedState field₀ names₀) ≡ told 0 (seedState field names)
     ends past = between-end turn lo k (hi + 1) _ _ (a .from) past (a .upto) (a .left)

@@ -9,26 +9,41 @@ use Rattle.job_accept.proofs.Accepts.{fresh, long}
 use Rattle.job_accept.proofs.accepted_job.Statement.{statement}
 use Rattle.job_accept.proofs.accepted_job.Tie as tie
 
+-- the function's entry, from behind the clearing; the last slice that this gave back, from behind the job; and so the clearing
+abbrev entry : tie.After-clear-all → tie.Start
+entry c = c .before .before .before .before .before .before .before .before .before .before .before .before .before .before .before .before .before
+
+abbrev given-back : tie.After-cleared-job → tie.After-triangles
+given-back c = c .before .before .before .before .before .before .before .before .before
+
+abbrev cleared : tie.After-cleared-job → tie.After-clear-all
+cleared c = given-back c .before .before .before .before .before .before .before .before .before .before .before .before .before
+
 abbrev job : tie.Start → Job
 job s = jobOf (s .args .grid) (s .args .vertices .now) (s .args .topology) (s .args .given) (s .args .indices .now) (s .args .terms)
 
 abbrev lent : tie.Start → Lent
-lent s = lentOf (s .args .field .now) (s .args .names .now) (s .args .crossings .now) (s .args .rows .now) (s .args .distances .now) (s .args .cells .now) (s .args .triangles .now)
+lent s =
+    let a = s .args in
+    lentOf (a .field .now) (a .names .now) (a .crossings .now) (a .rows .now) (a .distances .now) (a .cells .now) (a .triangles .now)
 
 cleared-job-requires : tie.Need-cleared-job-requires
 cleared-job-requires c κs =
-    let q = c .before .before .before .before .before .before .before .before .before .before .before .before .before .before .before .before .before .before .before .before .before in
-    let s = q .before .before .before .before .before .before .before .before .before .before .before .before .before .before .before .before .before in (
-      accepted (s .args .grid) (meshOf (s .args .vertices .now) (s .args .topology) (s .args .given) (s .args .indices .now)) (lengthsOf (lent s)) (s .pre) .fit,
-      (fresh (job s) (lent s) (s .pre) (q .clear-all .ensures), long (job s) (lent s) (s .pre) (q .clear-all .ensures)),
+    let cleared : tie.After-clear-all = search in
+    let s = entry cleared in
+    let mesh = meshOf (s .args .vertices .now) (s .args .topology) (s .args .given) (s .args .indices .now) in (
+      accepted (s .args .grid) mesh (lengthsOf (lent s)) (s .pre) .fit,
+      (fresh (job s) (lent s) (s .pre) (cleared .clear-all .ensures), long (job s) (lent s) (s .pre) (cleared .clear-all .ensures)),
     )
 
 returns : tie.Need-returns
 returns c =
-    let d = c .before .before .before .before .before .before .before .before .before .before .before .before .before .before in
-    let q = d .before .before .before .before .before .before .before .before .before .before .before .before .before .before .before .before .before .before .before .before .before .before in
-    let s = q .before .before .before .before .before .before .before .before .before .before .before .before .before .before .before .before .before in
-    gives-cleared (job s) (lent s) (lentOf (q .clear-all .last .0) (q .clear-all .last .1 .0) (q .clear-all .last .1 .1 .0) (q .clear-all .last .1 .1 .1 .0) (q .clear-all .last .1 .1 .1 .1 .0) (q .clear-all .last .1 .1 .1 .1 .1 .0) (q .clear-all .last .1 .1 .1 .1 .1 .1 .0)) (q .clear-all .ensures) (d .cleared-job .ensures)
+    let done : tie.After-cleared-job = search in
+    let clear = cleared done .clear-all in
+    let s = entry (cleared done) in
+    let l = clear .last in
+    let left = lentOf (l .0) (l .1 .0) (l .1 .1 .0) (l .1 .1 .1 .0) (l .1 .1 .1 .1 .0) (l .1 .1 .1 .1 .1 .0) (l .1 .1 .1 .1 .1 .1 .0) in
+    gives-cleared (job s) (lent s) left (clear .ensures) (done .cleared-job .ensures)
 
 pub accepted-job-spec : {M : Type 1} → statement M
 accepted-job-spec =

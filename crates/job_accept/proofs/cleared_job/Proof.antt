@@ -9,30 +9,39 @@ use Rattle.job_outcome.proofs.Outcomes.{gives-run}
 use Rattle.job_accept.proofs.cleared_job.Statement.{statement}
 use Rattle.job_accept.proofs.cleared_job.Tie as tie
 
-conclude-requires : tie.Need-conclude-requires
-conclude-requires c κs =
-    let q = c .before .before .before .before .before .before .before .before .before .before .before .before .before .before .before .before .before in
-    let s = q .before .before .before .before .before .before .before .before .before .before .before .before .before .before .before in
-    (s .pre .0, (run-over (length (s .args .distances .now)) (s .args .terms .limit) (q .run-field .ensures), s .pre .1 .1))
+-- the function's entry, from behind the run
+abbrev entry : tie.After-run-field → tie.Start
+entry r = r .before .before .before .before .before .before .before .before .before .before .before .before .before .before .before
 
 -- what is lent, and what the run leaves
 abbrev lent : tie.Start → Lent
-lent s = lentOf (s .args .field .now) (s .args .names .now) (s .args .crossings .now) (s .args .rows .now) (s .args .distances .now) (s .args .cells .now) (s .args .triangles .now)
+lent s =
+    let a = s .args in
+    lentOf (a .field .now) (a .names .now) (a .crossings .now) (a .rows .now) (a .distances .now) (a .cells .now) (a .triangles .now)
 
 abbrev left : tie.After-run-field → Lent
-left q =
-    let s = q .before .before .before .before .before .before .before .before .before .before .before .before .before .before .before in
-    lentOf (q .run-field .last .1 .1 .1 .1 .1 .0) (q .run-field .last .1 .1 .1 .1 .1 .1 .0) (s .args .crossings .now) (s .args .rows .now) (q .run-field .last .1 .1 .1 .1 .1 .1 .1 .0) (q .run-field .last .1 .1 .1 .1 .1 .1 .1 .1 .0) (q .run-field .last .1 .1 .1 .1 .1 .1 .1 .1 .1 .0)
+left r =
+    let a = entry r .args in
+    let l = r .run-field .last .1 .1 .1 .1 .1 in
+    lentOf (l .0) (l .1 .0) (a .crossings .now) (a .rows .now) (l .1 .1 .0) (l .1 .1 .1 .0) (l .1 .1 .1 .1 .0)
+
+conclude-requires : tie.Need-conclude-requires
+conclude-requires c κs =
+    let ran : tie.After-run-field = search in
+    let s = entry ran in
+    (s .pre .0, (run-over (length (s .args .distances .now)) (s .args .terms .limit) (ran .run-field .ensures), s .pre .1 .1))
 
 returns : tie.Need-returns
 returns c =
-    let d = c .before .before .before .before .before .before .before .before .before .before .before .before .before .before in
-    let q = d .before .before .before .before .before .before .before .before .before .before .before .before .before .before .before .before .before .before in
-    let s = q .before .before .before .before .before .before .before .before .before .before .before .before .before .before .before in
-    gives-run (jobOf (s .args .grid) (s .args .vertices .now) (s .args .topology) (s .args .given) (s .args .indices .now) (s .args .terms)) (left q) (lent s)
-    (lengths-same (left q) (lent s) (q .run-field .kept .1 .1 .1 .1 .1 .0) (q .run-field .kept .1 .1 .1 .1 .1 .1 .0) refl refl (q .run-field .kept .1 .1 .1 .1 .1 .1 .1 .0) (q .run-field .kept .1 .1 .1 .1 .1 .1 .1 .1 .0) (q .run-field .kept .1 .1 .1 .1 .1 .1 .1 .1 .1 .0))
-    (q .run-field .ensures .is 0)
-    (d .conclude .ensures)
+    let ended : tie.After-conclude = search in
+    let ran : tie.After-run-field = search in
+    let s = entry ran in
+    let a = s .args in
+    let k = ran .run-field .kept .1 .1 .1 .1 .1 in
+    gives-run (jobOf (a .grid) (a .vertices .now) (a .topology) (a .given) (a .indices .now) (a .terms)) (left ran) (lent s)
+    (lengths-same (left ran) (lent s) (k .0) (k .1 .0) refl refl (k .1 .1 .0) (k .1 .1 .1 .0) (k .1 .1 .1 .1 .0))
+    (ran .run-field .ensures .is 0)
+    (ended .conclude .ensures)
 
 pub cleared-job-spec : {M : Type 1} → statement M
 cleared-job-spec =

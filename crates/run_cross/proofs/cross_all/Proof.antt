@@ -14,14 +14,22 @@ use Rattle.run_cross.proofs.cross_all.Tie as tie
 
 abbrev Inv-loop : tie.InvT-loop
 Inv-loop grid vertices topology given indices z0₀ z1₀ z2₀ flags₀ crossings₀ n k₀ z0 z1 z2 flags crossings k =
-    (k ≤ n) × (length z0 ≡ length z0₀) × (length z1 ≡ length z1₀) × (length z2 ≡ length z2₀) × (length flags ≡ length flags₀) × Counted grid (meshOf vertices topology given indices) k crossings
+    (k ≤ n)
+    × (length z0 ≡ length z0₀)
+    × (length z1 ≡ length z1₀)
+    × (length z2 ≡ length z2₀)
+    × (length flags ≡ length flags₀)
+    × Counted grid (meshOf vertices topology given indices) k crossings
 
 abbrev μ-loop : tie.MeasureT-loop
 μ-loop grid vertices topology given indices z0₀ z1₀ z2₀ flags₀ crossings₀ n k₀ z0 z1 z2 flags crossings k = n - k
 
--- the function's entry, and the mesh
+-- the function's entry, from behind the count; the loop's head, from behind the call; and the mesh
 abbrev entry : tie.After-triangle-count Inv-loop μ-loop → tie.Start Inv-loop μ-loop
 entry c = c .before .before .before .before .before .before .before .before
+
+abbrev head : tie.After-cross-triangle Inv-loop μ-loop → tie.At-loop Inv-loop μ-loop
+head c = c .before .before .before .before .before .before .before .before
 
 abbrev mesh : tie.After-triangle-count Inv-loop μ-loop → Mesh
 mesh c = let a = entry c .args in meshOf (a .vertices .now) (a .topology) (a .given) (a .indices .now)
@@ -29,9 +37,8 @@ mesh c = let a = entry c .args in meshOf (a .vertices .now) (a .topology) (a .gi
 -- a triangle of the mesh
 known : (c : tie.In-loop Inv-loop μ-loop) → (c .before .loop .k < length (trianglesIn (mesh (c .before .before)))) × (c .before .loop .k < 131072)
 known c =
-    let s = entry (c .before .before) in
     let n = c .before .before .triangle-count .ensures in
-    let few = s .pre .1 .1 .0 in
+    let few = entry (c .before .before) .pre .1 .1 .0 in
     (omega (arith, c .loop-test .taken, n), omega (arith, c .loop-test .taken, n, few))
 
 loop-holds : tie.Need-loop-holds Inv-loop μ-loop
@@ -39,60 +46,45 @@ loop-holds c =
     let s = entry c in
     (omega arith, refl, refl, refl, refl, counted-none (s .args .grid) (mesh c) (s .args .crossings .now) (s .pre .1 .1 .1 .1))
 
-corners-at-requires : tie.Need-corners-at-requires Inv-loop μ-loop
-corners-at-requires c κs = (entry (c .before .before) .pre .1 .0, known c .0)
-
 cross-triangle-requires : tie.Need-cross-triangle-requires Inv-loop μ-loop
 cross-triangle-requires c κs =
-    let i = c .before .before .before .before .before .before in
-    let l = i .before .loop in
-    let s = entry (i .before .before) in
+    let turn : tie.In-loop Inv-loop μ-loop = search in
+    let l = turn .before .loop in
+    let begin = turn .before .before in
+    let s = entry begin in
     let long = s .pre .1 .1 .1 .0 in (
       s .pre .0,
       (
         (omega (arith, l .inv .1), omega (arith, l .inv .2), omega (arith, l .inv .3), omega (arith, l .inv .4)),
-        (l .inv .5 .long, counted-room (s .args .grid) (mesh (i .before .before)) (l .k) (l .crossings) (omega (arith, known i .1)) (l .inv .5)),
+        (l .inv .5 .long, counted-room (s .args .grid) (mesh begin) (l .k) (l .crossings) (omega (arith, known turn .1)) (l .inv .5)),
       ),
     )
 
 -- triangle k is counted
-crossed : (c : tie.After-cross-triangle Inv-loop μ-loop) →
-    let p = c .before .before .before .before .before .before .before .before in
+crossed : (c : tie.After-cross-triangle Inv-loop μ-loop) → let p = head c in
     Counted (entry (p .before) .args .grid) (mesh (p .before)) (p .loop .k + 1) (c .cross-triangle .last .1 .1 .1 .1 .1 .1 .0)
 crossed c =
-    let t = c .before .before .before .before .before .before in
-    let p = t .before .before in
-    let g = entry (p .before) .args .grid in
-    let l = p .loop in
-    counted-more g (mesh (p .before)) (l .k) (l .inv .5)
-    (subst (λ (x : Corners). Grown g (crossedBy g x) (l .crossings) (c .cross-triangle .last .1 .1 .1 .1 .1 .1 .0)) (t .corners-at .ensures) (c .cross-triangle .ensures))
-
-add-k : tie.Need-add-k Inv-loop μ-loop
-add-k c = omega (arith, known (c .before .before .before .before .before .before .before .before .before .before .before .before .before .before .before .before .before) .1)
-
-loop-less : tie.Need-loop-less Inv-loop μ-loop
-loop-less c = let test = c .before .before .before .before .before .before .before .before .before .before .before .before .before .before .before .before .before .loop-test .taken in omega arith
+    let t : tie.After-corners-at Inv-loop μ-loop = search in
+    let begin = head c .before in
+    let g = entry begin .args .grid in
+    let l = head c .loop in
+    counted-more g (mesh begin) (l .k) (l .inv .5)
+    (subst (λ (x : Corners). Grown g (crossedBy g x) (l .crossings) (c .cross-triangle .last .1 .1 .1 .1 .1 .1 .0)) (t .corners-at .ensures)
+    (c .cross-triangle .ensures))
 
 loop-again : tie.Need-loop-again Inv-loop μ-loop
 loop-again c =
-    let r = c .before .before .before .before .before .before .before .before .before .before in
-    let i = r .before .before .before .before .before .before .before in
-    let l = i .before .loop in
-    let test = i .loop-test .taken in
-    let kept = r .cross-triangle .kept in
-    (omega arith, omega (arith, kept, l .inv .1), omega (arith, kept, l .inv .2), omega (arith, kept, l .inv .3), omega (arith, kept, l .inv .4), crossed r)
-
-same-length : tie.Need-same-length Inv-loop μ-loop
-same-length c = c .before .loop .inv .1
-
-same-length-2 : tie.Need-same-length-2 Inv-loop μ-loop
-same-length-2 c = c .before .loop .inv .2
-
-same-length-3 : tie.Need-same-length-3 Inv-loop μ-loop
-same-length-3 c = c .before .loop .inv .3
-
-same-length-4 : tie.Need-same-length-4 Inv-loop μ-loop
-same-length-4 c = c .before .loop .inv .4
+    let call : tie.After-cross-triangle Inv-loop μ-loop = search in
+    let turn : tie.In-loop Inv-loop μ-loop = search in
+    let l = turn .before .loop in
+    let kept = call .cross-triangle .kept in (
+      omega arith,
+      omega (arith, kept, l .inv .1),
+      omega (arith, kept, l .inv .2),
+      omega (arith, kept, l .inv .3),
+      omega (arith, kept, l .inv .4),
+      crossed call,
+    )
 
 same-length-5 : tie.Need-same-length-5 Inv-loop μ-loop
 same-length-5 c =
@@ -101,14 +93,16 @@ same-length-5 c =
 
 returns : tie.Need-returns Inv-loop μ-loop
 returns c =
-    let p = c .before in
-    let s = entry (p .before) in
-    let l = p .loop in
-    counted-all (s .args .grid) (mesh (p .before)) (l .k) (l .crossings) (omega (arith, p .before .triangle-count .ensures, c .loop-test .left, l .inv .0)) (l .inv .5)
+    let l = c .before .loop in
+    let begin = c .before .before in
+    counted-all (entry begin .args .grid) (mesh begin) (l .k) (l .crossings)
+    (omega (arith, begin .triangle-count .ensures, c .loop-test .left, l .inv .0)) (l .inv .5)
 
 pub cross-all-spec : {M : Type 1} → statement M
 cross-all-spec =
     tie.close (tie.spec
     Inv-loop μ-loop
-    (λ c κs. search needs) loop-holds corners-at-requires cross-triangle-requires add-k loop-less loop-again
-    same-length same-length-2 same-length-3 same-length-4 same-length-5 returns)
+    (λ c κs. search needs) loop-holds
+    (λ c κs. (entry (c .before .before) .pre .1 .0, known c .0)) cross-triangle-requires
+    (λ c. omega (arith, known (search) .1)) (λ c. let turn : tie.In-loop Inv-loop μ-loop = search in omega arith) loop-again
+    (λ c. c .before .loop .inv .1) (λ c. c .before .loop .inv .2) (λ c. c .before .loop .inv .3) (λ c. c .before .loop .inv .4) same-length-5 returns)

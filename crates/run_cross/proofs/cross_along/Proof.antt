@@ -8,43 +8,38 @@ use Rattle.run_cross_lines.proofs.Hits.{cast-hits}
 use Rattle.run_cross.proofs.cross_along.Statement.{statement}
 use Rattle.run_cross.proofs.cross_along.Tie as tie
 
--- the function's entry
-abbrev entry : tie.After-second → tie.Start
-entry c = c .before .before .before .before .before .before .before
+-- the function's entry, from behind the three slices that are filled
+abbrev entry : tie.After-fill-across → tie.Start
+entry c = c .before .before .before .before .before .before .before .before .before .before .before
 
 fill-across-requires : tie.Need-fill-across-requires
 fill-across-requires c κs =
-    let s = entry (c .before .before .before) in
+    let s : tie.Start = search in
     (s .pre .0, (s .pre .1 .0 .0, s .pre .1 .0 .1, s .pre .1 .0 .2))
 
 cross-rows-requires : tie.Need-cross-rows-requires
 cross-rows-requires c κs =
-    let f = c .before .before .before .before .before .before .before .before .before .before .before in
-    let s = entry (f .before .before .before .before) in
-    let long = s .pre .1 .0 in (
-      s .pre .0,
-      (
-        omega (arith, f .fill-across .kept),
-        (s .pre .1 .1 .0, s .pre .1 .1 .1),
-      ),
-    )
+    let filled : tie.After-fill-across = search in
+    let s = entry filled in
+    let long = s .pre .1 .0 in
+    (s .pre .0, (omega (arith, filled .fill-across .kept), (s .pre .1 .1 .0, s .pre .1 .1 .1)))
 
 returns : tie.Need-returns
 returns c =
-    let r = c .before .before .before .before in
-    let f = r .before .before .before .before .before .before .before .before .before .before .before .before in
-    let q = f .before .before .before .before in
-    let s = entry q in
-    let g = s .args .grid in
-    let t = s .args .t in
-    let axis = s .args .axis in
-    let cast = q .before .cast-of .ensures in
-    let z0 = f .fill-across .last .1 .1 .1 .0 in
-    let z1 = f .fill-across .last .1 .1 .1 .1 .0 in
-    let z2 = f .fill-across .last .1 .1 .1 .1 .1 .0 in
+    let crossed : tie.After-cross-rows = search in
+    let filled : tie.After-fill-across = search in
+    let second = filled .before .before .before .before in
+    let a = entry filled .args in
+    let g = a .grid in
+    let t = a .t in
+    let axis = a .axis in
+    let cast = second .before .cast-of .ensures in
+    let z0 = filled .fill-across .last .1 .1 .1 .0 in
+    let z1 = filled .fill-across .last .1 .1 .1 .1 .0 in
+    let z2 = filled .fill-across .last .1 .1 .1 .1 .1 .0 in
     axis-as g axis (castHit g axis (castOf axis (t .a) (t .b) (t .c)) z0 z1 z2) (hitOn g t axis)
-    (cast-hits g t axis z0 z1 z2 (rw (q .second .ensures, cast) at (f .fill-across .ensures)))
-    (rw cast at (r .cross-rows .ensures))
+    (cast-hits g t axis z0 z1 z2 (rw (second .second .ensures, cast) at (filled .fill-across .ensures)))
+    (rw cast at (crossed .cross-rows .ensures))
 
 pub cross-along-spec : {M : Type 1} → statement M
 cross-along-spec =

@@ -19,14 +19,20 @@ use Rattle.run_cross.proofs.cross_rows.Tie as tie
 
 abbrev Inv-loop : tie.InvT-loop
 Inv-loop grid axis cast z0 z1 z2 flags₀ crossings₀ xs across count u₀ flags crossings u =
-    (u ≤ count) × (length flags ≡ length flags₀) × (length crossings ≡ length crossings₀) × Grown grid (λ a c. ltb (uOf axis c) u && axisCrossed grid axis (castHit grid axis cast z0 z1 z2) a c) crossings₀ crossings
+    (u ≤ count)
+    × (length flags ≡ length flags₀)
+    × (length crossings ≡ length crossings₀)
+    × Grown grid (λ a c. ltb (uOf axis c) u && axisCrossed grid axis (castHit grid axis cast z0 z1 z2) a c) crossings₀ crossings
 
 abbrev μ-loop : tie.MeasureT-loop
 μ-loop grid axis cast z0 z1 z2 flags₀ crossings₀ xs across count u₀ flags crossings u = count - u
 
--- the function's entry, and the answer on each line
+-- the function's entry, from behind the count; the loop's head, from behind the call; and the answer on each line
 abbrev entry : tie.After-count-on Inv-loop μ-loop → tie.Start Inv-loop μ-loop
 entry c = c .before .before .before .before .before .before .before .before .before
+
+abbrev head : tie.After-cross-row Inv-loop μ-loop → tie.At-loop Inv-loop μ-loop
+head c = c .before .before .before .before .before .before
 
 abbrev hits : tie.After-count-on Inv-loop μ-loop → ℕ → ℕ → RayHit
 hits c = let a = entry c .args in castHit (a .grid) (a .axis) (a .cast) (a .z0 .now) (a .z1 .now) (a .z2 .now)
@@ -43,70 +49,57 @@ short c =
 loop-holds : tie.Need-loop-holds Inv-loop μ-loop
 loop-holds c = let a = entry c .args in (omega arith, refl, refl, axis-none (a .grid) (a .axis) (hits c) (a .crossings .now))
 
-centre-requires-2 : tie.Need-centre-requires-2 Inv-loop μ-loop
-centre-requires-2 c κs = omega (arith, short c)
-
 cross-row-requires : tie.Need-cross-row-requires Inv-loop μ-loop
 cross-row-requires c κs =
-    let p = c .before .before .before .before .before in
-    let s = entry (p .before) in
-    let long = s .pre .1 .0 in
-    let test = c .before .before .before .before .loop-test .taken in (
+    let turn : tie.In-loop Inv-loop μ-loop = search in
+    let l = turn .before .loop in
+    let begin = turn .before .before in
+    let s = entry begin in
+    let long = s .pre .1 .0 in (
       s .pre .0,
       (
-        (omega (arith, counted (p .before)), long .0, long .1, long .2, omega (arith, p .loop .inv .1)),
-        (p .loop .inv .2 ∙ s .pre .1 .1 .0, room-after 2 3 refl (s .pre .1 .1 .0) (s .pre .1 .1 .1) (p .loop .inv .3)),
+        (omega (arith, counted begin), long .0, long .1, long .2, omega (arith, l .inv .1)),
+        (l .inv .2 ∙ s .pre .1 .1 .0, room-after 2 3 refl (s .pre .1 .1 .0) (s .pre .1 .1 .1) (l .inv .3)),
       ),
     )
 
 -- row u is crossed
-crossed : (c : tie.After-cross-row Inv-loop μ-loop) →
-    let p = c .before .before .before .before .before .before in
-    let a = entry (p .before) .args in
-    Grown (a .grid) (rowCrossed (a .grid) (a .axis) (p .loop .u) (hits (p .before) (p .loop .u))) (p .loop .crossings) (c .cross-row .last .1 .1 .1 .1 .1 .1 .1 .1 .1 .0)
+crossed : (c : tie.After-cross-row Inv-loop μ-loop) → let l = head c .loop in let begin = head c .before in let a = entry begin .args in
+    Grown (a .grid) (rowCrossed (a .grid) (a .axis) (l .u) (hits begin (l .u))) (l .crossings) (c .cross-row .last .1 .1 .1 .1 .1 .1 .1 .1 .1 .0)
 crossed c =
     let y = c .before .before .before in
-    let p = y .before .before .before in
-    let a = entry (p .before) .args in
-    let across = p .before .before .next .ensures in
-    let ys = y .across-y .ensures ∙ ap (acrossY (a .cast)) (y .before .centre2 .ensures ∙ ap (λ x. centreAlong (a .grid) x (p .loop .u)) across) in
-    let xs = p .before .before .before .along-x .ensures ∙ ap (alongX (a .cast)) (p .before .before .before .before .centre .ensures) in
-    row-as (a .grid) (a .axis) (p .loop .u) (rowHit (a .z0 .now) (a .z1 .now) (a .z2 .now) (y .across-y .result) (p .before .before .before .along-x .result)) (hits (p .before) (p .loop .u))
+    let u = head c .loop .u in
+    let begin = head c .before in
+    let x = begin .before .before in
+    let a = entry begin .args in
+    let ys = y .across-y .ensures ∙ ap (acrossY (a .cast)) (y .before .centre2 .ensures ∙ ap (λ x. centreAlong (a .grid) x u) (begin .before .next .ensures)) in
+    let xs = x .along-x .ensures ∙ ap (alongX (a .cast)) (x .before .centre .ensures) in
+    row-as (a .grid) (a .axis) u (rowHit (a .z0 .now) (a .z1 .now) (a .z2 .now) (y .across-y .result) (x .along-x .result)) (hits begin u)
     (λ v. ap₂ (λ (y′ : Three) (x′ : Three). rowHit (a .z0 .now) (a .z1 .now) (a .z2 .now) y′ x′ v) ys xs)
     (c .cross-row .ensures)
 
-add-u : tie.Need-add-u Inv-loop μ-loop
-add-u c = omega (arith, short (c .before .before .before .before .before .before .before .before .before))
-
-loop-less : tie.Need-loop-less Inv-loop μ-loop
-loop-less c = let test = c .before .before .before .before .before .before .before .before .before .loop-test .taken in omega arith
-
 loop-again : tie.Need-loop-again Inv-loop μ-loop
 loop-again c =
-    let r = c .before .before .before .before in
-    let p = r .before .before .before .before .before .before in
-    let a = entry (p .before) .args in
-    let l = p .loop in
-    let test = r .before .before .before .before .before .loop-test .taken in
-    let row = crossed r in
-    (omega arith, omega (arith, r .cross-row .kept, l .inv .1), row .long ∙ l .inv .2, axis-more (a .grid) (a .axis) (l .u) (hits (p .before)) (l .inv .3) row)
-
-same-length : tie.Need-same-length Inv-loop μ-loop
-same-length c = c .before .loop .inv .1
-
-same-length-2 : tie.Need-same-length-2 Inv-loop μ-loop
-same-length-2 c = c .before .loop .inv .2
+    let call : tie.After-cross-row Inv-loop μ-loop = search in
+    let turn : tie.In-loop Inv-loop μ-loop = search in
+    let l = turn .before .loop in
+    let begin = turn .before .before in
+    let a = entry begin .args in
+    let row = crossed call in
+    (omega arith, omega (arith, call .cross-row .kept, l .inv .1), row .long ∙ l .inv .2, axis-more (a .grid) (a .axis) (l .u) (hits begin) (l .inv .3) row)
 
 returns : tie.Need-returns Inv-loop μ-loop
 returns c =
-    let p = c .before in
-    let a = entry (p .before) .args in
-    axis-all (a .grid) (a .axis) (p .loop .u) (hits (p .before)) (omega (arith, counted (p .before), c .loop-test .left)) (p .loop .inv .3)
+    let l = c .before .loop in
+    let begin = c .before .before in
+    let a = entry begin .args in
+    axis-all (a .grid) (a .axis) (l .u) (hits begin) (omega (arith, counted begin, c .loop-test .left)) (l .inv .3)
 
 pub cross-rows-spec : {M : Type 1} → statement M
 cross-rows-spec =
     tie.close (tie.spec
     Inv-loop μ-loop
     (λ c κs. search needs) (λ c κs. search needs) (λ c κs. search needs) (λ c κs. search needs) loop-holds
-    centre-requires-2
-    (λ c κs. search needs) cross-row-requires add-u loop-less loop-again same-length same-length-2 returns)
+    (λ c κs. omega (arith, short c)) (λ c κs. search needs) cross-row-requires
+    (λ c. omega (arith, short search)) (λ c. let turn : tie.In-loop Inv-loop μ-loop = search in omega arith) loop-again
+    (λ c. c .before .loop .inv .1) (λ c. c .before .loop .inv .2) returns)

@@ -6,60 +6,60 @@ use Rattle.run_cross_lines.proofs.Grown.{room-less, room-after, triangle-grown}
 use Rattle.run_cross.proofs.cross_triangle.Statement.{statement}
 use Rattle.run_cross.proofs.cross_triangle.Tie as tie
 
--- the function's entry, and the call before the last
+-- the function's entry, from behind the growth along x; this, from behind that along y; and this one, from behind the last
 abbrev entry : tie.After-cross-along → tie.Start
-entry c = c .before .before .before .before .before .before .before .before .before .before .before
+entry x = x .before .before .before .before .before .before .before .before .before .before .before
 
-abbrev along-x : tie.After-cross-along-arg10 → tie.After-cross-along
-along-x c = c .before .before .before .before .before .before .before .before .before .before .before .before .before .before .before
+abbrev along-x : tie.After-cross-along2 → tie.After-cross-along
+along-x y = y .before .before .before .before .before .before .before .before .before .before .before .before .before .before .before .before
 
-abbrev along-y : tie.After-cross-along-arg15 → tie.After-cross-along2
-along-y c = c .before .before .before .before .before .before .before .before .before .before .before .before .before .before .before
+abbrev along-y : tie.After-cross-along3 → tie.After-cross-along2
+along-y z = z .before .before .before .before .before .before .before .before .before .before .before .before .before .before .before .before
 
 cross-along-requires : tie.Need-cross-along-requires
 cross-along-requires c κs =
-    let s = c .before .before .before .before .before .before .before .before .before .before in
+    let s : tie.Start = search in
     (s .pre .0, (s .pre .1 .0, (s .pre .1 .1 .0, room-less 3 5 (s .args .crossings .now) (omega arith) (s .pre .1 .1 .1))))
 
 cross-along-requires-2 : tie.Need-cross-along-requires-2
 cross-along-requires-2 c κs =
-    let x = along-x c in
+    let x : tie.After-cross-along = search in
     let s = entry x in
-    let grown = x .cross-along .ensures in (
+    let grown = x .cross-along .ensures in
+    let room = room-after 4 5 refl (s .pre .1 .1 .0) (s .pre .1 .1 .1) grown in (
       s .pre .0,
       (
         omega (arith, x .cross-along .kept, s .pre .1 .0),
-        (grown .long ∙ s .pre .1 .1 .0, room-less 3 4 (x .cross-along .last .1 .1 .1 .1 .1 .1 .1 .0) (omega arith) (room-after 4 5 refl (s .pre .1 .1 .0) (s .pre .1 .1 .1) grown)),
+        (grown .long ∙ s .pre .1 .1 .0, room-less 3 4 (x .cross-along .last .1 .1 .1 .1 .1 .1 .1 .0) (omega arith) room),
       ),
     )
 
 cross-along-requires-3 : tie.Need-cross-along-requires-3
 cross-along-requires-3 c κs =
-    let y = along-y c in
-    let x = along-x (y .before) in
+    let y : tie.After-cross-along2 = search in
+    let x = along-x y in
     let s = entry x in
     let grown = x .cross-along .ensures in
-    let long = grown .long ∙ s .pre .1 .1 .0 in (
+    let long = grown .long ∙ s .pre .1 .1 .0 in
+    let room = room-after 4 5 refl (s .pre .1 .1 .0) (s .pre .1 .1 .1) grown in (
       s .pre .0,
       (
         omega (arith, y .cross-along2 .kept, x .cross-along .kept, s .pre .1 .0),
-        (y .cross-along2 .ensures .long ∙ long, room-after 3 4 refl long (room-after 4 5 refl (s .pre .1 .1 .0) (s .pre .1 .1 .1) grown) (y .cross-along2 .ensures)),
+        (y .cross-along2 .ensures .long ∙ long, room-after 3 4 refl long room (y .cross-along2 .ensures)),
       ),
     )
 
 same-length : tie.Need-same-length
 same-length c =
-    let z = c .before .before .before .before .before .before .before .before .before .before in
-    let y = along-y (z .before) in
-    let x = along-x (y .before) in
-    omega (arith, z .cross-along3 .kept, y .cross-along2 .kept, x .cross-along .kept)
+    let z : tie.After-cross-along3 = search in
+    omega (arith, z .cross-along3 .kept, along-y z .cross-along2 .kept, along-x (along-y z) .cross-along .kept)
 
 -- the three growths
 returns : tie.Need-returns
 returns c =
-    let z = c .before .before .before .before .before .before .before .before .before .before in
-    let y = along-y (z .before) in
-    let x = along-x (y .before) in
+    let z : tie.After-cross-along3 = search in
+    let y = along-y z in
+    let x = along-x y in
     let s = entry x in
     triangle-grown (s .args .grid) (s .args .t) (x .cross-along .ensures) (y .cross-along2 .ensures) (z .cross-along3 .ensures)
 

@@ -1,8 +1,10 @@
--- `run_cross_hits::cross_line`: a miss reaches no cell; a hit reaches those up to the cell of its quotient (`crates/run_cross_lines/proofs/Hits.antt`). Assumes nothing.
+-- `run_cross_hits::cross_line`: a miss reaches no cell; a hit reaches those up to the cell of its quotient
+-- (`crates/run_cross_lines/proofs/Hits.antt`). Assumes nothing.
 use borrow.Author.Needs.{needs}
 use Prim.Native.Nat.{ℕ}
 use mathlib.Core.Path.{_≡_, sym, ap, ap₂, _∙_}
 use mathlib.Core.Bool.{true}
+use lib.IntN.{ℤ}
 use lib.Ieee.{Float}
 use Rattle.float.specs.Arith.{_⊘_, _≺_, f0}
 use Rattle.float.specs.Cell.{floorOf, cellOf}
@@ -15,47 +17,54 @@ use Rattle.run_cross_lines.proofs.Hits.{hit-grown}
 use Rattle.run_cross_hits.proofs.cross_line.Statement.{statement}
 use Rattle.run_cross_hits.proofs.cross_line.Tie as tie
 
+-- the function's entry, from where the hit is known; and that place, from behind the call that finds its cell
+abbrev entry : tie.After-hit → tie.Start
+entry h = h .before .before .before
+
+abbrev known : tie.After-cell → tie.After-hit
+known c = c .before .before .before .before .before
+
 -- the hit lies ahead
-in-front : (c : tie.After-hit) → f0 ≺ c .hit .given .0 .0 ≡ true
-in-front c = sym (ap ahead (c .hit .given .1)) ∙ c .before .before .before .pre .1 .1 .0
+in-front : (h : tie.After-hit) → f0 ≺ h .hit .given .0 .0 ≡ true
+in-front h = sym (ap ahead (h .hit .given .1)) ∙ entry h .pre .1 .1 .0
 
 -- the last cell that it reaches
-last-is : (c : tie.After-cell) →
-    let h = c .before .before .before .before .before in
-    let a = h .before .before .before .args in
-    c .cell .result .index ≡ cellOf (countOn (a .axis) (a .grid)) (floorOf (h .hit .given .0 .0 ⊘ sizeOn (a .axis) (a .grid)))
+abbrev reached : tie.After-hit → ℤ
+reached h = let a = entry h .args in floorOf (h .hit .given .0 .0 ⊘ sizeOn (a .axis) (a .grid))
+
+last-is : (c : tie.After-cell) → let a = entry (known c) .args in c .cell .result .index ≡ cellOf (countOn (a .axis) (a .grid)) (reached (known c))
 last-is c =
-    let h = c .before .before .before .before .before in
-    c .cell .ensures .at ∙ ap₂ (λ (n : ℕ) (size : Float). cellOf n (floorOf (h .hit .given .0 .0 ⊘ size))) (c .before .count-on .ensures) (c .before .before .get .ensures)
+    let t = known c .hit .given .0 .0 in
+    c .cell .ensures .at ∙ ap₂ (λ (n : ℕ) (size : Float). cellOf n (floorOf (t ⊘ size))) (c .before .count-on .ensures) (c .before .before .get .ensures)
 
 add-line-requires : tie.Need-add-line-requires
 add-line-requires c κs =
-    let s = c .before .before .before .before .before .before .before .before .before in
+    let h = known (c .before) in
+    let s = entry h in
     let a = s .args in
-    let z = floorOf (c .before .before .before .before .before .before .hit .given .0 .0 ⊘ sizeOn (a .axis) (a .grid)) in (
+    let some = on-axis (bounds-of (a .grid) (s .pre .0)) (a .axis) .some in (
       s .pre .0,
       (
-        (s .pre .1 .0 .0, s .pre .1 .0 .1, rw (last-is (c .before)) (cell-lt (countOn (a .axis) (a .grid)) z (on-axis (bounds-of (a .grid) (s .pre .0)) (a .axis) .some))),
-        (
-          s .pre .1 .1 .1 .0,
-          s .pre .1 .1 .1 .1,
-        ),
+        (s .pre .1 .0 .0, s .pre .1 .0 .1, rw (last-is (c .before)) (cell-lt (countOn (a .axis) (a .grid)) (reached h) some)),
+        (s .pre .1 .1 .1 .0, s .pre .1 .1 .1 .1),
       ),
     )
 
 returns : tie.Need-returns
 returns c =
-    let a = c .before .before .before .args in
+    let s : tie.Start = search in
+    let a = s .args in
     line-missed (a .grid) (a .axis) (a .u) (a .v) (a .hit) (a .crossings .now) (c .enum-told .given .1)
 
 returns-2 : tie.Need-returns-2
 returns-2 c =
-    let d = c .before .before in
-    let h = d .before .before .before .before .before .before .before in
-    let s = h .before .before .before in
-    let a = s .args in
+    let added : tie.After-add-line = search in
+    let found = added .before .before in
+    let h = known found in
+    let a = entry h .args in
     rw (h .hit .given .1)
-    (hit-grown (a .grid) (a .axis) (a .u) (a .v) (d .before .before .cell .result .index) (h .hit .given .0 .0) (s .pre .0) (in-front h) (last-is (d .before .before)) (d .add-line .ensures))
+    (hit-grown (a .grid) (a .axis) (a .u) (a .v) (found .cell .result .index) (h .hit .given .0 .0) (entry h .pre .0) (in-front h) (last-is found)
+    (added .add-line .ensures))
 
 pub cross-line-spec : {M : Type 1} → statement M
 cross-line-spec =

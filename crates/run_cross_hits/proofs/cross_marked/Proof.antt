@@ -22,12 +22,14 @@ use Rattle.run_cross_hits.proofs.cross_marked.Tie as tie
 
 abbrev Inv-loop : tie.InvT-loop
 Inv-loop grid axis u z0 z1 z2 ys xs flags crossings₀ count v₀ crossings v =
-    (v ≤ count) × (length crossings ≡ length crossings₀) × Grown grid (λ a c. ltb (vOf axis c) v && rowCrossed grid axis u (rowHit z0 z1 z2 ys xs) a c) crossings₀ crossings
+    (v ≤ count)
+    × (length crossings ≡ length crossings₀)
+    × Grown grid (λ a c. ltb (vOf axis c) v && rowCrossed grid axis u (rowHit z0 z1 z2 ys xs) a c) crossings₀ crossings
 
 abbrev μ-loop : tie.MeasureT-loop
 μ-loop grid axis u z0 z1 z2 ys xs flags crossings₀ count v₀ crossings v = count - v
 
--- the function's entry, and the answer on each line of the row
+-- the function's entry, from behind the count; and the answer on each line of the row
 abbrev entry : tie.After-count-on Inv-loop μ-loop → tie.Start Inv-loop μ-loop
 entry c = c .before .before .before .before .before .before .before
 
@@ -46,68 +48,62 @@ short c =
 loop-holds : tie.Need-loop-holds Inv-loop μ-loop
 loop-holds c = let a = entry c .args in (omega arith, refl, row-none (a .grid) (a .axis) (a .u) (hits c) (a .crossings .now))
 
-shared-slice-read-if1 : tie.Need-shared-slice-read-if1 Inv-loop μ-loop
-shared-slice-read-if1 c = omega (arith, short (c .before))
-
-three-at-requires : tie.Need-three-at-requires Inv-loop μ-loop
-three-at-requires c κs = omega (arith, short (c .before .before))
-
 cross-line-requires : tie.Need-cross-line-requires Inv-loop μ-loop
 cross-line-requires c κs =
-    let p = c .before .before .before .before .before .before in
-    let s = entry (p .before) in (
+    let l : tie.At-loop Inv-loop μ-loop = search in
+    let s = entry (l .before) in (
       s .pre .0,
       (
-        (s .pre .1 .0 .0, omega (arith, counted (p .before))),
+        (s .pre .1 .0 .0, omega (arith, counted (l .before))),
         (
           ap ahead (c .before .ray-of .ensures) ∙ hit-ahead (c .before .before .three-at .result) (s .args .ys) (s .args .xs),
           (
-            p .loop .inv .1 ∙ s .pre .1 .1 .1 .0,
-            room-after 1 2 refl (s .pre .1 .1 .1 .0) (s .pre .1 .1 .1 .1) (p .loop .inv .2),
+            l .loop .inv .1 ∙ s .pre .1 .1 .1 .0,
+            room-after 1 2 refl (s .pre .1 .1 .1 .0) (s .pre .1 .1 .1 .1) (l .loop .inv .2),
           ),
         ),
       ),
     )
 
 -- line v is crossed, whether it was marked or not
-crossed : (c : tie.Joined1 Inv-loop μ-loop) →
-    let p = c .before .before .before in
-    let a = entry (p .before) .args in
+crossed : (c : tie.Joined1 Inv-loop μ-loop) → let p = c .before .before .before in let a = entry (p .before) .args in
     Grown (a .grid) (lineCrossed (a .grid) (a .axis) (a .u) (p .loop .v) (hits (p .before) (p .loop .v))) (p .loop .crossings) (c .if1 .crossings)
 crossed c =
     let p = c .before .before .before in
-    let s = entry (p .before) in
+    let l = p .loop in
+    let begin = p .before in
+    let s = entry begin in
     let a = s .args in
-    let v = p .loop .v in
-    let zs = partsAt (a .z0 .now) (a .z1 .now) (a .z2 .now) v in
+    let zs = partsAt (a .z0 .now) (a .z1 .now) (a .z2 .now) (l .v) in
     ⊎-elim
     (λ w. let e = w .2 .ensures ∙ ap (λ (t : Three). rayOf t (a .ys) (a .xs)) (w .1 .ensures) in rw (w .7) (rw e at (w .4 .ensures)))
     (λ w.
-    let missed = must-miss zs (a .ys) (a .xs) (sym (s .pre .1 .1 .0 .each v (omega (arith, counted (p .before)))) ∙ w .0 .left) in
-    rw (w .1) (line-missed (a .grid) (a .axis) (a .u) v (hits (p .before) v) (p .loop .crossings) missed))
+    let missed = must-miss zs (a .ys) (a .xs) (sym (s .pre .1 .1 .0 .each (l .v) (omega (arith, counted begin))) ∙ w .0 .left) in
+    rw (w .1) (line-missed (a .grid) (a .axis) (a .u) (l .v) (hits begin (l .v)) (l .crossings) missed))
     (c .if1 .came)
 
 loop-again : tie.Need-loop-again Inv-loop μ-loop
 loop-again c =
-    let p = c .before .before .before in
-    let a = entry (p .before) .args in
-    let l = p .loop in
-    let test = c .before .before .loop-test .taken in
+    let turn : tie.In-loop Inv-loop μ-loop = search in
+    let l = turn .before .loop in
+    let begin = turn .before .before in
+    let a = entry begin .args in
     let line = crossed c in
-    (omega arith, line .long ∙ l .inv .1, row-more (a .grid) (a .axis) (a .u) (l .v) (hits (p .before)) (l .inv .2) line)
+    (omega arith, line .long ∙ l .inv .1, row-more (a .grid) (a .axis) (a .u) (l .v) (hits begin) (l .inv .2) line)
 
 returns : tie.Need-returns Inv-loop μ-loop
 returns c =
-    let p = c .before in
-    let a = entry (p .before) .args in
-    row-all (a .grid) (a .axis) (a .u) (p .loop .v) (hits (p .before)) (omega (arith, counted (p .before))) (p .loop .inv .2)
+    let l = c .before .loop in
+    let begin = c .before .before in
+    let a = entry begin .args in
+    row-all (a .grid) (a .axis) (a .u) (l .v) (hits begin) (omega (arith, counted begin)) (l .inv .2)
 
 pub cross-marked-spec : {M : Type 1} → statement M
 cross-marked-spec =
     tie.close (tie.spec
     Inv-loop μ-loop
     (λ c κs. search needs) (λ c κs. search needs) loop-holds
-    (λ c. search needs) shared-slice-read-if1 three-at-requires
+    (λ c. search needs) (λ c. omega (arith, short search)) (λ c κs. omega (arith, short search))
     (λ c κs. search needs) cross-line-requires
     (λ c. search needs) (λ c. omega arith) loop-again
     (λ c. omega arith) returns)

@@ -22,15 +22,23 @@ Inv-loop field base rows₀ z₀ rows z = (z ≤ length rows₀) × (length rows
 abbrev μ-loop : tie.MeasureT-loop
 μ-loop field base rows₀ z₀ rows z = length rows₀ - z
 
--- what is stored in this turn
-stored : (c : tie.After-one-if Inv-loop μ-loop) →
-    let a = c .before .before .before .before .before .before .before .args in
-    let l = c .before .before .before .before .loop in
-    getD (l .rows) (l .z) 0 + c .one-if .result ≡ more (a .field .now) (a .base) (a .rows .now) (l .z)
+-- the function's entry, from the loop's head; the loop's head, from behind the call that tells what to add
+abbrev entry : tie.At-loop Inv-loop μ-loop → tie.Start Inv-loop μ-loop
+entry l = l .before .before .before
+
+abbrev head : tie.After-one-if Inv-loop μ-loop → tie.At-loop Inv-loop μ-loop
+head c = c .before .before .before .before
+
+-- what each row is to hold, and what is stored in this turn
+abbrev rows-then : tie.At-loop Inv-loop μ-loop → ℕ → ℕ
+rows-then l = let a = entry l .args in more (a .field .now) (a .base) (a .rows .now)
+
+stored : (c : tie.After-one-if Inv-loop μ-loop) → let l = head c in getD (l .loop .rows) (l .loop .z) 0 + c .one-if .result ≡ rows-then l (l .loop .z)
 stored c =
-    let a = c .before .before .before .before .before .before .before .args in
-    let l = c .before .before .before .before .loop in
-    ap (λ (n : ℕ). n + c .one-if .result) (l .inv .2 .back (l .z) (omega arith)) ∙ ap (λ (n : ℕ). getD (a .rows .now) (l .z) 0 + n) (c .one-if .ensures ∙ ap (λ (b : Bool). cond b 1 0) (c .before .counted .ensures))
+    let l = head c .loop in
+    let counts = c .one-if .ensures ∙ ap (λ (b : Bool). cond b 1 0) (c .before .counted .ensures) in
+    ap (λ (n : ℕ). n + c .one-if .result) (l .inv .2 .back (l .z) (omega arith))
+    ∙ ap (λ (n : ℕ). getD (entry (head c) .args .rows .now) (l .z) 0 + n) counts
 
 one : (b : Bool) → cond b 1 0 ≤ 1
 one true = omega arith
@@ -41,15 +49,17 @@ loop-holds c = let a = c .before .before .args in (omega arith, refl, filled-non
 
 add-rows : tie.Need-add-rows Inv-loop μ-loop
 add-rows c =
-    let s = c .before .before .before .before .before .before .before .before in
-    let z = c .before .before .before .before .before .loop .z in
+    let l = head (c .before) in
+    let s = entry l in
+    let z = l .loop .z in
     omega (arith, stored (c .before), one (counted (getD (s .args .field .now) (s .args .base + z) nan)), s .pre .1 z)
 
 loop-again : tie.Need-loop-again Inv-loop μ-loop
 loop-again c =
-    let a = c .before .before .before .before .before .before .before .before .args in
-    let l = c .before .before .before .before .before .loop in
-    let f = filled-more 0 (more (a .field .now) (a .base) (a .rows .now)) (a .rows .now) (l .z) (l .rows) (getD (l .rows) (l .z) 0 + c .before .one-if .result) (omega arith) (stored (c .before)) (l .inv .2) in
+    let h = head (c .before) in
+    let l = h .loop in
+    let value = getD (l .rows) (l .z) 0 + c .before .one-if .result in
+    let f = filled-more 0 (rows-then h) (entry h .args .rows .now) (l .z) (l .rows) value (omega arith) (stored (c .before)) (l .inv .2) in
     (omega arith, f .long, f)
 
 returns : tie.Need-returns Inv-loop μ-loop

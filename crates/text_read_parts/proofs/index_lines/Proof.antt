@@ -48,9 +48,7 @@ index-lines-spec =
     tie.close (tie.spec
     Inv-loop μ-loop loop-holds
     (λ c κs. tt) (λ c. search needs) (λ c. search needs) (λ c. search needs) returns
-    (λ c. omega (arith, reach (c .before .before .before .before)))
-    (λ c. omega (arith, reach (c .before .before .before .before)))
-    (λ c. omega (arith, reach (c .before .before .before .before)))
+    (λ c. omega (arith, reach search)) (λ c. omega (arith, reach search)) (λ c. omega (arith, reach search))
     (λ c. search needs) loop-again
     (λ c. search needs)
     (λ c. stored-all indexAt take (c .before .loop .inv) (c .loop-test .left)))

@@ -35,27 +35,19 @@ loop-again c =
     let v = c .before in
     let o = v .before .before .before in
     let l = o .before .loop in
-    stored-more vertexLineAt threesIn (l .inv) (o .loop-test .taken) (rw (v .three .given .1) at (v .before .before .vertex-line .ensures)) (simp length-set refl)
-    (threes-more (l .i) (v .three .given .0 .0) (l .out) (reach o))
+    stored-more vertexLineAt threesIn (l .inv) (o .loop-test .taken) (rw (v .three .given .1) at (v .before .before .vertex-line .ensures))
+    (simp length-set refl) (threes-more (l .i) (v .three .given .0 .0) (l .out) (reach o))
 
 pub vertex-lines-spec : {M : Type 1} → statement M
 vertex-lines-spec =
     tie.close (tie.spec
     Inv-loop μ-loop loop-holds
     (λ c κs. tt) (λ c. search needs) (λ c. search needs) (λ c. search needs) returns
-    (λ c. let h = reach (c .before .before .before .before) in omega arith)
-    (λ c. let h = reach (c .before .before .before .before) in omega arith)
-    (λ c. let h = reach (c .before .before .before .before) in omega arith)
-    (λ c. let h = reach (c .before .before .before .before) in omega arith)
-    (λ c. let h = reach (c .before .before .before .before) in omega arith)
-    (λ c. let h = reach (c .before .before .before .before) in omega arith)
-    (λ c. let h = reach (c .before .before .before .before) in simp length-set (omega arith))
-    (λ c. let h = reach (c .before .before .before .before) in omega arith)
-    (λ c. let h = reach (c .before .before .before .before) in omega arith)
-    (λ c. let h = reach (c .before .before .before .before) in omega arith)
-    (λ c. let h = reach (c .before .before .before .before) in simp length-set (omega arith))
-    (λ c. let h = reach (c .before .before .before .before) in omega arith)
-    (λ c. let h = reach (c .before .before .before .before) in omega arith)
-    loop-again
+    (λ c. omega (arith, reach search)) (λ c. omega (arith, reach search)) (λ c. omega (arith, reach search))
+    (λ c. omega (arith, reach search)) (λ c. omega (arith, reach search)) (λ c. omega (arith, reach search))
+    (λ c. let h = reach search in simp length-set (omega arith))
+    (λ c. omega (arith, reach search)) (λ c. omega (arith, reach search)) (λ c. omega (arith, reach search))
+    (λ c. let h = reach search in simp length-set (omega arith))
+    (λ c. omega (arith, reach search)) (λ c. omega (arith, reach search)) loop-again
     (λ c. search needs)
     (λ c. stored-all vertexLineAt threesIn (c .before .loop .inv) (c .loop-test .left)))
