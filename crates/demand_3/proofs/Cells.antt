@@ -24,9 +24,9 @@ use Rattle.grid.specs.Index.{indexOf, total, Inside}
 use Rattle.grid.proofs.Laws.{index-below, cell-of-index}
 use Rattle.mesh.specs.Mesh.{Mesh, trianglesIn, cornersAt}
 use Rattle.run.specs.Run.{State, none, held, run}
-use Rattle.run.specs.Ground.{runInput}
+use Rattle.run.specs.Input.{runInput}
 use Rattle.run.specs.Signs.{crossings, axisAt, crossingsAt, allCrossings, twoOdd, inside, signed, signedField}
-use Rattle.run.proofs.Grounds.{box-inside, fair-ground}
+use Rattle.run.proofs.Inputs.{box-inside, fair-input}
 use Rattle.demand_3.specs.Meaning.{countLeft, oddOnes, CellMeans}
 use Rattle.demand_3.proofs.Values.{FairOn, magnitude-distance, least, names}
 
@@ -91,7 +91,7 @@ module _ (grid : Grid) (mesh : Mesh) (room limit : ℕ) (some : (a : Axis) → 0
   unfolding runInput
   fair-on =
       record {
-        fair = fair-ground grid mesh room limit some few;
+        fair = fair-input grid mesh room limit some few;
         cells-are = refl;
         index-is = λ x y z. refl;
         around-is = λ c i. refl;

@@ -1,6 +1,6 @@
 -- The definitions claim no less than the run does: whatever a pop offers to a cell was held by the cell or a neighbour, and whatever a
 -- cell names at the end of seeding has a snapped box that covers the cell. The idea: an entry is queued when its cell names its
--- triangle, and that state is one of the run's. Assumes nothing but what `FairOn` asks of the ground.
+-- triangle, and that state is one of the run's. Assumes nothing but what `FairOn` asks of the input.
 use Prim.Native.Nat.{ℕ, suc, _<_}
 use native.Mathlib.Numerals.{add-one}
 use native.Mathlib.Omega.{arith}

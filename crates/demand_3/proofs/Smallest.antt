@@ -22,17 +22,17 @@ use Rattle.queue.proofs.Order.{order-of, nearer-first, larger-cell-first}
 use Rattle.mesh_topology.specs.Topology.{trianglesOf, kth}
 use Rattle.mesh.specs.Mesh.{vertexCount}
 use Rattle.run.specs.Run.{RunInput, Place, off, at, State, taken, queue, queueCell, queueing, spreadTo, spreadAround}
-use Rattle.run.specs.Ground.{runInput}
+use Rattle.run.specs.Input.{runInput}
 use Rattle.run.proofs.Values.{Fair}
 use Rattle.run.proofs.Offers.{Offer, passes, takesIt, offer-went, Queued, queue-went, QueuedCell, notBelow, below, queueCell-went}
 use Rattle.run.specs.Good.{Waits, Good, Apart}
-use Rattle.run.proofs.Grounds.{fair-ground}
+use Rattle.run.proofs.Inputs.{fair-input}
 use Rattle.run.proofs.Seeding.{seeding-empty}
 use Rattle.run.proofs.Spreading.{turnOf}
 use Rattle.job_checks.specs.Job.{Job, Lent}
 use Rattle.job_checks.specs.Refusals.{refusal}
 use Rattle.demand_3.specs.States.{BeforePop, afterQueueing, afterPop}
-use Rattle.demand_3.specs.Demand3.{groundFor}
+use Rattle.demand_3.specs.Demand3.{inputFor}
 use Rattle.demand_3.specs.Smallest.{SmallestTaken}
 use Rattle.demand_3.proofs.States.{before-pop-good}
 use Rattle.demand_3.proofs.Theorem.{checks-passed}
@@ -121,7 +121,7 @@ module _ (g : RunInput) (F : Fair g) (O : Ordered g) where
 
 -- ---- of every job that comes to its run
 
-order-on : (j : Job) (b : Lent) → Ordered (groundFor j b)
+order-on : (j : Job) (b : Lent) → Ordered (inputFor j b)
 unfolding runInput
 order-on j b =
     let m = j .mesh in
@@ -133,7 +133,7 @@ order-on j b =
       larger-cell = larger-cell-first corners;
     }
 
-pub smallest-taken : (j : Job) (b : Lent) → refusal j b ≡ 0 → SmallestTaken (groundFor j b)
+pub smallest-taken : (j : Job) (b : Lent) → refusal j b ≡ 0 → SmallestTaken (inputFor j b)
 smallest-taken j b h =
     let p = checks-passed j b h in
-    taken-smallest (groundFor j b) (fair-ground (j .grid) (j .mesh) (length (b .distances)) (j .limit) (p .some) (p .few)) (order-on j b)
+    taken-smallest (inputFor j b) (fair-input (j .grid) (j .mesh) (length (b .distances)) (j .limit) (p .some) (p .few)) (order-on j b)

@@ -1,6 +1,6 @@
 -- The states of a run from the end of seeding on: what is true of each, that the run's end is one of them, and that in a run that is
 -- Done whatever a cell names in one of them has been offered to all the cells around at the end. The idea: what a cell names waits as
--- an entry or has been offered around, and at the end nothing waits. Assumes nothing but what `Fair` asks of the ground.
+-- an entry or has been offered around, and at the end nothing waits. Assumes nothing but what `Fair` asks of the input.
 use Prim.Native.Nat.{ℕ, zero, suc, _≤_, _<_}
 use native.Mathlib.Omega.{arith}
 use mathlib.Core.Path.{_≡_, sym, ap, _∙_, subst}

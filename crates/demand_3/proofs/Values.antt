@@ -1,6 +1,6 @@
--- The magnitudes and the names of a run that is Done, over any ground whose steps and indices are those of a grid. A triangle whose
+-- The magnitudes and the names of a run that is Done, over any input whose steps and indices are those of a grid. A triangle whose
 -- snapped box covers a cell was met there in seeding; one that a neighbour held was offered around before the end; and no value rises.
--- Assumes nothing but what `FairOn` asks of the ground.
+-- Assumes nothing but what `FairOn` asks of the input.
 use Prim.Native.Nat.{ℕ, _≤_, _<_}
 use native.Mathlib.Omega.{arith}
 use mathlib.Core.Path.{_≡_, refl, sym, _∙_, subst}

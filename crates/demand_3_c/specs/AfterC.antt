@@ -5,7 +5,7 @@ use Rattle.grid.specs.Index.{Inside}
 use Rattle.job_checks.specs.Job.{Job, Lent}
 use Rattle.job_outcome.specs.Outcome.{outcome}
 use Rattle.demand_3.specs.Meaning.{CellMeans}
-use Rattle.demand_3.specs.Demand3.{groundFor}
+use Rattle.demand_3.specs.Demand3.{inputFor}
 use Rattle.c_job.specs.declared.SdfJobAnswer.{SdfJobAnswer}
 use Rattle.c_job.specs.Job.{GivesC}
 
@@ -14,4 +14,4 @@ use Rattle.c_job.specs.Job.{GivesC}
 abbrev pub AfterCallFromC : Job → Lent → SdfJobAnswer → Lent → Type 0
 AfterCallFromC j b answer left =
     GivesC (outcome j b) answer left → answer .number ≡ 0 → (c : Cell) → Inside (j .grid) c
-    → CellMeans (j .grid) (j .mesh) (groundFor j b) (left .field) (left .names) (left .crossings) c
+    → CellMeans (j .grid) (j .mesh) (inputFor j b) (left .field) (left .names) (left .crossings) c

@@ -15,7 +15,7 @@ use Rattle.grid.specs.Index.{total}
 use Rattle.mesh.specs.Mesh.{Mesh}
 use Rattle.queue.specs.declared.Entry.{Entry}
 use Rattle.run.specs.Run.{State, Place, off, at, queue, offer, offerAt, spreadTo, spreadAround}
-use Rattle.run.specs.Ground.{runInput}
+use Rattle.run.specs.Input.{runInput}
 use Rattle.run.specs.Steps.{aroundCell}
 use Rattle.run_around.specs.Around.{placeOf, Around}
 use Rattle.entries_batch.specs.declared.Batch.{Batch}

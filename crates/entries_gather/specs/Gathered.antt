@@ -12,7 +12,7 @@ use Rattle.grid.specs.Index.{total}
 use Rattle.mesh.specs.Mesh.{Mesh}
 use Rattle.queue.specs.declared.Entry.{Entry}
 use Rattle.run.specs.Run.{RunInput, State, queue, spreadAround}
-use Rattle.run.specs.Ground.{runInput}
+use Rattle.run.specs.Input.{runInput}
 use Rattle.run_around.specs.Around.{placeOf}
 use Rattle.entries_batch.specs.declared.Batch.{Batch}
 use Rattle.entries_batch.specs.Batch.{entryIn, queueAll, over}

@@ -11,7 +11,7 @@ use Rattle.mesh.specs.Mesh.{Mesh}
 use Rattle.queue.specs.declared.Entry.{Entry}
 use Rattle.queue.proofs.Uses as Queue
 use Rattle.run.specs.Run.{run}
-use Rattle.run.specs.Ground.{runInput}
+use Rattle.run.specs.Input.{runInput}
 use Rattle.lists.specs.Turns.{told}
 use Rattle.run_state.specs.declared.Progress.{Progress}
 use Rattle.run_state.specs.Told.{orderIn, stateOf, Fit}

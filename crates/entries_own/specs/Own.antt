@@ -8,6 +8,10 @@ use Rattle.job_checks.specs.Job.{Lent, lentOf}
 use Rattle.job_outcome.specs.declared.Answer.{Answer}
 use Rattle.job_outcome.specs.Outcome.{Outcome}
 
+-- how many entries the row has; the code's is in src/lib.rt
+abbrev pub ownRoom : ℕ
+ownRoom = 2048
+
 -- the buffers, with a queue that is all zero
 abbrev pub lentOwn : List Float → List ℕ → List ℕ → List ℕ → ℕ → Lent
 lentOwn field names crossings rows room = lentOf field names crossings rows (replicate room 0) (replicate room 0) (replicate room 0)

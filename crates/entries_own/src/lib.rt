@@ -10,9 +10,12 @@ use terms::Terms;
 ghost use Prim.Native.Nat.{_≤_};
 ghost use Rattle.job_checks.specs.Job.{jobOf};
 ghost use Rattle.job_outcome.specs.Outcome.{outcome};
-ghost use Rattle.entries_own.specs.Own.{lentOwn, GivesFour};
+ghost use Rattle.entries_own.specs.Own.{ownRoom, lentOwn, GivesFour};
 
-// The job with room for so many entries, at most 2,048.
+// How many entries the row has.
+pub const OWN_ROOM: usize = 2048;
+
+// The job with room for so many entries, at most what the row has.
 pub fn run_records(
     grid: Grid,
     vertices: &[f32],
@@ -26,7 +29,7 @@ pub fn run_records(
     room: usize,
     terms: Terms,
 ) -> Answer
-    requires { ⌜ room ≤ 2048 ⌝ }
+    requires { ⌜ room ≤ ownRoom ⌝ }
     ensures { λ r.
         let job = jobOf grid (now (vertices .entry)) topology given (now (indices .entry)) terms in
         let lent = lentOwn (now (field .entry)) (now (names .entry)) (now (crossings .entry)) (now (rows .entry)) room in
@@ -37,7 +40,7 @@ pub fn run_records(
         cell: 0,
         triangle: 0,
     };
-    let mut queue = [none; 2048];
+    let mut queue = [none; OWN_ROOM];
     entries_generate::generate_grid_sdf_records(
         grid,
         vertices,

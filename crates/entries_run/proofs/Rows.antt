@@ -14,7 +14,7 @@ use Rattle.grid.proofs.Facts.{bounds-of}
 use Rattle.mesh.specs.Mesh.{Mesh, trianglesIn}
 use Rattle.queue.specs.declared.Entry.{Entry}
 use Rattle.run.specs.Run.{State, none, queueing, spreading, run}
-use Rattle.run.specs.Ground.{runInput}
+use Rattle.run.specs.Input.{runInput}
 use Rattle.run_state.specs.declared.Progress.{Progress}
 use Rattle.run_state.specs.Told.{orderIn, Fit, Known, Named}
 use Rattle.entries.specs.Row.{rowDistances, rowCells, rowTriangles, HeldRow}

@@ -10,7 +10,7 @@ ghost use mathlib.Core.Path.{_≡_};
 ghost use lib.ListN.{length};
 ghost use Rattle.mesh.specs.Mesh.{meshOf};
 ghost use Rattle.run.specs.Run.{run};
-ghost use Rattle.run.specs.Ground.{runInput};
+ghost use Rattle.run.specs.Input.{runInput};
 ghost use Rattle.run_state.specs.Told.{Fit};
 ghost use Rattle.entries.specs.Row.{rowDistances, rowCells, rowTriangles};
 ghost use Rattle.run_field.specs.Running.{Leaves};

@@ -16,7 +16,7 @@ use Rattle.grid.specs.Index.{total}
 use Rattle.mesh.specs.Mesh.{Mesh, trianglesIn}
 use Rattle.queue.specs.declared.Entry.{Entry}
 use Rattle.run.specs.Run.{takeFirst, spreading}
-use Rattle.run.specs.Ground.{runInput}
+use Rattle.run.specs.Input.{runInput}
 use Rattle.run_state.specs.declared.Progress.{Progress}
 use Rattle.run_state.specs.Told.{refusedBy, orderIn, Known}
 use Rattle.run_spread.proofs.Pops.{first-known, rest-holds, popped, Spreads, spread-spent, spread-stops, spread-on, counted}

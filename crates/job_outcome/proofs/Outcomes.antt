@@ -12,7 +12,7 @@ use Rattle.mesh.specs.Mesh.{Mesh}
 use Rattle.queue.specs.Queue.{Held, Cleared}
 use Rattle.queue.proofs.Uses.{left-zero}
 use Rattle.run.specs.Run.{State, run}
-use Rattle.run.specs.Ground.{runInput}
+use Rattle.run.specs.Input.{runInput}
 use Rattle.run_state.specs.declared.Progress.{Progress}
 use Rattle.run_state.specs.Told.{orderIn, stateOf, Ran}
 use Rattle.job_checks.specs.declared.Lengths.{Lengths}

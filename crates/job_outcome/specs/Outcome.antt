@@ -5,7 +5,7 @@ use mathlib.Core.Path.{_≡_}
 use lib.ListN.{length}
 use Rattle.lists.specs.Turns.{Turn, goes, refuses}
 use Rattle.run.specs.Run.{State, run}
-use Rattle.run.specs.Ground.{runInput}
+use Rattle.run.specs.Input.{runInput}
 use Rattle.run.specs.Signs.{signedField, allCrossings, rows}
 use Rattle.job_checks.specs.Job.{Job, Lent}
 use Rattle.job_checks.specs.Refusals.{refusal}

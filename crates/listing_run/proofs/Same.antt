@@ -18,9 +18,9 @@ use Rattle.grid.specs.Index.{total}
 use Rattle.grid.specs.Bounds.{isAxis, inBounds}
 use Rattle.grid.proofs.Facts.{bounds-of, on-axis}
 use Rattle.run.specs.Run.{State}
-use Rattle.run.specs.Ground.{runInput}
+use Rattle.run.specs.Input.{runInput}
 use Rattle.run.proofs.Done.{run-done}
-use Rattle.run.proofs.Grounds.{fair-ground}
+use Rattle.run.proofs.Inputs.{fair-input}
 use Rattle.job_outcome.specs.declared.Answer.{Answer}
 use Rattle.job_outcome.specs.declared.Answer.the-variants.{Refused, Done}
 use Rattle.job_checks.specs.Job.{Job, Lent, lentOf}
@@ -64,7 +64,7 @@ ran-low j b r s h =
     let room = length (b .distances) in
     let fit = accepted (j .grid) (j .mesh) (lengthsOf b) r .fit in
     run-done (runInput (j .grid) (j .mesh) room (j .limit))
-    (fair-ground (j .grid) (j .mesh) room (j .limit) (λ a. on-axis (bounds-of (j .grid) (fit .ready .bounded)) a .some) (omega (arith, fit .few)))
+    (fair-input (j .grid) (j .mesh) room (j .limit) (λ a. on-axis (bounds-of (j .grid) (fit .ready .bounded)) a .some) (omega (arith, fit .few)))
     s
     h
     .peak-few

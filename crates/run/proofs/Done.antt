@@ -1,5 +1,5 @@
 -- What is true of the state in which a run ends: how long its lists are, that nothing waits, and that pops and peak keep to the limit
--- and the room. Assumes nothing but what `Fair` asks of the ground.
+-- and the room. Assumes nothing but what `Fair` asks of the input.
 use Prim.Native.Nat.{_≤_}
 use native.Mathlib.Omega.{arith}
 use mathlib.Core.Path.{_≡_, _∙_}

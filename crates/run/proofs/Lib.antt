@@ -8,5 +8,5 @@ pub mod Spreading
 pub mod Done
 pub mod Steps
 pub mod Ways
-pub mod Grounds
+pub mod Inputs
 pub mod Numbers

@@ -1,5 +1,5 @@
 -- While cells are queued, and after it: values and names are as at the end of seeding, each cell passed that has a triangle has its
--- entry, and no cell has two. Assumes nothing but what `Fair` asks of the ground.
+-- entry, and no cell has two. Assumes nothing but what `Fair` asks of the input.
 use Prim.Native.Nat.{ℕ, suc, _≤_, _<_}
 use native.Mathlib.Nat.{eq-or-lt-of-le, le-of-suc-le-suc, not-suc-le-zero}
 use native.Mathlib.Omega.{arith}

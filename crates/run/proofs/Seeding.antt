@@ -1,5 +1,5 @@
 -- After seeding every cell of every triangle's snapped box has met the triangle, and nothing waits. Each offer of the four loops was
--- made, no later offer raises a value, and no other offer is made. Assumes nothing but what `Fair` asks of the ground.
+-- made, no later offer raises a value, and no other offer is made. Assumes nothing but what `Fair` asks of the input.
 use Prim.Native.Nat.{ℕ, _≤_, _<_}
 use native.Mathlib.Decide.{ℕ-discrete}
 use native.Mathlib.Omega.{arith}

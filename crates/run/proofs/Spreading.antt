@@ -1,6 +1,6 @@
 -- Spreading. An entry that is taken is offered to all the cells around, no later offer raises a value, and an entry that waits is
 -- taken before the run ends: so at the end every cell around a waiting entry has met its triangle. Assumes nothing but what `Fair`
--- asks of the ground.
+-- asks of the input.
 use Prim.Native.Nat.{ℕ, zero, suc, _+_, _≤_, _<_}
 use native.Mathlib.Omega.{arith}
 use mathlib.Core.Path.{_≡_, refl, sym, subst}

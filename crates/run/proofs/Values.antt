@@ -1,6 +1,6 @@
 -- What the cells of a run hold: each is bare, with f32::MAX and no triangle, or has a triangle below f32::MAX, at that triangle's
 -- distance. A distance that is no NaN has no sign bit, so values are compared as their bit patterns, and a cell that takes a triangle
--- holds less than before. Assumes nothing but what the record `Fair` asks of the ground.
+-- holds less than before. Assumes nothing but what the record `Fair` asks of the input.
 use Prim.Native.Nat.{ℕ, _≤_, _<_}
 use native.Mathlib.Decide.{ℕ-discrete}
 use native.Mathlib.Omega.{arith}

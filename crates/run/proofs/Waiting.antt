@@ -1,6 +1,6 @@
 -- What waits in a run. Every waiting entry is of a cell and a triangle of the job, has that triangle's distance, and its cell holds no
 -- more since. A cell queues an entry only when its value falls, so two waiting entries never agree in both distance and cell. The
--- entries that wait never outgrow the peak, nor the peak the room. Assumes nothing but what `Fair` asks of the ground.
+-- entries that wait never outgrow the peak, nor the peak the room. Assumes nothing but what `Fair` asks of the input.
 use Prim.Native.Nat.{ℕ, zero, suc, _≤_, _<_}
 use native.Mathlib.Nat.{le-of-suc-le-suc, not-suc-le-zero}
 use native.Mathlib.Decide.{ℕ-discrete}

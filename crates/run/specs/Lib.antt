@@ -1,5 +1,5 @@
 pub mod Run
 pub mod Steps
-pub mod Ground
+pub mod Input
 pub mod Signs
 pub mod Good

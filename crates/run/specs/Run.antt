@@ -1,6 +1,6 @@
 -- "The run, from document 000" (document 01), steps 1 to 3, in the words of that section and over what the run is told of the grid,
 -- the mesh and the lent queue: which cells a triangle's snapped box has, how far a triangle is from a cell, which cells lie around a
--- cell, which entry is taken first. Ground.antt says what these are for a job. Definitions only.
+-- cell, which entry is taken first. Input.antt says what these are for a job. Definitions only.
 use Prim.Native.Nat.{ℕ, zero, suc, _+_, max}
 use mathlib.Core.Bool.{Bool, true, false}
 use mathlib.Core.List.{List, [], _∷_}

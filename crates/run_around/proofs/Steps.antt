@@ -30,7 +30,7 @@ use Rattle.geo_distance.proofs.Laws.{nan-alike}
 use Rattle.mesh.specs.Mesh.{Mesh, trianglesIn, cornersAt}
 use Rattle.queue.specs.declared.Entry.{Entry}
 use Rattle.run.specs.Run.{Place, off, at, none}
-use Rattle.run.specs.Ground.{distanceFrom}
+use Rattle.run.specs.Input.{distanceFrom}
 use Rattle.run.specs.Steps.{Shift, back, stay, ahead, Step, shiftOn, steps, stepAt, shifted, staysOn, stepFrom, aroundCell}
 use Rattle.run_around.specs.declared.Spot.{Spot}
 use Rattle.run_state.specs.Told.{Known}

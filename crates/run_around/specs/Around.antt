@@ -17,7 +17,7 @@ use Rattle.grid.specs.Place.{centreOf}
 use Rattle.mesh.specs.Mesh.{Mesh, cornersAt}
 use Rattle.queue.specs.declared.Entry.{Entry}
 use Rattle.run.specs.Run.{Place, off, at, none}
-use Rattle.run.specs.Ground.{distanceFrom}
+use Rattle.run.specs.Input.{distanceFrom}
 use Rattle.run.specs.Steps.{Shift, back, stay, ahead, Step, shiftOn, stepAt, shifted, staysOn, aroundCell}
 use Rattle.run_around.specs.declared.Spot.{Spot}
 

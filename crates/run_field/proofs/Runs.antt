@@ -17,10 +17,10 @@ use Rattle.queue.specs.declared.Entry.{Entry}
 use Rattle.queue.specs.Queue.{waiting}
 use Rattle.queue.proofs.Uses.{none-waits, how-many}
 use Rattle.run.specs.Run.{RunInput, State, none, atFirst, seeding, queueing, spreading, run}
-use Rattle.run.specs.Ground.{runInput}
+use Rattle.run.specs.Input.{runInput}
 use Rattle.run.proofs.Values.{Fair, has-below}
 use Rattle.run.proofs.Offers.{Spread, over, pops, spreading-went, run-went}
-use Rattle.run.proofs.Grounds.{fair-ground}
+use Rattle.run.proofs.Inputs.{fair-input}
 use Rattle.run.proofs.Seeding.{seeding-good}
 use Rattle.run_seed_cells.specs.Parts.{seedState, overTriangle}
 use Rattle.run_seed.proofs.Whole.{seeding-is}
@@ -29,7 +29,7 @@ use Rattle.run_state.specs.Told.{orderIn, stateOf, Fit, AllKnown, Holds, Ran, N
 use Rattle.run_state.proofs.Counts.{queueing-counts}
 use Rattle.run_field.specs.Running.{Leaves, Fresh, seeded}
 
--- ---- of any ground
+-- ---- of any input
 
 -- spreading ends only where nothing waits
 spreading-ends : (g : RunInput) (left : ℕ) (s t : State) → spreading g left s ≡ goes t → t .waiting ≡ []
@@ -69,7 +69,7 @@ module _ {g : Grid} {m : Mesh} where
   pub fresh-names : {field : List Float} {names ds cs ts : List ℕ} → Fresh g m field names ds cs ts → length names ≡ total g
   fresh-names f = ap length (f .names-bare) ∙ length-replicate (total g) none
 
-  -- what spreading's functions tell, as a part of the run over a ground with any limit
+  -- what spreading's functions tell, as a part of the run over an input with any limit
   pub as-left : {turn : RunInput → State → Turn State} {field field′ : List Float} {names ds cs ts names′ ds′ cs′ ts′ : List ℕ} {at r : Progress}
       → Told g m turn field names ds cs ts at field′ names′ ds′ cs′ ts′ r
       → Leaves g m (λ any. turn (runInput g m (length ds) any) (stateOf (orderIn m) field names ds cs ts at)) field′ names′ ds′ cs′ ts′ r
@@ -102,7 +102,7 @@ module _ {g : Grid} {m : Mesh} where
   -- ---- seeding before them
   module _ {field : List Float} {names ds cs ts : List ℕ} (fit : Fit g m) (fresh : Fresh g m field names ds cs ts) where
     fair : (room limit : ℕ) → Fair (runInput g m room limit)
-    fair room limit = fair-ground g m room limit (λ a. on-axis (bounds-of g (fit .ready .bounded)) a .some) (omega (arith, fit .few))
+    fair room limit = fair-input g m room limit (λ a. on-axis (bounds-of g (fit .ready .bounded)) a .some) (omega (arith, fit .few))
 
     module _ (field′ : List Float) (names′ : List ℕ) (n : ℕ)
         (h : turns (overTriangle g m) (length (trianglesIn m)) (seedState field names) ≡ told n (seedState field′ names′)) where

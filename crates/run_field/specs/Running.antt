@@ -28,7 +28,7 @@ before = record { number = 0; waiting = 0; pops = 0; peak = 0 }
 abbrev pub seeded : Mesh → List Float → List ℕ → List ℕ → List ℕ → List ℕ → State
 seeded m field names ds cs ts = stateOf (orderIn m) field names ds cs ts before
 
--- The slices hold what a part of the run, as it is told of a ground with any pop limit, leaves; or it was refused, and then the number
+-- The slices hold what a part of the run, as it is told of an input with any pop limit, leaves; or it was refused, and then the number
 -- alone says what the run came to.
 pub record Leaves (g : Grid) (m : Mesh) (part : ℕ → Turn State) (field : List Float) (names ds cs ts : List ℕ) (r : Progress) : Type 0 where
   pub holds : Holds g m field names ds cs ts (r .waiting)

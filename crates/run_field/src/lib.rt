@@ -9,7 +9,7 @@ ghost use lib.ListN.{length};
 ghost use Rattle.lists.specs.Turns.{andThen};
 ghost use Rattle.mesh.specs.Mesh.{meshOf};
 ghost use Rattle.run.specs.Run.{queueing, spreading, run};
-ghost use Rattle.run.specs.Ground.{runInput};
+ghost use Rattle.run.specs.Input.{runInput};
 ghost use Rattle.run_state.specs.Told.{Ready, Fit, Holds, Named};
 ghost use Rattle.run_field.specs.Running.{Leaves, Fresh, seeded};
 
@@ -33,9 +33,9 @@ fn spread_seeds(
     requires { ⌜ Named grid (meshOf (now vertices) topology given (now indices)) (now field) (now names) ⌝ }
     ensures { λ r.
         let m = meshOf (now (vertices .entry)) topology given (now (indices .entry)) in
-        let ground = runInput grid m (length (now (distances .entry))) in
+        let input = runInput grid m (length (now (distances .entry))) in
         let s = seeded m (now (field .entry)) (now (names .entry)) (now (distances .entry)) (now (cells .entry)) (now (triangles .entry)) in
-        ⌜ Leaves grid m (λ any. andThen (queueing (ground any) s) (spreading (ground any) (terms .limit)))
+        ⌜ Leaves grid m (λ any. andThen (queueing (input any) s) (spreading (input any) (terms .limit)))
         (now (field .exit)) (now (names .exit)) (now (distances .exit)) (now (cells .exit)) (now (triangles .exit)) r ⌝ }
 {
     let begun = Progress {

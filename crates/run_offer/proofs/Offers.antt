@@ -17,7 +17,7 @@ use Rattle.grid.specs.Index.{total}
 use Rattle.mesh.specs.Mesh.{Mesh, trianglesIn}
 use Rattle.queue.specs.declared.Entry.{Entry}
 use Rattle.run.specs.Run.{State, Place, off, at, none, held, entry, takes, queue, offerAt, offer, spreadTo, spreadAround}
-use Rattle.run.specs.Ground.{runInput}
+use Rattle.run.specs.Input.{runInput}
 use Rattle.run.proofs.Ways.{offer-nan, offer-passed, offer-taken, is-nan, is-number}
 use Rattle.run.specs.Steps.{aroundCell}
 use Rattle.run_state.specs.declared.Progress.{Progress}

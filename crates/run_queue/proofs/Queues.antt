@@ -23,7 +23,7 @@ use Rattle.queue.specs.Queue.{Held, Pushed, waiting}
 use Rattle.queue.proofs.Uses.{how-many}
 use Rattle.queue.proofs.Meaning.{from-insert}
 use Rattle.run.specs.Run.{RunInput, State, held, named, entry, queue, queued, queueCell, queueing}
-use Rattle.run.specs.Ground.{runInput}
+use Rattle.run.specs.Input.{runInput}
 use Rattle.run_state.specs.declared.Progress.{Progress}
 use Rattle.run_state.specs.Told.{refusedBy, orderIn, stateOf, Known, Holds, Named, Told, Queued}
 

@@ -1,4 +1,4 @@
--- The loops of seeding add up to the run's: each is the run's definition at a job's ground, opened. Assumes nothing.
+-- The loops of seeding add up to the run's: each is the run's definition at a job's input, opened. Assumes nothing.
 use Prim.Native.Nat.{ℕ}
 use mathlib.Core.Path.{_≡_, refl}
 use lib.ListN.{length}
@@ -7,7 +7,7 @@ use Rattle.grid.specs.declared.Grid.{Grid}
 use Rattle.grid.specs.Index.{total}
 use Rattle.mesh.specs.Mesh.{Mesh, trianglesIn}
 use Rattle.run.specs.Run.{atFirst, offer, seedLine, seedPlane, seedTriangle, seeding}
-use Rattle.run.specs.Ground.{distanceFrom, runInput}
+use Rattle.run.specs.Input.{distanceFrom, runInput}
 use Rattle.run_seed_cells.specs.Parts.{offerTo, alongLine, alongPlane, alongBox, overBox, overTriangle}
 
 module _ (g : Grid) (m : Mesh) (room limit : ℕ) where

@@ -15,7 +15,7 @@ use Rattle.grid.specs.Axes.{countOn, cellNumbered}
 use Rattle.grid.specs.Place.{centreOf, snapCell}
 use Rattle.grid.proofs.Facts.{bounds-of}
 use Rattle.grid.proofs.Snaps.{snap-within}
-use Rattle.run.specs.Ground.{seedFirst, seedLast}
+use Rattle.run.specs.Input.{seedFirst, seedLast}
 
 abbrev pub Small : Cell → Type 0
 Small c = (c .x < 2 ^ 16) × (c .y < 2 ^ 16) × (c .z < 2 ^ 16)

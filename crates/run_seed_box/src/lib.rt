@@ -10,7 +10,7 @@ ghost use lib.Dec.{ltb};
 ghost use Rattle.float.specs.Arith.{_≺_, if_then_else_};
 ghost use Rattle.grid.specs.Bounds.{inBounds};
 ghost use Rattle.grid.specs.Place.{snapCell};
-ghost use Rattle.run.specs.Ground.{seedFirst, seedLast};
+ghost use Rattle.run.specs.Input.{seedFirst, seedLast};
 
 // The number i of the first cell on an axis, one lower if it is above 0 and its centre lies above the
 // box's low side.

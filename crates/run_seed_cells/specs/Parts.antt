@@ -17,7 +17,7 @@ use Rattle.geo_distance.specs.Distance.{squaredOn, distanceOn}
 use Rattle.mesh.specs.declared.Corners.{Corners}
 use Rattle.mesh.specs.Mesh.{Mesh, cornersAt}
 use Rattle.run.specs.Run.{State, Box, offerAt, nothingElse}
-use Rattle.run.specs.Ground.{snappedBox}
+use Rattle.run.specs.Input.{snappedBox}
 
 -- in seeding nothing waits, and nothing was taken
 abbrev pub seedState : List Float → List ℕ → State

@@ -16,7 +16,7 @@ use Rattle.queue.specs.declared.Entry.{Entry}
 use Rattle.queue.specs.Queue.{Taken, waiting}
 use Rattle.queue.proofs.Uses.{how-many, none-waits}
 use Rattle.run.specs.Run.{RunInput, State, taken, spreadAround, takeFirst, limitReached, spreading}
-use Rattle.run.specs.Ground.{runInput}
+use Rattle.run.specs.Input.{runInput}
 use Rattle.run_state.specs.declared.Progress.{Progress}
 use Rattle.run_state.specs.Told.{refusedBy, orderIn, stateOf, Known, Holds, Told}
 use Rattle.run_state.proofs.Counts.{pop-counts}
@@ -82,7 +82,7 @@ none-left g zero s h = ap (λ (w : List Entry). limitReached w s) h
 none-left g (suc left) s h = ap (λ (w : List Entry). takeFirst g (spreading g left) w s) h
 
 -- The slices, which held field₀ to ts₀ and r₀, hold a state after some pops, and what is left to spread comes to all of it. `any` is
--- the ground's limit, `limit` the caller's.
+-- the input's limit, `limit` the caller's.
 module _ (g : Grid) (m : Mesh) (limit : ℕ) where
   pub record Spreads (field₀ : List Float) (names₀ ds₀ cs₀ ts₀ : List ℕ) (r₀ : Progress) (field : List Float) (names ds cs ts : List ℕ) (r : Progress) : Type 0 where
     pub fine : r .number ≡ 0

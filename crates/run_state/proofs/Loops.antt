@@ -11,7 +11,7 @@ use Rattle.lists.proofs.Turns.{told-goes, turns-none, turns-on, turns-stop}
 use Rattle.grid.specs.declared.Grid.{Grid}
 use Rattle.mesh.specs.Mesh.{Mesh}
 use Rattle.run.specs.Run.{RunInput, State}
-use Rattle.run.specs.Ground.{runInput}
+use Rattle.run.specs.Input.{runInput}
 use Rattle.run_state.specs.declared.Progress.{Progress}
 use Rattle.run_state.specs.Told.{orderIn, stateOf, Holds, Told}
 
@@ -35,7 +35,7 @@ alike l h h₀ =
       triangles-same = h .held .even .triangles ∙ l ∙ sym (h₀ .held .even .triangles);
     }
 
--- ---- what is told of a turn is told of another that is the same over every ground of a job
+-- ---- what is told of a turn is told of another that is the same over every input of a job
 
 pub told-as : {g : Grid} {m : Mesh} {f h : RunInput → State → Turn State} {field field′ : List Float} {names ds cs ts names′ ds′ cs′ ts′ : List ℕ} {p r : Progress}
     → ((room any : ℕ) (s : State) → h (runInput g m room any) s ≡ f (runInput g m room any) s)

@@ -17,7 +17,7 @@ use Rattle.queue.specs.declared.Entry.{Entry}
 use Rattle.queue.specs.Order.{orderOf}
 use Rattle.queue.specs.Queue.{Held, waiting}
 use Rattle.run.specs.Run.{RunInput, State, queue}
-use Rattle.run.specs.Ground.{runInput}
+use Rattle.run.specs.Input.{runInput}
 use Rattle.run_state.specs.declared.Progress.{Progress}
 
 -- the same, refused by a number
@@ -72,7 +72,7 @@ Named g m field names = (c : ℕ) → c < total g → (getD field c nan ≺ fMax
 -- ---- what is told
 
 -- A turn of the run over what is lent: the slices, which held field to ts and the counts at, hold in the end field′ to ts′ and r, which
--- is what the turn leaves, or it was refused. On a refusal the number alone says what the run came to. The ground's pop limit is any:
+-- is what the turn leaves, or it was refused. On a refusal the number alone says what the run came to. The input's pop limit is any:
 -- no turn asks for it.
 pub record Told (g : Grid) (m : Mesh) (turn : RunInput → State → Turn State)
     (field : List Float) (names ds cs ts : List ℕ) (at : Progress) (field′ : List Float) (names′ ds′ cs′ ts′ : List ℕ) (r : Progress) : Type 0 where

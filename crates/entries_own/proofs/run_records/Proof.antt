@@ -16,7 +16,7 @@ use Rattle.job_outcome.specs.Outcome.{Gives, outcome}
 use Rattle.entries.proofs.ByValue.{a-topology, a-given, an-entry}
 use Rattle.entries_generate.specs.LentRow.{lentRow}
 use Rattle.entries_generate.proofs.ByValue.{a-grid, a-terms, an-answer}
-use Rattle.entries_own.specs.Own.{lentOwn, GivesFour}
+use Rattle.entries_own.specs.Own.{ownRoom, lentOwn, GivesFour}
 use Rattle.entries_own.proofs.Own.{first-long, row-typed, own-slice, lends-own, comes-own}
 use Rattle.entries_own.proofs.Zeros.{gives-four}
 use Rattle.entries_generate.proofs.generate_grid_sdf_records as job
@@ -48,7 +48,7 @@ module _ {M : Type 1} (𝓤 : URA M) (H : Heap 𝓤) (A : Atoms 𝓤) (W : Given
     abbrev to-job : Slice E.the-row → List (Arg 𝓤 H A)
     to-job queue = value _ grid ∷ shown vertices ∷ value _ topology ∷ value _ given ∷ shown indices ∷ lent field ∷ lent names ∷ lent crossings ∷ lent rows ∷ lent queue ∷ value _ terms ∷ []
 
-    module _ (few : room .it ≤ 2048) (bs : Blocks (f.Code.function .locals)) where
+    module _ (few : room .it ≤ ownRoom) (bs : Blocks (f.Code.function .locals)) where
       abbrev En : Env 𝓤 H
       En = envOf 𝓤 H (f.Code.function .locals) bs
 
@@ -60,25 +60,25 @@ module _ {M : Type 1} (𝓤 : URA M) (H : Heap 𝓤) (A : Atoms 𝓤) (W : Given
       goes : Sq W (Locals 𝓤 H En (empty ∷ map holds (words ps)) ∷ slices ps []) (runs (𝓣 .C) (𝓣 .Λ) En f.Code.Mir.t-1 (atRet En Post))
       goes =
           -- an array that is all zero
-          puts ! (agg ! (opds ! _ (vint w32 0 ∷ vint w32 0 ∷ vint w32 0 ∷ []) refl)) tt (an-entry W .typed blank blank-is) $ puts ! (rep ! 2048 (opd ! refl)) tt (row-typed 𝓤 H A W 2048 blank blank-is) $
+          puts ! (agg ! (opds ! _ (vint w32 0 ∷ vint w32 0 ∷ vint w32 0 ∷ []) refl)) tt (an-entry W .typed blank blank-is) $ puts ! (rep ! ownRoom (opd ! refl)) tt (row-typed 𝓤 H A W ownRoom blank blank-is) $
           lends-on ! refl refl refl tt tt tt tt $ lends-on ! refl refl refl tt tt tt tt $ lends-on ! refl refl refl tt tt tt tt $ lends-on ! refl refl refl tt tt tt tt $
           puts ! (addr ! (from ! (stop !))) tt (tt, tt) $ puts ! (agg ! (opds ! _ (_ ∷ _ ∷ []) refl)) tt (tt, (tt, (record { fits = room .is .1 }, tt))) $
           -- its first entries are lent
-          lends-own ! tt 13 2048 (room .it) blank blank-is few own-room refl refl (λ ν δ. move ! (0 ∷ 3 ∷ 4 ∷ 5 ∷ 6 ∷ 7 ∷ 8 ∷ 1 ∷ []) $
+          lends-own ! tt 13 ownRoom (room .it) blank blank-is few own-room refl refl (λ ν δ. move ! (0 ∷ 3 ∷ 4 ∷ 5 ∷ 6 ∷ 7 ∷ 8 ∷ 1 ∷ []) $
           calls ! 𝓣 (to-job (queue ν δ)) (an-answer W)
           (λ r zs. Gives (outcome the-job (lentRow (field .ref .now) (names .ref .now) (crossings .ref .now) (rows .ref .now) (queue ν δ .ref .now))) r (lentRow (zs .0) (zs .1 .0) (zs .1 .1 .0) (zs .1 .1 .1 .0) (zs .1 .1 .1 .1 .0)))
           (asking-nothing (to-job (queue ν δ)) (λ n. met (bound-to (to-job (queue ν δ)) n))) refl refl (tt, refl) (λ r zs l gives.
-          move ! (7 ∷ 8 ∷ 0 ∷ []) $ comes-own ! tt 13 2048 (room .it) blank few own-room (zs .1 .1 .1 .1 .0) (l .1 .1 .1 .1 .0) refl tt refl (λ _. returns-at ! Post refl refl tt $
+          move ! (7 ∷ 8 ∷ 0 ∷ []) $ comes-own ! tt 13 ownRoom (room .it) blank few own-room (zs .1 .1 .1 .1 .0) (l .1 .1 .1 .1 .0) refl tt refl (λ _. returns-at ! Post refl refl tt $
           leaves (zs .0, (zs .1 .0, (zs .1 .1 .0, (zs .1 .1 .1 .0, tt)))) (l .0, (l .1 .0, (l .1 .1 .0, (l .1 .1 .1 .0, tt)))) r
-          (gives-four the-job (field .ref .now) (names .ref .now) (crossings .ref .now) (rows .ref .now) (queue ν δ .ref .now) (room .it) (first-long 2048 (room .it) blank few) (r .it) (zs .0) (zs .1 .0) (zs .1 .1 .0) (zs .1 .1 .1 .0) (zs .1 .1 .1 .1 .0) gives))))
+          (gives-four the-job (field .ref .now) (names .ref .now) (crossings .ref .now) (rows .ref .now) (queue ν δ .ref .now) (room .it) (first-long ownRoom (room .it) blank few) (r .it) (zs .0) (zs .1 .0) (zs .1 .1 .0) (zs .1 .1 .1 .0) (zs .1 .1 .1 .1 .0) gives))))
         where
           own-room : Room E.the-row (room .it)
           own-room = (omega (arith, few), omega (arith, few))
 
           queue : ℕ → GName → Slice E.the-row
-          queue = own-slice 2048 (room .it) blank few own-room (getD En 13 (noLocal 𝓤 H) .1)
+          queue = own-slice ownRoom (room .it) blank few own-room (getD En 13 (noLocal 𝓤 H) .1)
 
-    walk : room .it ≤ 2048 → ent 𝓤 (onEntry 𝓤 H A f.signature (own-bound ps .0 .0) (own-bound ps .0 .1) (own-bound ps .0 .3) (own-bound ps .0 .4)) (WpFn 𝓤 H (𝓣 .C) (𝓣 .Λ) f.Code.function (words ps) Post)
+    walk : room .it ≤ ownRoom → ent 𝓤 (onEntry 𝓤 H A f.signature (own-bound ps .0 .0) (own-bound ps .0 .1) (own-bound ps .0 .3) (own-bound ps .0 .4)) (WpFn 𝓤 H (𝓣 .C) (𝓣 .Λ) f.Code.function (words ps) Post)
     walk few = from-entry 𝓤 H A W ps (enters ! (𝓣 .C) (𝓣 .Λ) _ _ f.Code.function (words ps) Post refl (typed ps) (goes few))
 
   walks : Met → Walks 𝓤 H A f.ended (stays ss) (WpFn 𝓤 H (𝓣 .C) (𝓣 .Λ) f.Code.function) (f.clauses 𝓤 H A mem run)

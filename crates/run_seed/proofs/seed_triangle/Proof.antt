@@ -3,8 +3,8 @@ use borrow.Author.Needs.{needs}
 use mathlib.Core.Path.{sym, subst}
 use Rattle.grid.specs.Index.{Inside}
 use Rattle.grid.proofs.Facts.{bounds-of, on-axis}
-use Rattle.run.specs.Ground.{snappedBox}
-use Rattle.run.proofs.Grounds.{last-inside}
+use Rattle.run.specs.Input.{snappedBox}
+use Rattle.run.proofs.Inputs.{last-inside}
 use Rattle.run_seed_cells.specs.Parts.{overBox}
 use Rattle.run_seed.proofs.seed_triangle.Statement.{statement}
 use Rattle.run_seed.proofs.seed_triangle.Tie as tie

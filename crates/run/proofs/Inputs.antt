@@ -26,7 +26,7 @@ use Rattle.geo_distance.specs.Distance.{squaredOn}
 use Rattle.mesh.specs.declared.Corners.{Corners}
 use Rattle.mesh.specs.Mesh.{Mesh, trianglesIn, cornersAt}
 use Rattle.run.specs.Run.{none}
-use Rattle.run.specs.Ground.{raised, seedLast, snappedBox, distanceFrom, runInput}
+use Rattle.run.specs.Input.{raised, seedLast, snappedBox, distanceFrom, runInput}
 use Rattle.run.proofs.Values.{Fair}
 use Rattle.run.proofs.Steps.{around-on}
 
@@ -73,11 +73,11 @@ pub distance-unsigned : (g : Grid) (t : Corners) (c : Cell) → isNan (distanceF
 unfolding distanceFrom squaredOn
 distance-unsigned g t c h = root-distance _ (dot-self _ (root-number _ h))
 
--- ---- so a job's ground is fair
+-- ---- so a job's input is fair
 
-pub fair-ground : (g : Grid) (m : Mesh) (room limit : ℕ) → ((a : Axis) → 0 < countOn a g) → length (trianglesIn m) ≤ none → Fair (runInput g m room limit)
+pub fair-input : (g : Grid) (m : Mesh) (room limit : ℕ) → ((a : Axis) → 0 < countOn a g) → length (trianglesIn m) ≤ none → Fair (runInput g m room limit)
 unfolding runInput
-fair-ground g m room limit some few =
+fair-input g m room limit some few =
     record {
       few = few;
       distances = λ k c. distance-unsigned g (cornersAt m k) (cellAt g c);
