@@ -15,5 +15,4 @@ returns-2 : tie.Need-returns-2
 returns-2 c = kept-is (c .before .args .e) (c .before .args .m) (c .if1 .left)
 
 pub kept-spec : {M : Type 1} → statement M
-kept-spec = tie.close (tie.spec
-    (λ c κs. search needs) (λ c. search needs) returns-2)
+kept-spec = tie.close (tie.spec (λ c κs. search needs) (λ c. search needs) returns-2)

@@ -22,6 +22,4 @@ returns-3 c =
     c .refused .ensures ∙ room-full (s .args .at) (s .args .room) (c .before .if1 .left)
 
 pub queued-spec : {M : Type 1} → statement M
-queued-spec = tie.close (tie.spec
-    (λ c. search needs) returns returns-2
-    (λ c κs. search needs) returns-3)
+queued-spec = tie.close (tie.spec (λ c. search needs) returns returns-2 (λ c κs. search needs) returns-3)

@@ -12,5 +12,4 @@ returns-2 : tie.Need-returns-2
 returns-2 c = ap (countedBy (c .before .args .n)) (sym (c .if1 .left))
 
 pub counted-spec : {M : Type 1} → statement M
-counted-spec = tie.close (tie.spec
-    (λ c. search needs) returns returns-2)
+counted-spec = tie.close (tie.spec (λ c. search needs) returns returns-2)

@@ -12,6 +12,4 @@ returns-2 : tie.Need-returns-2
 returns-2 c = let s = c .before .before .before in c .refused .ensures ∙ stops-now (s .args .number) (s .args .at) (c .before .if1 .left)
 
 pub stopped-spec : {M : Type 1} → statement M
-stopped-spec = tie.close (tie.spec
-    returns
-    (λ c κs. search needs) returns-2)
+stopped-spec = tie.close (tie.spec returns (λ c κs. search needs) returns-2)

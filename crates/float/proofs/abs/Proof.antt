@@ -39,5 +39,4 @@ returns-2 c =
     ap (ofBits binary32) (cleared c) ∙ ofBits-toBits binary32 (absOf x) (abs-fits x (held (c .before)))
 
 pub abs-spec : {M : Type 1} → statement M
-abs-spec = tie.close (tie.spec
-    returns float-to-bits-result float-from-bits-result returns-2)
+abs-spec = tie.close (tie.spec returns float-to-bits-result float-from-bits-result returns-2)

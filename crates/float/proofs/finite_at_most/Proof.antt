@@ -23,5 +23,4 @@ returns-2 c =
     sym (ap (λ (t : Bool). t && (c .before .abs .result ≦ s .args .bound)) (c .if1 .left)) ∙ both (s .args .x) (s .args .bound) (c .before .abs .result) (c .before .abs .ensures)
 
 pub finite-at-most-spec : {M : Type 1} → statement M
-finite-at-most-spec = tie.close (tie.spec
-    (λ c κs. search needs) returns returns-2)
+finite-at-most-spec = tie.close (tie.spec (λ c κs. search needs) returns returns-2)

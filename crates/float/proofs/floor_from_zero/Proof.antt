@@ -21,5 +21,4 @@ returns-2 : tie.Need-returns-2
 returns-2 c = let p = from end-is (lit≤ tt) (c .before .args .x) (c .before .pre) (c .if1 .left) in (lit< tt, p .is ∙ ap pos (omega (arith, p .least)))
 
 pub floor-from-zero-spec : {M : Type 1} → statement M
-floor-from-zero-spec = tie.close (tie.spec
-    truncating-f32-to-u64-requires returns returns-2)
+floor-from-zero-spec = tie.close (tie.spec truncating-f32-to-u64-requires returns returns-2)

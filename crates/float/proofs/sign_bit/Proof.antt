@@ -19,7 +19,4 @@ returns-2 : tie.Need-returns-2
 returns-2 c = let x = c .before .args .x in sign-bits x (held (c .before)) (is-number x (c .if1 .left))
 
 pub sign-bit-spec : {M : Type 1} → statement M
-sign-bit-spec = tie.close (tie.spec
-    returns
-    (λ c. is-number (c .before .args .x) (c .if1 .left))
-    returns-2)
+sign-bit-spec = tie.close (tie.spec returns (λ c. is-number (c .before .args .x) (c .if1 .left)) returns-2)

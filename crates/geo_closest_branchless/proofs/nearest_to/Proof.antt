@@ -12,5 +12,4 @@ returns c =
     ∙ placed (dotsOf (s .f) (s .p)) (s .f)
 
 pub nearest-to-spec : {M : Type 1} → statement M
-nearest-to-spec = tie.close (tie.spec
-    (λ c κs. tt) (λ c κs. tt) (λ c κs. tt) (λ c κs. tt) returns)
+nearest-to-spec = tie.close (tie.spec (λ c κs. tt) (λ c κs. tt) (λ c κs. tt) (λ c κs. tt) returns)

@@ -6,5 +6,4 @@ use Rattle.geo_closest_branchless.proofs.regions_of.Tie as tie
 
 pub regions-of-spec : {M : Type 1} → statement M
 unfolding regionsOf
-regions-of-spec = tie.close (tie.spec
-    (λ c. refl))
+regions-of-spec = tie.close (tie.spec (λ c. refl))

@@ -6,5 +6,4 @@ use Rattle.geo_ray.proofs.across_y.Tie as tie
 
 pub across-y-spec : {M : Type 1} → statement M
 unfolding acrossY
-across-y-spec = tie.close (tie.spec
-    (λ c. refl))
+across-y-spec = tie.close (tie.spec (λ c. refl))

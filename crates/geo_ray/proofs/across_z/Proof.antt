@@ -6,5 +6,4 @@ use Rattle.geo_ray.proofs.across_z.Tie as tie
 
 pub across-z-spec : {M : Type 1} → statement M
 unfolding acrossZ
-across-z-spec = tie.close (tie.spec
-    (λ c. refl))
+across-z-spec = tie.close (tie.spec (λ c. refl))

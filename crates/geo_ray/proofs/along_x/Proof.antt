@@ -6,5 +6,4 @@ use Rattle.geo_ray.proofs.along_x.Tie as tie
 
 pub along-x-spec : {M : Type 1} → statement M
 unfolding alongX
-along-x-spec = tie.close (tie.spec
-    (λ c. refl))
+along-x-spec = tie.close (tie.spec (λ c. refl))

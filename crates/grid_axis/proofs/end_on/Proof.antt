@@ -3,6 +3,4 @@ use Rattle.grid_axis.proofs.end_on.Statement.{statement}
 use Rattle.grid_axis.proofs.end_on.Tie as tie
 
 pub end-on-spec : {M : Type 1} → statement M
-end-on-spec = tie.close (tie.spec
-    (λ c κs. tt)
-    (λ c. rw (c .nearest-u32-to-f32 .ensures)))
+end-on-spec = tie.close (tie.spec (λ c κs. tt) (λ c. rw (c .nearest-u32-to-f32 .ensures)))

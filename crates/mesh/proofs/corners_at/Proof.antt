@@ -27,5 +27,4 @@ unfolding cornersAt
 returns c = rw (c .before .triangle-at .ensures) at (c .corners-of .ensures)
 
 pub corners-at-spec : {M : Type 1} → statement M
-corners-at-spec = tie.close (tie.spec
-    (λ c κs. search needs) corners-of-requires returns)
+corners-at-spec = tie.close (tie.spec (λ c κs. search needs) corners-of-requires returns)

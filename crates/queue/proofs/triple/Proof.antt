@@ -14,5 +14,4 @@ returns-2 c =
     sym (List·getD-eq-default (trianglesOf (s .topology) (s .given) (now (s .indices)) (s .vertices)) (triangle 0 0 0) (omega arith))
 
 pub triple-spec : {M : Type 1} → statement M
-triple-spec = tie.close (tie.spec
-    (λ c κs. search needs) (λ c κs. search needs) (λ c. search needs) returns-2)
+triple-spec = tie.close (tie.spec (λ c κs. search needs) (λ c κs. search needs) (λ c. search needs) returns-2)

@@ -49,5 +49,4 @@ returns-7 c =
     simp (le-ltb _ _ (one .if1 .left), le-ltb _ _ (two .if2 .left), le-ltb _ _ (three .if3 .left), le-ltb _ _ (four .if4 .left), le-ltb _ _ (five .if5 .left), le-ltb _ _ (c .if6 .left))
 
 pub triple-first-spec : {M : Type 1} → statement M
-triple-first-spec = tie.close (tie.spec
-    returns returns-2 returns-3 returns-4 returns-5 returns-6 returns-7)
+triple-first-spec = tie.close (tie.spec returns returns-2 returns-3 returns-4 returns-5 returns-6 returns-7)

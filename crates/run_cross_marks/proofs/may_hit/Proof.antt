@@ -6,5 +6,4 @@ use Rattle.run_cross_marks.proofs.may_hit.Tie as tie
 
 pub may-hit-spec : {M : Type 1} → statement M
 unfolding mayHit
-may-hit-spec = tie.close (tie.spec
-    (λ c. refl))
+may-hit-spec = tie.close (tie.spec (λ c. refl))

@@ -11,6 +11,4 @@ byte-is true = refl
 byte-is false = refl
 
 pub one-if-spec : {M : Type 1} → statement M
-one-if-spec = tie.close (tie.spec
-    (λ c. search needs)
-    (λ c. byte-is (c .args .test)))
+one-if-spec = tie.close (tie.spec (λ c. search needs) (λ c. byte-is (c .args .test)))

@@ -18,5 +18,4 @@ returns c =
     }
 
 pub root-not-below-spec : {M : Type 1} → statement M
-root-not-below-spec = tie.close (tie.spec
-    (λ c κs. search needs) (λ c κs. search needs) returns)
+root-not-below-spec = tie.close (tie.spec (λ c κs. search needs) (λ c κs. search needs) returns)

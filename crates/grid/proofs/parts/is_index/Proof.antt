@@ -4,6 +4,4 @@ use Rattle.grid.proofs.parts.is_index.Statement.{statement}
 use Rattle.grid.proofs.parts.is_index.Tie as tie
 
 pub is-index-spec : {M : Type 1} → statement M
-is-index-spec = tie.close (tie.spec
-    (λ c κs. search needs)
-    (λ c. rw (c .get-total-cell-count .ensures)))
+is-index-spec = tie.close (tie.spec (λ c κs. search needs) (λ c. rw (c .get-total-cell-count .ensures)))

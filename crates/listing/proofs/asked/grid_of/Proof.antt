@@ -15,5 +15,4 @@ returns c =
     }
 
 pub grid-of-spec : {M : Type 1} → statement M
-grid-of-spec = tie.close (tie.spec
-    (λ c κs. tt) (λ c κs. tt) returns)
+grid-of-spec = tie.close (tie.spec (λ c κs. tt) (λ c κs. tt) returns)

@@ -9,5 +9,4 @@ returns c =
     rw (g .ensures) at (rw (n .ensures) at (c .layers-of .ensures))
 
 pub rows-of-spec : {M : Type 1} → statement M
-rows-of-spec = tie.close (tie.spec
-    (λ c κs. tt) (λ c κs. tt) (λ c κs. tt) returns)
+rows-of-spec = tie.close (tie.spec (λ c κs. tt) (λ c κs. tt) (λ c κs. tt) returns)

@@ -16,6 +16,4 @@ float-to-bits-result : tie.Need-float-to-bits-result
 float-to-bits-result c = is-number (c .before .args .x) (c .if1 .left)
 
 pub bits-of-spec : {M : Type 1} → statement M
-bits-of-spec = tie.close (tie.spec
-    returns float-to-bits-result
-    (λ c. search needs))
+bits-of-spec = tie.close (tie.spec returns float-to-bits-result (λ c. search needs))

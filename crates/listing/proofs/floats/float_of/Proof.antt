@@ -13,6 +13,4 @@ float-from-bits-result : tie.Need-float-from-bits-result
 float-from-bits-result c = no-nan (c .before .args .b) (c .if1 .left)
 
 pub float-of-spec : {M : Type 1} → statement M
-float-of-spec = tie.close (tie.spec
-    returns float-from-bits-result
-    (λ c. search needs))
+float-of-spec = tie.close (tie.spec returns float-from-bits-result (λ c. search needs))

@@ -11,5 +11,4 @@ returns-2 : tie.Need-returns-2
 returns-2 c = counted _ _ (omega arith)
 
 pub coordinates-spec : {M : Type 1} → statement M
-coordinates-spec = tie.close (tie.spec
-    returns returns-2)
+coordinates-spec = tie.close (tie.spec returns returns-2)

@@ -11,5 +11,4 @@ returns-2 : tie.Need-returns-2
 returns-2 c = counted _ _ (omega arith)
 
 pub indices-spec : {M : Type 1} → statement M
-indices-spec = tie.close (tie.spec
-    returns returns-2)
+indices-spec = tie.close (tie.spec returns returns-2)

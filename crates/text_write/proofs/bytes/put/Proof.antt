@@ -8,5 +8,4 @@ returns : tie.Need-returns
 returns c = one (c .args .out .now) (c .args .at) (c .args .b) (search needs)
 
 pub put-spec : {M : Type 1} → statement M
-put-spec = tie.close (tie.spec
-    (λ c. search needs) (λ c. search needs) (λ c. search needs) returns)
+put-spec = tie.close (tie.spec (λ c. search needs) (λ c. search needs) (λ c. search needs) returns)

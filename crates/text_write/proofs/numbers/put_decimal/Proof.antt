@@ -14,6 +14,4 @@ returns c =
     (p, omega (arith, p .next, few 9 (c .before .before .before .before .before .args .n)))
 
 pub put-decimal-spec : {M : Type 1} → statement M
-put-decimal-spec = tie.close (tie.spec
-    put-digits-requires
-    (λ c. search needs) returns)
+put-decimal-spec = tie.close (tie.spec put-digits-requires (λ c. search needs) returns)

@@ -11,5 +11,4 @@ returns c =
     (p, omega (arith, p .next, hex-long 8 (c .before .before .before .before .before .args .b)))
 
 pub put-hex8-spec : {M : Type 1} → statement M
-put-hex8-spec = tie.close (tie.spec
-    (λ c κs. search needs) (λ c. search needs) returns)
+put-hex8-spec = tie.close (tie.spec (λ c κs. search needs) (λ c. search needs) returns)
