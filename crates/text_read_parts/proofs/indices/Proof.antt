@@ -11,26 +11,26 @@ use Rattle.text.proofs.Calls.{onward, stopped, bounded, the-first, the-second}
 use Rattle.text_read_parts.proofs.indices.Statement.{statement}
 use Rattle.text_read_parts.proofs.indices.Tie as tie
 
--- the entry; where the word was not found; where the number is known
-abbrev entry : tie.After-enum-told → tie.Start
-entry c = c .before .before .before .before .before .before
+-- the entry, from behind the number's line; that line, from where the lines of the indices are read
+abbrev entry : tie.After-number-line → tie.Start
+entry n = n .before .before .before .before .before .before .before .before .before
 
-abbrev told : tie.After-number-line → tie.After-enum-told
-told c = c .before .before .before
-
-abbrev value : tie.After-index-lines-arg → tie.After-value
-value c = c .before .before
+abbrev number : tie.After-index-lines-arg → tie.After-number-line
+number c = c .before .before .before .before
 
 -- the text does not say that there are none
-some : (c : tie.After-enum-told) → let a = entry c .args in nothing ≡ wordAt (bytes "indices=none\n") (drop (a .at) (a .text .now))
-some c = rw (c .enum-told .given .1) at (c .before .before .after .ensures)
+some : (n : tie.After-number-line) → nothing ≡ wordAt (bytes "indices=none\n") (drop (entry n .args .at) (entry n .args .text .now))
+some n = let t = n .before .before .before in rw (t .enum-told .given .1) at (t .before .before .after .ensures)
 
 -- it says how many
-count : (c : tie.After-value) →
-    let n = c .before .before in
-    let a = entry (told n) .args in
-    took (c .value .given .0 .0) (drop (c .value .given .0 .1 .0) (a .text .now)) ≡ numberLine (bytes "indices=") (mostIndices (a .topology)) (drop (a .at) (a .text .now))
-count c = let n = c .before .before in rw (n .before .most-indices .ensures, c .value .given .1) at (n .number-line .ensures)
+count : (c : tie.After-index-lines-arg) →
+    let v = c .before .before .value .given .0 in
+    let a = entry (number c) .args in
+    took (v .0) (drop (v .1 .0) (a .text .now)) ≡ numberLine (bytes "indices=") (mostIndices (a .topology)) (drop (a .at) (a .text .now))
+count c =
+    let v = c .before .before in
+    let n = v .before .before in
+    rw (n .before .most-indices .ensures, v .value .given .1) at (n .number-line .ensures)
 
 returns : tie.Need-returns
 unfolding indicesAt
@@ -43,33 +43,25 @@ unfolding indicesAt
 returns-2 c =
     let n = c .before .before in
     let no-count = rw (n .before .most-indices .ensures, c .enum-told2 .given .1) at (n .number-line .ensures) in
-    record { is = the-second (stopped _ (some (told n))) (stopped _ no-count); few = tt }
+    record { is = the-second (stopped _ (some n)) (stopped _ no-count); few = tt }
 
 index-lines-requires : tie.Need-index-lines-requires
-index-lines-requires c κs =
-    let v = value c in
-    let s = entry (told (v .before .before)) in
-    omega (arith, bounded _ _ _ (count v), most-held (s .args .topology))
+index-lines-requires c κs = omega (arith, bounded _ _ _ (count c), most-held (entry (number c) .args .topology))
 
 returns-3 : tie.Need-returns-3
 unfolding indicesAt
 returns-3 c =
     let l = c .before .before .before .before in
-    let v = value (l .before) in
     let no-lines = rw (c .enum-told3 .given .1) at (l .index-lines .ensures) in
-    record { is = the-second (stopped _ (some (told (v .before .before)))) (stopped _ no-lines ∙ onward _ (count v)); few = tt }
+    record { is = the-second (stopped _ (some (number (l .before)))) (stopped _ no-lines ∙ onward _ (count (l .before))); few = tt }
 
 returns-4 : tie.Need-returns-4
 unfolding indicesAt
 returns-4 c =
-    let f = c .before in
-    let l = f .before .before .before .before in
-    let v = value (l .before) in
-    let read = rw (f .next2 .given .1) at (l .index-lines .ensures) in
-    record {
-      is = the-second (stopped _ (some (told (v .before .before)))) (onward _ read ∙ onward _ (count v));
-      few = bounded _ _ _ (count v);
-    }
+    let l = c .before .before .before .before .before in
+    let lines = rw (c .before .next2 .given .1) at (l .index-lines .ensures) in
+    let n = count (l .before) in
+    record { is = the-second (stopped _ (some (number (l .before)))) (onward _ lines ∙ onward _ n); few = bounded _ _ _ n }
 
 pub indices-spec : {M : Type 1} → statement M
 indices-spec =
