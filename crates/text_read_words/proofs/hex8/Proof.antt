@@ -5,9 +5,9 @@ use Prim.Native.Nat.{ℕ, suc, _+_, _*_, _-_, _^_, _≤_, _<_}
 use native.Mathlib.Nat.{pow-le-pow-right}
 use native.Mathlib.Numerals.{add-one}
 use native.Mathlib.Omega.{arith}
-use mathlib.Core.Path.{_≡_, refl, sym, ap, _∙_}
-use lib.ListN.{length, getD, drop}
-use Rattle.text.specs.Reader.{hexValue, bitsAt, hexAt}
+use mathlib.Core.Path.{_≡_, refl, sym, _∙_}
+use lib.ListN.{drop}
+use Rattle.text.specs.Reader.{bitsAt, hexAt}
 use Rattle.text.proofs.Places.{hex-past, hex-not, hex-next, hex-differs, hex-stop}
 use Rattle.text_read_words.proofs.hex8.Statement.{statement}
 use Rattle.text_read_words.proofs.hex8.Tie as tie
