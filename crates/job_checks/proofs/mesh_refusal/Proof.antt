@@ -1,6 +1,6 @@
 -- `job_checks::mesh_refusal`: each return by the tests that led there, in the order of the list. Assumes nothing.
 use mathlib.Core.Path.{_≡_, sym, ap, _∙_}
-use mathlib.Core.Bool.{not}
+use mathlib.Core.Bool.{false, not}
 use native.Mathlib.Omega.{arith}
 use Rattle.mesh.specs.Mesh.{Mesh, meshOf}
 use Rattle.job_checks.specs.Refusals.{wrongVertices, wrongTriangles, wrongIndices}
@@ -8,43 +8,44 @@ use Rattle.job_checks.proofs.Accepted.{few-vertices}
 use Rattle.job_checks.proofs.mesh_refusal.Statement.{statement}
 use Rattle.job_checks.proofs.mesh_refusal.Tie as tie
 
+-- the entry, from where the vertices passed; that, from behind the last test
+abbrev entry : tie.Else1 → tie.Start
+entry c = c .before .before .before .before
+
+abbrev vertices : tie.After-in-range → tie.Else1
+vertices c = c .before .before .before
+
 abbrev mesh : tie.Start → Mesh
 mesh s = meshOf (s .args .vertices .now) (s .args .topology) (s .args .given) (s .args .indices .now)
 
--- what a test found, in the list's words
-vertices-found : (c : tie.After-wrong-vertices) → wrongVertices (mesh (c .before .before .before) .vertices) ≡ c .wrong-vertices .result
-vertices-found c = sym (c .wrong-vertices .ensures)
+-- the tests that were passed, and what the last found, in the list's words
+vertices-passed : (c : tie.Else1) → wrongVertices (mesh (entry c) .vertices) ≡ false
+vertices-passed c = sym (c .before .wrong-vertices .ensures) ∙ c .if1 .left
 
-triangles-found : (c : tie.After-too-many-triangles) → wrongTriangles (mesh (c .before .before .before .before .before)) ≡ c .too-many-triangles .result
-triangles-found c = sym (c .too-many-triangles .ensures)
+triangles-passed : (c : tie.Else2) → wrongTriangles (mesh (entry (c .before .before))) ≡ false
+triangles-passed c = sym (c .before .too-many-triangles .ensures) ∙ c .if2 .left
 
-indices-found : (c : tie.After-in-range) → wrongIndices (mesh (c .before .before .before .before .before .before .before)) ≡ not (c .in-range .result)
+indices-found : (c : tie.After-in-range) → wrongIndices (mesh (entry (vertices c))) ≡ not (c .in-range .result)
 indices-found c = sym (ap not (c .in-range .ensures))
 
 returns : tie.Need-returns
-returns c = sym (rw (vertices-found (c .before) ∙ c .if1 .taken))
+returns c = sym (rw (sym (c .before .wrong-vertices .ensures) ∙ c .if1 .taken))
 
 returns-2 : tie.Need-returns-2
-returns-2 c =
-    let v = c .before .before in
-    sym (rw (vertices-found (v .before) ∙ v .if1 .left, triangles-found (c .before) ∙ c .if2 .taken))
+returns-2 c = sym (rw (vertices-passed (c .before .before), sym (c .before .too-many-triangles .ensures) ∙ c .if2 .taken))
 
 in-range-requires : tie.Need-in-range-requires
-in-range-requires c κs =
-    let v = c .before .before in
-    omega (arith, few-vertices (v .before .before .before .before .args .vertices .now) (vertices-found (v .before) ∙ v .if1 .left))
+in-range-requires c κs = let v = c .before .before in omega (arith, few-vertices (entry v .args .vertices .now) (vertices-passed v))
 
 returns-3 : tie.Need-returns-3
 returns-3 c =
-    let t = c .before .before in
-    let v = t .before .before in
-    sym (rw (vertices-found (v .before) ∙ v .if1 .left, triangles-found (t .before) ∙ t .if2 .left, indices-found (c .before) ∙ c .if3 .taken))
+    let r = c .before in
+    sym (rw (vertices-passed (vertices r), triangles-passed (r .before), indices-found r ∙ c .if3 .taken))
 
 returns-4 : tie.Need-returns-4
 returns-4 c =
-    let t = c .before .before in
-    let v = t .before .before in
-    sym (rw (vertices-found (v .before) ∙ v .if1 .left, triangles-found (t .before) ∙ t .if2 .left, indices-found (c .before) ∙ c .if3 .left))
+    let r = c .before in
+    sym (rw (vertices-passed (vertices r), triangles-passed (r .before), indices-found r ∙ c .if3 .left))
 
 pub mesh-refusal-spec : {M : Type 1} → statement M
 mesh-refusal-spec =

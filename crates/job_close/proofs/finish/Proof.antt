@@ -11,28 +11,31 @@ use Rattle.run_signs.proofs.Parity.{signs-are}
 use Rattle.job_close.proofs.finish.Statement.{statement}
 use Rattle.job_close.proofs.finish.Tie as tie
 
+-- the entry, from behind the counts; the counts, from behind the signs
+abbrev entry : tie.After-cross → tie.Start
+entry c = c .before .before .before .before .before .before .before
+
+abbrev counted : tie.After-sign → tie.After-cross
+counted c = c .before .before .before .before .before
+
 -- the field after the signs
 signed : (c : tie.After-sign) →
-    let s = c .before .before .before .before .before .before .before .before .before .before .before .before in
-    c .sign .last .1 .0
-    ≡ Signs.signedField (s .args .grid) (meshOf (s .args .vertices .now) (s .args .topology) (s .args .given) (s .args .indices .now)) (s .args .field .now)
+    let a = entry (counted c) .args in
+    c .sign .last .1 .0 ≡ Signs.signedField (a .grid) (meshOf (a .vertices .now) (a .topology) (a .given) (a .indices .now)) (a .field .now)
 signed c =
-    let k = c .before .before .before .before .before in
-    let s = k .before .before .before .before .before .before .before in
+    let s = entry (counted c) in
     c .sign .ensures
-    ∙ ap (λ (l : List ℕ). signedBy l (s .args .field .now)) (k .cross .ensures)
-    ∙ signs-are (s .args .grid) (meshOf (s .args .vertices .now) (s .args .topology) (s .args .given) (s .args .indices .now)) (s .args .field .now) (s .pre .1 .0)
+    ∙ ap (λ (l : List ℕ). signedBy l (s .args .field .now)) (counted c .cross .ensures)
+    ∙ signs-are _ _ (s .args .field .now) (s .pre .1 .0)
 
 returns : tie.Need-returns
 returns c =
     let r = c .before .before in
     let f = r .before .before .before .before .before in
-    let k = f .before .before .before .before .before in
-    let s = k .before .before .before .before .before .before .before in
     record {
-      crossings = k .cross .ensures;
+      crossings = counted f .cross .ensures;
       field = signed f;
-      rows = r .count-rows .ensures ∙ ap (λ (l : List Float). Signs.rows (s .args .grid) l) (signed f);
+      rows = r .count-rows .ensures ∙ ap (λ (l : List Float). Signs.rows (entry (counted f) .args .grid) l) (signed f);
     }
 
 pub finish-spec : {M : Type 1} → statement M

@@ -9,36 +9,34 @@ use Rattle.mesh_topology.proofs.Laws.{corners-fit, corners-within, kth-
 use Rattle.mesh_topology.proofs.triangle_at.Statement.{statement}
 use Rattle.mesh_topology.proofs.triangle_at.Tie as tie
 
-within : (c : tie.Start) → firstCorner (c .args .topology) (c .args .k) + 2 < length (corners (c .args .given) (c .args .indices .now) (c .args .vertices))
-within c = corners-within (c .args .topology) (corners (c .args .given) (c .args .indices .now) (c .args .vertices)) (c .args .k) (c .pre .1)
+-- behind the entry, from behind the first corner
+abbrev begun : tie.After-corner → tie.After-shared-slice-known
+begun c = c .before .before
 
-fit : (c : tie.After-shared-slice-known) → length (corners (c .before .args .given) (c .before .args .indices .now) (c .before .args .vertices)) < 2 ^ 64
-fit c = corners-fit (c .before .args .given) (c .before .args .indices .now) (c .before .args .vertices) (2 ^ 64) (omega arith) (omega arith)
+within : (c : tie.After-shared-slice-known) →
+    let a = c .before .args in
+    firstCorner (a .topology) (a .k) + 2 < length (corners (a .given) (a .indices .now) (a .vertices))
+within c =
+    let a = c .before .args in
+    corners-within (a .topology) (corners (a .given) (a .indices .now) (a .vertices)) (a .k) (c .before .pre .1)
 
-first-corner-requires : tie.Need-first-corner-requires
-first-corner-requires c κs = let h = within (c .before) in let l = fit c in omega arith
-
-corner-requires : tie.Need-corner-requires
-corner-requires c κs = (omega arith, let h = within (c .before .before) in omega arith)
-
-add-corner : tie.Need-add-corner
-add-corner c = let h = within (c .before .before .before) in let l = fit (c .before .before) in omega arith
-
-corner-requires-2 : tie.Need-corner-requires-2
-corner-requires-2 c κs = (omega arith, let h = within (c .before .before .before) in omega arith)
-
-add-corner-2 : tie.Need-add-corner-2
-add-corner-2 c = let h = within (c .before .before .before .before) in let l = fit (c .before .before .before) in omega arith
-
-corner-requires-3 : tie.Need-corner-requires-3
-corner-requires-3 c κs = (omega arith, let h = within (c .before .before .before .before) in omega arith)
+fit : (c : tie.After-shared-slice-known) → let a = c .before .args in length (corners (a .given) (a .indices .now) (a .vertices)) < 2 ^ 64
+fit c = let a = c .before .args in corners-fit (a .given) (a .indices .now) (a .vertices) (2 ^ 64) (omega arith) (omega arith)
 
 returns : tie.Need-returns
 returns c =
-    rw (c .before .before .corner .ensures, c .before .corner2 .ensures, c .corner3 .ensures, c .before .before .before .first-corner .ensures)
-    (sym (kth-is _ _ _ (c .before .before .before .before .before .pre .1)))
+    let two = c .before in
+    let one = two .before in
+    rw (one .corner .ensures, two .corner2 .ensures, c .corner3 .ensures, one .before .first-corner .ensures)
+    (sym (kth-is _ _ _ (begun one .before .pre .1)))
 
 pub triangle-at-spec : {M : Type 1} → statement M
 triangle-at-spec =
     tie.close (tie.spec
-    first-corner-requires corner-requires add-corner corner-requires-2 add-corner-2 corner-requires-3 returns)
+    (λ c κs. omega (arith, within c, fit c))
+    (λ c κs. (omega arith, omega (arith, within (c .before))))
+    (λ c. omega (arith, within (begun c), fit (begun c)))
+    (λ c κs. (omega arith, omega (arith, within (begun c))))
+    (λ c. omega (arith, within (begun (c .before)), fit (begun (c .before))))
+    (λ c κs. (omega arith, omega (arith, within (begun (c .before)))))
+    returns)

@@ -19,32 +19,35 @@ Inv-loop z0 z1 z2 ys count flags₀ any₀ v₀ flags any v =
 abbrev μ-loop : tie.MeasureT-loop
 μ-loop z0 z1 z2 ys count flags₀ any₀ v₀ flags any v = count - v
 
+-- the entry, from the loop's head; the head, from behind the turn's calls
+abbrev entry : tie.At-loop Inv-loop μ-loop → tie.Start Inv-loop μ-loop
+entry l = l .before .before .before .before .before
+
+abbrev head : tie.After-may-hit Inv-loop μ-loop → tie.At-loop Inv-loop μ-loop
+head c = c .before .before .before
+
 -- the flag of this turn
 found : (c : tie.After-may-hit Inv-loop μ-loop) →
-    let a = c .before .before .before .before .before .before .before .before .args in
-    c .may-hit .result ≡ mayHit (partsAt (a .z0 .now) (a .z1 .now) (a .z2 .now) (c .before .before .before .loop .v)) (a .ys)
-found c =
-    let a = c .before .before .before .before .before .before .before .before .args in
-    c .may-hit .ensures ∙ ap (λ (zs : Three). mayHit zs (a .ys)) (c .before .three-at .ensures)
+    let a = entry (head c) .args in
+    c .may-hit .result ≡ mayHit (partsAt (a .z0 .now) (a .z1 .now) (a .z2 .now) (head c .loop .v)) (a .ys)
+found c = c .may-hit .ensures ∙ ap (λ (zs : Three). mayHit zs (entry (head c) .args .ys)) (c .before .three-at .ensures)
 
 loop-holds : tie.Need-loop-holds Inv-loop μ-loop
-loop-holds c =
-    let a = c .before .before .before .before .args in
-    (omega arith, refl, marked-none (a .z0 .now) (a .z1 .now) (a .z2 .now) (a .ys) (a .flags .now), λ e i h. absurd (not-suc-le-zero h))
+loop-holds c = (omega arith, refl, marked-none _ _ _ _ _, λ e i h. absurd (not-suc-le-zero h))
 
 loop-again : tie.Need-loop-again Inv-loop μ-loop
 loop-again c =
-    let a = c .before .before .before .before .before .before .before .before .args in
-    let l = c .before .before .before .loop in (
+    let a = entry (head c) .args in
+    let l = head c .loop in (
       omega arith,
       length-set (l .flags) (l .v) (c .may-hit .result) ∙ l .inv .1,
-      marked-more (a .z0 .now) (a .z1 .now) (a .z2 .now) (a .ys) (l .v) (l .flags) (c .may-hit .result) (omega arith) (found c) (l .inv .2),
+      marked-more _ _ _ _ (l .v) (l .flags) (c .may-hit .result) (omega arith) (found c) (l .inv .2),
       none-marked (λ i. mayHit (partsAt (a .z0 .now) (a .z1 .now) (a .z2 .now) i) (a .ys)) (l .any) (c .may-hit .result) (l .v) (found c) (l .inv .3),
     )
 
 returns : tie.Need-returns Inv-loop μ-loop
 returns c =
-    let a = c .before .before .before .before .before .before .args in
+    let a = entry (c .before) .args in
     let l = c .before .loop in
     let e : l .v ≡ a .count = omega arith in (
       subst (λ (n : ℕ). Marked (a .z0 .now) (a .z1 .now) (a .z2 .now) (a .ys) n (l .flags)) e (l .inv .2),

@@ -19,32 +19,33 @@ Inv-loop crossings field₀ i₀ field i = (i ≤ length field₀) × (length fi
 abbrev μ-loop : tie.MeasureT-loop
 μ-loop crossings field₀ i₀ field i = length field₀ - i
 
+-- the entry, from the loop's head; the head, from behind the turn's calls
+abbrev entry : tie.At-loop Inv-loop μ-loop → tie.Start Inv-loop μ-loop
+entry l = l .before .before .before
+
+abbrev head : tie.After-negated-if Inv-loop μ-loop → tie.At-loop Inv-loop μ-loop
+head c = c .before .before .before .before
+
 -- what is stored in this turn
 stored : (c : tie.After-negated-if Inv-loop μ-loop) →
-    let a = c .before .before .before .before .before .before .before .args in
-    let l = c .before .before .before .before .loop in
-    c .negated-if .result ≡ signedAt (a .crossings .now) (a .field .now) (l .i)
+    let a = entry (head c) .args in
+    c .negated-if .result ≡ signedAt (a .crossings .now) (a .field .now) (head c .loop .i)
 stored c =
-    let a = c .before .before .before .before .before .before .before .args in
-    let l = c .before .before .before .before .loop in
+    let l = head c .loop in
     c .negated-if .ensures ∙ ap₂ (λ (b : Bool) (d : Float). if b then neg d else d) (c .before .before .inside-at .ensures) (l .inv .2 .back (l .i) (omega arith))
 
 loop-holds : tie.Need-loop-holds Inv-loop μ-loop
-loop-holds c = let a = c .before .before .args in (omega arith, refl, filled-none nan (signedAt (a .crossings .now) (a .field .now)) (a .field .now))
+loop-holds c = (omega arith, refl, filled-none nan _ _)
 
 loop-again : tie.Need-loop-again Inv-loop μ-loop
 loop-again c =
-    let a = c .before .before .before .before .before .before .before .args in
-    let l = c .before .before .before .before .loop in
-    let f = filled-more nan (signedAt (a .crossings .now) (a .field .now)) (a .field .now) (l .i) (l .field) (c .negated-if .result) (omega arith) (stored c) (l .inv .2) in
+    let l = head c .loop in
+    let f = filled-more nan _ _ (l .i) (l .field) _ (omega arith) (stored c) (l .inv .2) in
     (omega arith, f .long, f)
 
 returns : tie.Need-returns Inv-loop μ-loop
 unfolding signedBy
-returns c =
-    let a = c .before .before .before .before .args in
-    let l = c .before .loop in
-    filled-all nan (signedAt (a .crossings .now) (a .field .now)) (a .field .now) (l .field) (l .i) (length (a .field .now)) refl (omega arith) (l .inv .2)
+returns c = let l = c .before .loop in filled-all nan _ _ (l .field) (l .i) _ refl (omega arith) (l .inv .2)
 
 pub sign-spec : {M : Type 1} → statement M
 sign-spec =

@@ -1,6 +1,6 @@
 -- `text_write::numbers::put_digits`, which calls itself, meets its contract: the last digit is put after those before it. The measure is k.
 -- Assumes nothing.
-use Prim.Native.Nat.{ℕ, _-_, _/_, _≤_, _<_}
+use Prim.Native.Nat.{ℕ, _-_, _/_, _<_}
 use mathlib.Core.Path.{refl, sym, _∙_}
 use native.Mathlib.Omega.{arith}
 use borrow.Author.Needs.{needs}
@@ -24,58 +24,58 @@ at-t t = and 1 kinds.ps (is 1 kinds.ps μ t) reads.Pre
 abbrev below : ℕ → In 1 kinds.ps
 below t = and 1 kinds.ps (falls 1 kinds.ps _<_ μ t) reads.Pre
 
-cast-put : (t : ℕ) → lts.Need-cast-put (put-reads.Asked, put-reads.Learnt, below t, reads.Post) (at-t t) reads.Post
-cast-put t c = search needs
+abbrev claims : ℕ → lts.Claims
+claims t = (put-reads.Asked, put-reads.Learnt, below t, reads.Post)
 
-add-put : (t : ℕ) → lts.Need-add-put (put-reads.Asked, put-reads.Learnt, below t, reads.Post) (at-t t) reads.Post
-add-put t c = search needs
+module _ (t : ℕ) where
+  -- the entry, from where there are more digits; the digits before the last put, from where the last is, and from behind it
+  abbrev entry : lts.Else1 (claims t) (at-t t) reads.Post → lts.Start (claims t) (at-t t) reads.Post
+  entry c = c .before .before
 
-put-requires : (t : ℕ) → lts.Need-put-requires (put-reads.Asked, put-reads.Learnt, below t, reads.Post) (at-t t) reads.Post
-put-requires t c κs = omega (arith, c .before .before .before .pre .1 .0)
+  abbrev others : lts.After-put-arg2 (claims t) (at-t t) reads.Post → lts.After-put-digits (claims t) (at-t t) reads.Post
+  others c = c .before .before .before
 
-same-length : (t : ℕ) → lts.Need-same-length (put-reads.Asked, put-reads.Learnt, below t, reads.Post) (at-t t) reads.Post
-same-length t c = c .before .before .put .ensures .long
+  abbrev last : lts.After-slice-known4 (claims t) (at-t t) reads.Post → lts.After-put2 (claims t) (at-t t) reads.Post
+  last c = c .before .before
 
-returns : (t : ℕ) → lts.Need-returns (put-reads.Asked, put-reads.Learnt, below t, reads.Post) (at-t t) reads.Post
-returns t c =
-    let s = c .before .before .before .before .before .before in
-    said (sym (one-digit (s .args .k) (s .args .n) (c .before .before .before .before .if1 .taken))) refl (c .before .before .put .ensures)
+  some : (c : lts.Else1 (claims t) (at-t t) reads.Post) → 0 < entry c .args .k
+  some c = let s = entry c in deep (s .args .k) (s .args .n) (s .pre .1 .1) (c .if1 .left)
 
-sub-put-digits : (t : ℕ) → lts.Need-sub-put-digits (put-reads.Asked, put-reads.Learnt, below t, reads.Post) (at-t t) reads.Post
-sub-put-digits t c =
-    let s = c .before .before .before in
-    deep (s .args .k) (s .args .n) (s .pre .1 .1) (c .before .if1 .left)
+  put-requires : lts.Need-put-requires (claims t) (at-t t) reads.Post
+  put-requires c κs = omega (arith, c .before .before .before .pre .1 .0)
 
-put-digits-requires : (t : ℕ) → lts.Need-put-digits-requires (put-reads.Asked, put-reads.Learnt, below t, reads.Post) (at-t t) reads.Post
-put-digits-requires t c κs =
-    let s = c .before .before .before in
-    let d : 0 < s .args .k = deep (s .args .k) (s .args .n) (s .pre .1 .1) (c .before .if1 .left) in
-    (omega (arith, s .pre .0), (omega (arith, s .pre .1 .0), fewer (s .args .k) (s .args .n) d (s .pre .1 .1)))
+  returns : lts.Need-returns (claims t) (at-t t) reads.Post
+  returns c =
+      let p = c .before .before in
+      said (sym (one-digit _ _ (p .before .before .if1 .taken))) refl (p .put .ensures)
 
-cast-put-2 : (t : ℕ) → lts.Need-cast-put-2 (put-reads.Asked, put-reads.Learnt, below t, reads.Post) (at-t t) reads.Post
-cast-put-2 t c = search needs
+  put-digits-requires : lts.Need-put-digits-requires (claims t) (at-t t) reads.Post
+  put-digits-requires c κs =
+      let s = entry (c .before) in
+      let d = some (c .before) in
+      (omega (arith, d, s .pre .0), (omega (arith, d, s .pre .1 .0), fewer (s .args .k) (s .args .n) d (s .pre .1 .1)))
 
-add-put-2 : (t : ℕ) → lts.Need-add-put-2 (put-reads.Asked, put-reads.Learnt, below t, reads.Post) (at-t t) reads.Post
-add-put-2 t c = search needs
+  put-requires-2 : lts.Need-put-requires-2 (claims t) (at-t t) reads.Post
+  put-requires-2 c κs =
+      let o = others c in
+      let e = o .before .before in
+      let s = entry e in
+      let p = o .put-digits .ensures in
+      omega (arith, s .pre .1 .0, some e, p .next, p .long, few (s .args .k - 1) (s .args .n / 10))
 
-put-requires-2 : (t : ℕ) → lts.Need-put-requires-2 (put-reads.Asked, put-reads.Learnt, below t, reads.Post) (at-t t) reads.Post
-put-requires-2 t c κs =
-    let s = c .before .before .before .before .before .before .before in
-    let p = c .before .before .before .put-digits .ensures in
-    let d : 0 < s .args .k = deep (s .args .k) (s .args .n) (s .pre .1 .1) (c .before .before .before .before .before .if1 .left) in
-    omega (arith, s .pre .1 .0, p .next, p .long, few (s .args .k - 1) (s .args .n / 10))
-
-same-length-2 : (t : ℕ) → lts.Need-same-length-2 (put-reads.Asked, put-reads.Learnt, below t, reads.Post) (at-t t) reads.Post
-same-length-2 t c = c .before .before .put2 .ensures .long ∙ c .before .before .before .before .before .before .put-digits .ensures .long
-
-returns-2 : (t : ℕ) → lts.Need-returns-2 (put-reads.Asked, put-reads.Learnt, below t, reads.Post) (at-t t) reads.Post
-returns-2 t c =
-    let s = c .before .before .before .before .before .before .before .before .before .before in
-    let h : 10 ≤ s .args .n = c .before .before .before .before .before .before .before .before .if1 .left in
-    let d : 0 < s .args .k = deep (s .args .k) (s .args .n) (s .pre .1 .1) h in
-    said (last-digit (s .args .k) (s .args .n) d h) refl (andThen (c .before .before .before .before .before .before .put-digits .ensures) (c .before .before .put2 .ensures))
+  returns-2 : lts.Need-returns-2 (claims t) (at-t t) reads.Post
+  returns-2 c =
+      let o = others (last c .before) in
+      let e = o .before .before in
+      said (last-digit (entry e .args .k) (entry e .args .n) (some e) (e .if1 .left)) refl (andThen (o .put-digits .ensures) (last c .put2 .ensures))
 
 pub +put-digits-spec : {M : Type 1} → statement M
 +put-digits-spec =
     close μ
-    (λ t. lts.spec (put-reads.Asked, put-reads.Learnt, below t, reads.Post) (at-t t) reads.Post (cast-put t) (add-put t) (put-requires t) (same-length t) (returns t) (sub-put-digits t) (put-digits-requires t) (cast-put-2 t) (add-put-2 t) (put-requires-2 t) (same-length-2 t) (returns-2 t))
+    (λ t. lts.spec
+    (claims t) (at-t t) reads.Post
+    (λ c. search needs) (λ c. search needs) (put-requires t)
+    (λ c. c .before .before .put .ensures .long) (returns t)
+    (λ c. some t (c .before)) (put-digits-requires t)
+    (λ c. search needs) (λ c. search needs) (put-requires-2 t)
+    (λ c. last t c .put2 .ensures .long ∙ others t (last t c .before) .put-digits .ensures .long) (returns-2 t))

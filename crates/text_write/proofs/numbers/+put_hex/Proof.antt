@@ -26,36 +26,49 @@ at-t t = and 1 kinds.ps (is 1 kinds.ps μ t) reads.Pre
 abbrev below : ℕ → In 1 kinds.ps
 below t = and 1 kinds.ps (falls 1 kinds.ps _<_ μ t) reads.Pre
 
-returns : (t : ℕ) → lts.Need-returns (below t, reads.Post, hex-digit-reads.Asked, hex-digit-reads.Learnt, put-reads.Asked, put-reads.Learnt) (at-t t) reads.Post
-unfolding hex
-returns t c =
-    let s = c .before .before in
-    said (sym (ap (λ (k : ℕ). hex k (s .args .b)) (c .if1 .taken))) refl (nothing (s .args .out .now) (s .args .at))
+abbrev claims : ℕ → lts.Claims
+claims t = (below t, reads.Post, hex-digit-reads.Asked, hex-digit-reads.Learnt, put-reads.Asked, put-reads.Learnt)
 
-sub-put-hex : (t : ℕ) → lts.Need-sub-put-hex (below t, reads.Post, hex-digit-reads.Asked, hex-digit-reads.Learnt, put-reads.Asked, put-reads.Learnt) (at-t t) reads.Post
-sub-put-hex t c = search needs
+module _ (t : ℕ) where
+  -- the entry, from where the digits before the last are put; those, from where the last is; the last, from behind it
+  abbrev entry : lts.After-put-hex-arg (claims t) (at-t t) reads.Post → lts.Start (claims t) (at-t t) reads.Post
+  entry c = c .before .before .before
 
-put-hex-requires : (t : ℕ) → lts.Need-put-hex-requires (below t, reads.Post, hex-digit-reads.Asked, hex-digit-reads.Learnt, put-reads.Asked, put-reads.Learnt) (at-t t) reads.Post
-put-hex-requires t c κs = (omega (arith, c .before .before .before .pre .0), omega (arith, c .before .before .before .pre .1))
+  abbrev others : lts.After-hex-digit (claims t) (at-t t) reads.Post → lts.After-put-hex (claims t) (at-t t) reads.Post
+  others c = c .before .before .before .before
 
-hex-digit-requires : (t : ℕ) → lts.Need-hex-digit-requires (below t, reads.Post, hex-digit-reads.Asked, hex-digit-reads.Learnt, put-reads.Asked, put-reads.Learnt) (at-t t) reads.Post
-hex-digit-requires t c κs = search needs
+  abbrev last : lts.After-slice-known3 (claims t) (at-t t) reads.Post → lts.After-put (claims t) (at-t t) reads.Post
+  last c = c .before .before
 
-put-requires : (t : ℕ) → lts.Need-put-requires (below t, reads.Post, hex-digit-reads.Asked, hex-digit-reads.Learnt, put-reads.Asked, put-reads.Learnt) (at-t t) reads.Post
-put-requires t c κs =
-    let s = c .before .before .before .before .before .before .before .before in
-    let p = c .before .before .before .before .put-hex .ensures in
-    omega (arith, s .pre .1, p .next, p .long, hex-long (s .args .k - 1) (s .args .b / 16))
+  returns : lts.Need-returns (claims t) (at-t t) reads.Post
+  unfolding hex
+  returns c =
+      let s = c .before .before in
+      said (sym (ap (λ (k : ℕ). hex k (s .args .b)) (c .if1 .taken))) refl (nothing (s .args .out .now) (s .args .at))
 
-same-length : (t : ℕ) → lts.Need-same-length (below t, reads.Post, hex-digit-reads.Asked, hex-digit-reads.Learnt, put-reads.Asked, put-reads.Learnt) (at-t t) reads.Post
-same-length t c = c .before .before .put .ensures .long ∙ c .before .before .before .before .before .before .before .put-hex .ensures .long
+  put-hex-requires : lts.Need-put-hex-requires (claims t) (at-t t) reads.Post
+  put-hex-requires c κs = (omega (arith, entry c .pre .0), omega (arith, entry c .pre .1))
 
-returns-2 : (t : ℕ) → lts.Need-returns-2 (below t, reads.Post, hex-digit-reads.Asked, hex-digit-reads.Learnt, put-reads.Asked, put-reads.Learnt) (at-t t) reads.Post
-returns-2 t c =
-    let s = c .before .before .before .before .before .before .before .before .before .before .before in
-    said (last-hex (s .args .k) (s .args .b) (omega arith)) refl (andThen (c .before .before .before .before .before .before .before .put-hex .ensures) (rw (c .before .before .before .hex-digit .ensures) at (c .before .before .put .ensures)))
+  put-requires : lts.Need-put-requires (claims t) (at-t t) reads.Post
+  put-requires c κs =
+      let p = others c .put-hex .ensures in
+      let s = entry (others c .before) in
+      omega (arith, s .pre .1, p .next, p .long, hex-long (s .args .k - 1) (s .args .b / 16))
+
+  returns-2 : lts.Need-returns-2 (claims t) (at-t t) reads.Post
+  returns-2 c =
+      let p = c .before .before in
+      let o = others (p .before) in
+      let s = entry (o .before) in
+      let digit = rw (p .before .hex-digit .ensures) at (p .put .ensures) in
+      said (last-hex (s .args .k) (s .args .b) (omega arith)) refl (andThen (o .put-hex .ensures) digit)
 
 pub +put-hex-spec : {M : Type 1} → statement M
 +put-hex-spec =
     close μ
-    (λ t. lts.spec (below t, reads.Post, hex-digit-reads.Asked, hex-digit-reads.Learnt, put-reads.Asked, put-reads.Learnt) (at-t t) reads.Post (returns t) (sub-put-hex t) (put-hex-requires t) (hex-digit-requires t) (put-requires t) (same-length t) (returns-2 t))
+    (λ t. lts.spec
+    (claims t) (at-t t) reads.Post
+    (returns t)
+    (λ c. search needs) (put-hex-requires t)
+    (λ c κs. search needs) (put-requires t)
+    (λ c. last t c .put .ensures .long ∙ others t (last t c .before) .put-hex .ensures .long) (returns-2 t))

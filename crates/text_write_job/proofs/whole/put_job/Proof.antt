@@ -1,44 +1,55 @@
 -- `text_write_job::whole::put_job` meets its contract: the parts stand one after the other. Assumes nothing.
+use Prim.Native.Nat.{_≤_}
 use native.Mathlib.Omega.{arith}
 use borrow.Author.Needs.{needs}
+use Rattle.text.specs.Limits.{indexRoom}
 use Rattle.text.specs.TextJob.{jobText}
 use Rattle.text_write.proofs.Puts.{andThen}
 use Rattle.text_write_job.proofs.Grown.{few-indices}
 use Rattle.text_write_job.proofs.whole.put_job.Statement.{statement}
 use Rattle.text_write_job.proofs.whole.put_job.Tie as tie
 
+-- the entry; behind the head; behind the vertices; behind the indices
+abbrev entry : tie.After-put-head → tie.Start
+entry c = c .before .before .before .before .before .before .before
+
+abbrev head : tie.After-put-vertices → tie.After-put-head
+head c = c .before .before .before .before
+
+abbrev vertices : tie.After-put-indices-arg → tie.After-put-vertices
+vertices c = c .before .before .before
+
+abbrev indices : tie.After-put-tail-arg → tie.After-put-indices
+indices c = c .before .before .before
+
+-- the indices are few enough
+few : (c : tie.After-put-head) → entry c .args .asked .indices ≤ indexRoom
+few c = let a = entry c .args .asked in few-indices (a .head .topology) (a .given) (a .indices) (entry c .pre .indices-few)
+
 put-indices-requires : tie.Need-put-indices-requires
 put-indices-requires c κs =
-    let v = c .before .before .before in
-    let h = v .before .before .before .before in
-    let s = h .before .before .before .before .before .before .before in
-    let a = s .args .asked in
-    let n = few-indices (a .head .topology) (a .given) (a .indices) (s .pre .indices-few) in
-    let head = h .put-head .ensures in
-    let vertices = v .put-vertices .ensures in
-    (n, (s .pre .indices-held, omega (arith, s .pre .room, s .pre .vertices-few, n, head .0 .long, head .1, vertices .0 .long, vertices .1)))
+    let v = vertices c .put-vertices .ensures in
+    let h = head (vertices c) .put-head .ensures in
+    let s = entry (head (vertices c)) in
+    let n = few (head (vertices c)) in
+    (n, (s .pre .indices-held, omega (arith, s .pre .room, s .pre .vertices-few, n, h .0 .long, h .1, v .0 .long, v .1)))
 
 put-tail-requires : tie.Need-put-tail-requires
 put-tail-requires c κs =
-    let i = c .before .before .before in
-    let v = i .before .before .before .before in
-    let h = v .before .before .before .before in
-    let s = h .before .before .before .before .before .before .before in
-    let a = s .args .asked in
-    let n = few-indices (a .head .topology) (a .given) (a .indices) (s .pre .indices-few) in
-    let head = h .put-head .ensures in
-    let vertices = v .put-vertices .ensures in
-    let indices = i .put-indices .ensures in
-    omega (arith, s .pre .room, s .pre .vertices-few, n, head .0 .long, head .1, vertices .0 .long, vertices .1, indices .0 .long, indices .1)
+    let i = indices c .put-indices .ensures in
+    let w = vertices (indices c .before) in
+    let v = w .put-vertices .ensures in
+    let h = head w .put-head .ensures in
+    let s = entry (head w) in
+    omega (arith, s .pre .room, s .pre .vertices-few, few (head w), h .0 .long, h .1, v .0 .long, v .1, i .0 .long, i .1)
 
 returns : tie.Need-returns
 unfolding jobText
 returns c =
     let t = c .before .before in
-    let i = t .before .before .before .before in
-    let v = i .before .before .before .before in
-    let h = v .before .before .before .before in
-    andThen (andThen (andThen (h .put-head .ensures .0) (v .put-vertices .ensures .0)) (i .put-indices .ensures .0)) (t .put-tail .ensures)
+    let i = indices (t .before) in
+    let v = vertices (i .before) in
+    andThen (andThen (andThen (head v .put-head .ensures .0) (v .put-vertices .ensures .0)) (i .put-indices .ensures .0)) (t .put-tail .ensures)
 
 pub put-job-spec : {M : Type 1} → statement M
 put-job-spec =
