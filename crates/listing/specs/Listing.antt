@@ -20,7 +20,8 @@ use Rattle.job_outcome.specs.Outcome.{Outcome, outcome}
 use Rattle.text.specs.declared.Three.{Three}
 use Rattle.text.specs.declared.Head.{Head}
 use Rattle.text.specs.declared.Tail.{Tail}
-use Rattle.text.specs.Words.{space, decimal, hex8, spaced, line, linesBelow}
+use Rattle.text.specs.Words.{space, decimal, hex8, spaced, line}
+use Rattle.lists.specs.Joined.{joined}
 use Rattle.text.specs.TextJob.{TextJob, Readable, jobText, indexList, givenOf, flat}
 
 -- ---- the job that a text asks for
@@ -93,8 +94,8 @@ listed (Done t) b =
     answerLine 0
     ++ line "pops=" (decimal (t .pops))
     ++ line "peak=" (decimal (t .peak))
-    ++ linesBelow (cellLine b) (length (b .field))
-    ++ linesBelow (rowLine b) (length (b .rows))
+    ++ joined (cellLine b) (length (b .field))
+    ++ joined (rowLine b) (length (b .rows))
 
 abbrev pub listing : TextJob → List ℕ
 listing j = listed (outcomeOf j .answer) (outcomeOf j .left)

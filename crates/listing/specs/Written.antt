@@ -8,7 +8,7 @@ use Rattle.job_outcome.specs.declared.Answer.{Answer}
 use Rattle.job_checks.specs.Job.{Lent, lentOf}
 use Rattle.job_outcome.specs.Outcome.{peakOf}
 use Rattle.text.specs.Limits.{mostCells, byteRoom}
-use Rattle.text_write.specs.Put.{Put}
+use Rattle.lists.specs.Put.{Put}
 use Rattle.listing.specs.declared.Written.{Written}
 use Rattle.listing.specs.declared.Written.the-variants.{Nothing, Bytes}
 use Rattle.listing.specs.Listing.{listed}

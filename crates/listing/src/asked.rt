@@ -1,5 +1,5 @@
 // What the lines of a job's text ask of the port: its grid, its sizes, its terms.
-use crate::floats::float_of;
+use float_bits::float_of;
 use grid::Grid;
 use point::Point;
 use terms::Terms;

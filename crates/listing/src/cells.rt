@@ -1,27 +1,18 @@
-// The lines of the cells and of the layers.
+// The lines of the cells and of the layers. A NaN, which no job that is done holds, would be written as 7fc00000.
+use float_bits::bits_of;
 use text::Form;
 use text_write::put_all;
 use text_write::put_value_then;
 ghost use Prim.Native.Nat.{_+_, _*_, _≤_, _<_};
 ghost use lib.ListN.{length};
-ghost use lib.Ieee.{binary32, toBits};
 ghost use mathlib.Core.Path.{_≡_};
 ghost use mathlib.Core.List.{[], _++_, _∷_};
-ghost use Rattle.text.specs.Words.{space, decimal, hex8, spaced, line, linesBelow};
+ghost use Rattle.text.specs.Words.{space, decimal, hex8, spaced, line};
+ghost use Rattle.lists.specs.Joined.{joined};
 ghost use Rattle.text.specs.Limits.{mostCells};
-ghost use Rattle.text_write.specs.Put.{Put};
+ghost use Rattle.lists.specs.Put.{Put};
 ghost use Rattle.listing.specs.Listing.{cellLine, rowLine};
 ghost use Rattle.listing.specs.Written.{shown};
-
-// The bits of a float. A NaN, which no job that is done holds, is written as 7fc00000.
-fn bits_of(x: f32) -> u32
-    ensures { λ r. ⌜ r ≡ toBits binary32 x ⌝ }
-{
-    if x != x {
-        return 0x7fc0_0000;
-    }
-    f32::to_bits(x)
-}
 
 fn put_cell(out: &mut [u8], at: usize, index: u32, distance: u32, name: u32) -> usize
     requires { ⌜ at + 36 ≤ length (now out) ⌝ }
@@ -52,7 +43,7 @@ pub fn put_cells(out: &mut [u8], at: usize, field: &[f32], names: &[u32]) -> usi
     requires { ⌜ at + 36 * length (now field) ≤ length (now out) ⌝ }
     ensures { λ r.
         let cell = cellLine (shown (now (field .entry)) (now (names .entry)) []) in
-        ⌜ Put (now (out .entry)) at (linesBelow cell (length (now (field .entry)))) (now (out .exit)) r ⌝ }
+        ⌜ Put (now (out .entry)) at (joined cell (length (now (field .entry)))) (now (out .exit)) r ⌝ }
     ensures { λ r. ⌜ r ≤ at + 36 * length (now (field .entry)) ⌝ }
 {
     let mut i = 0;
@@ -69,7 +60,7 @@ pub fn put_rows(out: &mut [u8], at: usize, rows: &[u32]) -> usize
     requires { ⌜ at + 26 * length (now rows) ≤ length (now out) ⌝ }
     ensures { λ r.
         let row = rowLine (shown [] [] (now (rows .entry))) in
-        ⌜ Put (now (out .entry)) at (linesBelow row (length (now (rows .entry)))) (now (out .exit)) r ⌝ }
+        ⌜ Put (now (out .entry)) at (joined row (length (now (rows .entry)))) (now (out .exit)) r ⌝ }
     ensures { λ r. ⌜ r ≤ at + 26 * length (now (rows .entry)) ⌝ }
 {
     let mut z = 0;

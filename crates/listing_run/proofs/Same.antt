@@ -31,8 +31,8 @@ use Rattle.job_clear.proofs.Lengths.{lengths-same}
 use Rattle.job_outcome.proofs.Outcomes.{same-ended, same-run}
 use Rattle.text.specs.Limits.{mostCells, mostEntries, crossingRoom}
 use Rattle.listing.specs.Listing.{floatsOf, lentBy, listed}
-use Rattle.text_write.specs.Put.{Put}
-use Rattle.text_write.proofs.Puts.{said}
+use Rattle.lists.specs.Put.{Put}
+use Rattle.lists.proofs.Puts.{said}
 use Rattle.listing.specs.Written.{shown, RoomToList, Listable}
 use Rattle.entries_own.specs.Own.{GivesFour}
 use Rattle.listing_run.specs.Parts.{listedOf, Sizes}

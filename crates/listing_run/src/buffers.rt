@@ -20,7 +20,7 @@ ghost use lib.ListN.{length};
 ghost use mathlib.Core.Path.{_≡_};
 ghost use Rattle.job_checks.specs.Job.{lentOf};
 ghost use Rattle.text.specs.Limits.{mostCells, mostEntries, coordinateRoom, crossingRoom};
-ghost use Rattle.text_write.specs.Put.{Put};
+ghost use Rattle.lists.specs.Put.{Put};
 ghost use Rattle.listing.specs.Listing.{floatsOf, lentBy, lentFor, listed};
 ghost use Rattle.listing.specs.Written.{RoomToList, Listable, shown};
 ghost use Rattle.entries_own.specs.Own.{lentOwn};

@@ -9,7 +9,7 @@ use Rattle.job_outcome.specs.declared.Answer.the-variants.{Refused, Done}
 use Rattle.job_outcome.specs.declared.Tally.{Tally}
 use Rattle.job_outcome.specs.Outcome.{peakOf}
 use Rattle.text.specs.Words.{bytes, decimal, lf, line}
-use Rattle.text_write.specs.Put.{Put}
+use Rattle.lists.specs.Put.{Put}
 use Rattle.listing.specs.Listing.{listed}
 use Rattle.listing.specs.Written.{shown, RoomToList, Listable}
 

@@ -10,7 +10,7 @@ ghost use Prim.Native.Nat.{_≤_, _<_};
 ghost use lib.ListN.{length};
 ghost use mathlib.Core.Path.{_≡_};
 ghost use Rattle.job_outcome.specs.declared.Answer.the-variants.{Done};
-ghost use Rattle.text_write.specs.Put.{Put};
+ghost use Rattle.lists.specs.Put.{Put};
 ghost use Rattle.listing.specs.Listing.{listed};
 ghost use Rattle.listing.specs.Written.{shown, RoomToList, WritesListing};
 

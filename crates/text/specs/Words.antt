@@ -57,8 +57,3 @@ line key value = bytes key ++ value ++ lf ∷ []
 unfoldable pub lines : {A : Type 0} → (A → List ℕ) → List A → List ℕ
 lines f [] = []
 lines f (x ∷ xs) = f x ++ lines f xs
-
--- a line for each number below n, in order
-unfoldable pub linesBelow : (ℕ → List ℕ) → ℕ → List ℕ
-linesBelow f zero = []
-linesBelow f (suc n) = linesBelow f n ++ f n

@@ -12,8 +12,8 @@ use Rattle.text.specs.TextJob.{TextJob, cellsOf, Readable, jobText}
 use Rattle.text.proofs.Job.{one-job}
 use Rattle.text_read_job.specs.declared.Asked.{Asked}
 use Rattle.text_read_job.specs.Reading.{HoldsJob}
-use Rattle.text_write.specs.Put.{Put}
-use Rattle.text_write.proofs.Puts.{said}
+use Rattle.lists.specs.Put.{Put}
+use Rattle.lists.proofs.Puts.{said}
 use Rattle.listing.specs.Listing.{floatsOf, jobBy, lentFor, listing, Prints, listing-of, unreadable}
 use Rattle.listing_run.specs.Parts.{listedOf, heldJob, Small}
 use Rattle.text_answer.specs.Answering.{Answered}

@@ -3,7 +3,7 @@ use Prim.Native.Nat.{ℕ, _≤_}
 use mathlib.Core.Path.{_≡_}
 use mathlib.Core.List.{List}
 use lib.ListN.{length, take}
-use Rattle.text_write.specs.Put.{Put}
+use Rattle.lists.specs.Put.{Put}
 use Rattle.listing.specs.Listing.{Prints}
 
 -- the first n bytes of `new` are what the program prints for the input, and the others are those of `old`

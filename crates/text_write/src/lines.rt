@@ -8,7 +8,7 @@ ghost use lib.ListN.{length};
 ghost use mathlib.Core.List.{[], _∷_, _++_};
 ghost use Rattle.text.specs.Words.{decimal, lf};
 ghost use Rattle.text.specs.TextJob.{threeText};
-ghost use Rattle.text_write.specs.Put.{Put};
+ghost use Rattle.lists.specs.Put.{Put};
 ghost use Rattle.text_write.specs.Digits.{width};
 
 // One number.

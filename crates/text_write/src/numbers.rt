@@ -7,7 +7,7 @@ ghost use mathlib.Core.Path.{_≡_};
 ghost use mathlib.Core.List.{[], _∷_, _++_};
 ghost use Rattle.text.specs.Words.{digits, decimal, hexDigit, hex, hex8};
 ghost use Rattle.text.specs.TextJob.{spelled};
-ghost use Rattle.text_write.specs.Put.{Put};
+ghost use Rattle.lists.specs.Put.{Put};
 ghost use Rattle.text_write.specs.Digits.{FewDigits, width};
 
 // The digits of n, of which at most k stand before the last.

@@ -10,7 +10,7 @@ use Rattle.text_read_job.specs.declared.Reading.{Reading}
 use Rattle.text_read_job.specs.declared.Reading.the-variants.{Job, Unreadable}
 use Rattle.text_read_job.specs.Told.{jobIn}
 use Rattle.text_read_job.specs.Reading.{HoldsJob, Reads}
-use Rattle.text_write.specs.Put.{Put}
+use Rattle.lists.specs.Put.{Put}
 
 -- `Reads` is what `read_job` promises of a text and of the slices that it filled
 text-reads : (text : List ℕ) (j : TextJob) → Readable j → text ≡ jobText j → (vertices indices : List ℕ) (r : Reading) → Reads text vertices indices r

@@ -10,7 +10,7 @@ use Rattle.text.specs.Limits.{mostVertices, mostIndices, byteRoom}
 use Rattle.text.specs.TextJob.{jobText}
 use Rattle.text_read_job.specs.declared.Asked.{Asked}
 use Rattle.text_read_job.specs.Told.{jobIn}
-use Rattle.text_write.specs.Put.{Put}
+use Rattle.lists.specs.Put.{Put}
 use Rattle.text_write_job.specs.declared.Written.{Written}
 use Rattle.text_write_job.specs.declared.Written.the-variants.{Nothing, Bytes}
 

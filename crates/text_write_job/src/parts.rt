@@ -14,7 +14,7 @@ ghost use Rattle.text.specs.Words.{line, lines};
 ghost use Rattle.text.specs.Limits.{mostVertices, indexRoom};
 ghost use Rattle.text.specs.TextJob.{topologyText, headText, vertexLine, verticesText, indexLine, indicesText, tailText};
 ghost use Rattle.text_read_parts.specs.Told.{threesIn, listedAs};
-ghost use Rattle.text_write.specs.Put.{Put};
+ghost use Rattle.lists.specs.Put.{Put};
 
 fn put_topology(out: &mut [u8], at: usize, topology: Topology) -> usize
     requires { ⌜ at + 15 ≤ length (now out) ⌝ }

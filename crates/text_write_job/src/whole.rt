@@ -14,7 +14,7 @@ ghost use lib.ListN.{length};
 ghost use mathlib.Core.Path.{_≡_};
 ghost use Rattle.text.specs.TextJob.{jobText};
 ghost use Rattle.text_read_job.specs.Told.{jobIn};
-ghost use Rattle.text_write.specs.Put.{Put};
+ghost use Rattle.lists.specs.Put.{Put};
 ghost use Rattle.text_write_job.specs.Written.{mostGiven, RoomToWrite, WritesJob};
 
 // How many indices a job may have.

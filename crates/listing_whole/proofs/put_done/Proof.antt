@@ -1,7 +1,7 @@
 -- `listing_whole::put_done` meets its contract: its parts stand one after the other. Assumes nothing.
 use borrow.Author.Needs.{needs}
 use Rattle.text.specs.Words.{line}
-use Rattle.text_write.proofs.Puts.{andThen}
+use Rattle.lists.proofs.Puts.{andThen}
 use Rattle.listing.specs.Listing.{listed}
 use Rattle.listing_whole.proofs.put_done.Statement.{statement}
 use Rattle.listing_whole.proofs.put_done.Tie as tie

@@ -12,7 +12,7 @@ use Rattle.text.proofs.Job.{most-held}
 use Rattle.text_read_job.specs.declared.Asked.{Asked}
 use Rattle.text_read_job.specs.declared.Reading.the-variants.{Job}
 use Rattle.text_read_job.specs.Reading.{Reads}
-use Rattle.text_write.proofs.Puts.{cut, inside}
+use Rattle.lists.proofs.Puts.{cut, inside}
 use Rattle.listing.specs.Listing.{answerLine, unreadable}
 use Rattle.text_answer.proofs.Read.{small, answered}
 use Rattle.text_answer.proofs.run_text_by.Statement.{statement}

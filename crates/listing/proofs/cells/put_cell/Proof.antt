@@ -2,7 +2,8 @@
 use mathlib.Core.Path.{refl}
 use borrow.Author.Needs.{needs}
 use Rattle.text.specs.Words.{bytes, decimal, hex8, line}
-use Rattle.text_write.proofs.Puts.{said, andThen, three-words}
+use Rattle.lists.proofs.Puts.{said, andThen}
+use Rattle.text_write.proofs.Words.{three-words}
 use Rattle.listing.proofs.cells.put_cell.Statement.{statement}
 use Rattle.listing.proofs.cells.put_cell.Tie as tie
 

@@ -2,7 +2,8 @@
 use mathlib.Core.Path.{refl}
 use borrow.Author.Needs.{needs}
 use Rattle.text.specs.Words.{bytes, decimal, line}
-use Rattle.text_write.proofs.Puts.{said, andThen, two-words}
+use Rattle.lists.proofs.Puts.{said, andThen}
+use Rattle.text_write.proofs.Words.{two-words}
 use Rattle.listing.proofs.cells.put_row.Statement.{statement}
 use Rattle.listing.proofs.cells.put_row.Tie as tie
 

@@ -9,7 +9,7 @@ use borrow.Author.Needs.{needs}
 use Rattle.job_checks.specs.Job.{Job}
 use Rattle.text.specs.Limits.{coordinateRoom}
 use Rattle.listing.specs.Listing.{floatsOf, lentBy}
-use Rattle.text_write.proofs.Puts.{said}
+use Rattle.lists.proofs.Puts.{said}
 use Rattle.listing_run.specs.Parts.{listedOf, heldJob}
 use Rattle.listing_run.proofs.Same.{prefix, same-layers, front-of, long-as}
 use Rattle.listing_run.proofs.buffers.answer_job.Statement.{statement}

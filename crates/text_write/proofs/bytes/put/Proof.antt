@@ -1,6 +1,6 @@
 -- `text_write::bytes::put` meets its contract: a store is one byte. Assumes nothing.
 use borrow.Author.Needs.{needs}
-use Rattle.text_write.proofs.Puts.{one}
+use Rattle.lists.proofs.Puts.{one}
 use Rattle.text_write.proofs.bytes.put.Statement.{statement}
 use Rattle.text_write.proofs.bytes.put.Tie as tie
 

@@ -5,8 +5,8 @@ use native.Mathlib.Omega.{arith}
 use mathlib.Core.Path.{refl}
 use lib.ListN.{length, take}
 use lib.Seq.{take-all}
-use Rattle.text_write.specs.Put.{Put}
-use Rattle.text_write.proofs.Puts.{nothing, said, more}
+use Rattle.lists.specs.Put.{Put}
+use Rattle.lists.proofs.Puts.{nothing, said, more}
 use Rattle.text_write.proofs.bytes.put_all.Statement.{statement}
 use Rattle.text_write.proofs.bytes.put_all.Tie as tie
 
@@ -22,7 +22,7 @@ loop-holds c = (omega arith, said refl (omega arith) (nothing (c .args .out .now
 loop-again : tie.Need-loop-again Inv-loop μ-loop
 loop-again c =
     let l = c .before .before .loop in
-    (omega arith, more (c .before .before .before .args .word .now) (search needs) (omega (arith, l .inv .1 .long)) (l .inv .1))
+    (omega arith, more 0 (c .before .before .before .args .word .now) (search needs) (omega (arith, l .inv .1 .long)) (l .inv .1))
 
 same-length : tie.Need-same-length Inv-loop μ-loop
 same-length c = c .before .loop .inv .1 .long

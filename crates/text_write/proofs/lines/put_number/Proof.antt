@@ -2,7 +2,7 @@
 use mathlib.Core.Path.{refl}
 use mathlib.Core.List.{append-assoc}
 use borrow.Author.Needs.{needs}
-use Rattle.text_write.proofs.Puts.{said, andThen}
+use Rattle.lists.proofs.Puts.{said, andThen}
 use Rattle.text_write.proofs.lines.put_number.Statement.{statement}
 use Rattle.text_write.proofs.lines.put_number.Tie as tie
 

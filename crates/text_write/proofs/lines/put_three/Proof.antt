@@ -2,7 +2,8 @@
 use mathlib.Core.Path.{refl}
 use borrow.Author.Needs.{needs}
 use Rattle.text.specs.TextJob.{spelled}
-use Rattle.text_write.proofs.Puts.{said, andThen, three-words}
+use Rattle.lists.proofs.Puts.{said, andThen}
+use Rattle.text_write.proofs.Words.{three-words}
 use Rattle.text_write.proofs.lines.put_three.Statement.{statement}
 use Rattle.text_write.proofs.lines.put_three.Tie as tie
 

@@ -6,7 +6,7 @@ use native.Mathlib.Omega.{arith}
 use borrow.Author.Needs.{needs}
 use borrow.Fn.Kinds.{In}
 use borrow.Fn.PlainCycle.{Measures, is, falls, and}
-use Rattle.text_write.proofs.Puts.{said, andThen}
+use Rattle.lists.proofs.Puts.{said, andThen}
 use Rattle.text_write.proofs.Spelled.{one-digit, last-digit, few, deep, fewer}
 use Rattle.text_write.proofs.numbers.put_digits.Reads as reads
 use Rattle.text_write.proofs.numbers.put_digits.Kinds as kinds

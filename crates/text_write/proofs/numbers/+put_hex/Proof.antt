@@ -7,7 +7,7 @@ use native.Mathlib.Omega.{arith}
 use borrow.Author.Needs.{needs}
 use borrow.Fn.Kinds.{In}
 use borrow.Fn.PlainCycle.{Measures, is, falls, and}
-use Rattle.text_write.proofs.Puts.{nothing, said, andThen}
+use Rattle.lists.proofs.Puts.{nothing, said, andThen}
 use Rattle.text_write.proofs.Spelled.{hex-long, last-hex}
 use Rattle.text_write.proofs.numbers.put_hex.Reads as reads
 use Rattle.text_write.proofs.numbers.put_hex.Kinds as kinds

@@ -1,6 +1,6 @@
 -- `text_write::numbers::put_value_then` meets its contract: a byte after what was put. Assumes nothing.
 use borrow.Author.Needs.{needs}
-use Rattle.text_write.proofs.Puts.{andThen}
+use Rattle.lists.proofs.Puts.{andThen}
 use Rattle.text_write.proofs.numbers.put_value_then.Statement.{statement}
 use Rattle.text_write.proofs.numbers.put_value_then.Tie as tie
 

@@ -3,7 +3,7 @@ use native.Mathlib.Omega.{arith}
 use borrow.Author.Needs.{needs}
 use Rattle.text.specs.Words.{line}
 use Rattle.text.specs.TextJob.{headText}
-use Rattle.text_write.proofs.Puts.{andThen}
+use Rattle.lists.proofs.Puts.{andThen}
 use Rattle.text_write_job.proofs.parts.put_head.Statement.{statement}
 use Rattle.text_write_job.proofs.parts.put_head.Tie as tie
 

@@ -4,7 +4,7 @@ use lib.Seq.{length-take-le}
 use borrow.Author.Needs.{needs}
 use Rattle.text.specs.Words.{line}
 use Rattle.text.specs.TextJob.{indicesText}
-use Rattle.text_write.proofs.Puts.{andThen}
+use Rattle.lists.proofs.Puts.{andThen}
 use Rattle.text_write_job.proofs.parts.put_indices.Statement.{statement}
 use Rattle.text_write_job.proofs.parts.put_indices.Tie as tie
 

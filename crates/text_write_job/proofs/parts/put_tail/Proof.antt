@@ -2,7 +2,7 @@
 use borrow.Author.Needs.{needs}
 use Rattle.text.specs.Words.{line}
 use Rattle.text.specs.TextJob.{tailText}
-use Rattle.text_write.proofs.Puts.{andThen}
+use Rattle.lists.proofs.Puts.{andThen}
 use Rattle.text_write_job.proofs.parts.put_tail.Statement.{statement}
 use Rattle.text_write_job.proofs.parts.put_tail.Tie as tie
 

@@ -4,7 +4,7 @@ use borrow.Author.Needs.{needs}
 use Rattle.text.specs.Words.{line}
 use Rattle.text.specs.TextJob.{verticesText}
 use Rattle.text_read_parts.proofs.Threes.{threes-length}
-use Rattle.text_write.proofs.Puts.{andThen}
+use Rattle.lists.proofs.Puts.{andThen}
 use Rattle.text_write_job.proofs.parts.put_vertices.Statement.{statement}
 use Rattle.text_write_job.proofs.parts.put_vertices.Tie as tie
 

@@ -4,7 +4,7 @@ use native.Mathlib.Omega.{arith}
 use borrow.Author.Needs.{needs}
 use Rattle.text.specs.Limits.{indexRoom}
 use Rattle.text.specs.TextJob.{jobText}
-use Rattle.text_write.proofs.Puts.{andThen}
+use Rattle.lists.proofs.Puts.{andThen}
 use Rattle.text_write_job.proofs.Grown.{few-indices}
 use Rattle.text_write_job.proofs.whole.put_job.Statement.{statement}
 use Rattle.text_write_job.proofs.whole.put_job.Tie as tie

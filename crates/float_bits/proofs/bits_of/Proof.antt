@@ -1,12 +1,12 @@
--- `listing::cells::bits_of` meets its contract: what differs from itself is the NaN. Assumes nothing.
+-- `float_bits::bits_of` meets its contract: what differs from itself is the NaN. Assumes nothing.
 use mathlib.Core.Path.{refl, sym, subst}
 use lib.Dec.{T}
 use lib.Ieee.{toBits}
 use lib.Ieee.Compare.{differs-from-itself}
 use borrow.Author.Needs.{needs}
 use Rattle.float.proofs.Magnitude.{is-number}
-use Rattle.listing.proofs.cells.bits_of.Statement.{statement}
-use Rattle.listing.proofs.cells.bits_of.Tie as tie
+use Rattle.float_bits.proofs.bits_of.Statement.{statement}
+use Rattle.float_bits.proofs.bits_of.Tie as tie
 
 returns : tie.Need-returns
 unfolding toBits

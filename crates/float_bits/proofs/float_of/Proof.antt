@@ -1,10 +1,10 @@
--- `listing::floats::float_of` meets its contract. Assumes nothing.
+-- `float_bits::float_of` meets its contract. Assumes nothing.
 use mathlib.Core.Path.{sym, _∙_}
 use borrow.Author.Needs.{needs}
 use Rattle.float.proofs.Signs.{quotient}
-use Rattle.listing.proofs.Patterns.{nan-of, no-nan}
-use Rattle.listing.proofs.floats.float_of.Statement.{statement}
-use Rattle.listing.proofs.floats.float_of.Tie as tie
+use Rattle.float_bits.proofs.Patterns.{nan-of, no-nan}
+use Rattle.float_bits.proofs.float_of.Statement.{statement}
+use Rattle.float_bits.proofs.float_of.Tie as tie
 
 returns : tie.Need-returns
 returns c = quotient ∙ sym (nan-of (c .before .args .b) (c .if1 .taken))

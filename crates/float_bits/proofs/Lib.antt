@@ -1,0 +1,2 @@
+-- Which patterns are a NaN's.
+pub mod Patterns

@@ -1,0 +1,4 @@
+-- The laws that other crates cite.
+pub mod Pieces
+pub mod Replies
+pub mod Written

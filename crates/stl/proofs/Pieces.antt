@@ -1,0 +1,35 @@
+-- How long the pieces of a file are: the nine numbers of a record, a word's four bytes, the record of nine numbers. Assumes nothing.
+use Prim.Native.Nat.{ℕ, _+_, _*_, _-_}
+use native.Mathlib.Omega.{arith}
+use mathlib.Core.Path.{_≡_, refl, _∙_}
+use mathlib.Core.List.{List}
+use lib.ListN.{length, getD, replicate, length-map, length-append}
+use lib.Ieee.{binary32, ofBits}
+use Rattle.lists.specs.Joined.{joined}
+use Rattle.lists.proofs.Table.{length-table}
+use Rattle.lists.proofs.Joined.{length-joined}
+use Rattle.stl.specs.File.{bytesOf, lengthFor, cornersOf, recordOf, floatsOf}
+
+-- the parts of a file and of its corners that belong to facet k, as long as they are cut
+pub fifty : (k : ℕ) → lengthFor k + 50 - lengthFor k ≡ 50
+fifty k = omega arith
+
+pub nine : (k : ℕ) → 9 * k + 9 - 9 * k ≡ 9
+nine k = omega arith
+
+pub corners-long : (facet : List ℕ) → length (cornersOf facet) ≡ 9
+unfolding cornersOf
+corners-long facet = length-table _ 9
+
+pub floats-long : (facet : List ℕ) → length (floatsOf (cornersOf facet)) ≡ 9
+floats-long facet = length-map (cornersOf facet) (ofBits binary32) ∙ corners-long facet
+
+pub word-long : (w : ℕ) → length (bytesOf w) ≡ 4
+unfolding bytesOf
+word-long w = refl
+
+pub record-long : (corners : List ℕ) → length (recordOf corners) ≡ 50
+unfolding recordOf
+record-long corners =
+    let numbers : ℕ → List ℕ = λ i. bytesOf (getD corners i 0) in
+    omega (arith, length-append (joined numbers 9) (replicate 2 0), length-joined numbers 4 (λ i. word-long (getD corners i 0)) 9)
