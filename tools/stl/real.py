@@ -1,7 +1,8 @@
 """Files of real programs: openscad, gmsh and admesh make them, and admesh reads ours. Nothing here judges the library.
 
 What the versions of Debian 12 write: openscad 2021.01 ASCII STL, or binary if it is told so (--export-format binstl);
-gmsh 4.8.4 ASCII, or binary (-bin); admesh 0.98.4 either (-a, -b), of either."""
+gmsh 4.8.4 ASCII, or binary (-bin); admesh 0.98.4 either (-a, -b), of either. openscad may list the facets of a union in
+another order from run to run, and what admesh repairs of it then has a few facets more or less."""
 import os
 import re
 import shutil
