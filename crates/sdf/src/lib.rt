@@ -3,6 +3,8 @@
 //
 //   generate_grid_sdf          the whole job, over lent buffers (its contract stands in crate `job_generate`)
 //   generate_grid_sdf_records  the same with the queue as a lent row of records (crate `entries_generate`)
+//   stl_count, read_stl        a scanner's file, binary STL: its facets, and their corners (crate `stl_read`)
+//   write_stl                  corners to such a file (crate `stl_write`)
 //   the methods of `Grid`      the grid's questions, asked by value (crate `grid`)
 //   questions                  the same as functions; the geometry, the comparison and the root asked by themselves
 //
@@ -45,6 +47,13 @@ pub use mesh_topology::Indices;
 pub use mesh_topology::Topology;
 pub use queue::Entry;
 pub use terms::Terms;
+
+// ---- a scanner's file
+
+pub use stl::StlAnswer;
+pub use stl_read::read_stl;
+pub use stl_read::stl_count;
+pub use stl_write::write_stl;
 
 // ---- the questions
 

@@ -2,3 +2,6 @@
 pub mod Pieces
 pub mod Replies
 pub mod Written
+pub mod RoundTrip
+pub mod NoInfluence
+pub mod ReadBack

@@ -1,10 +1,11 @@
 -- "the usual binary STL: 80 bytes ignored, a little-endian u32 count, then 50 bytes a facet (normal, three corners as f32, two attribute
 -- bytes)" (document 02, §1). What a file says, and the file that says it, over bytes and the bit patterns of the corners' numbers.
 -- Definitions only.
-use Prim.Native.Nat.{ℕ, _+_, _*_, _/_, _%_}
+use Prim.Native.Nat.{ℕ, _+_, _*_, _/_, _%_, _^_, _<_}
 use mathlib.Core.List.{List, [], _∷_, _++_, map}
 use lib.ListN.{length, getD, take, drop, replicate}
-use lib.Ieee.{Float, binary32, ofBits, toBits}
+use lib.Dec.{T}
+use lib.Ieee.{Float, nan, fits, binary32, ofBits, toBits}
 use Rattle.lists.specs.Table.{table}
 use Rattle.lists.specs.Joined.{joined}
 
@@ -18,6 +19,10 @@ wordAt bytes at = wordOf (getD bytes at 0) (getD bytes (at + 1) 0) (getD bytes (
 
 unfoldable pub bytesOf : ℕ → List ℕ
 bytesOf w = w % 256 ∷ w / 256 % 256 ∷ w / 65536 % 256 ∷ w / 16777216 % 256 ∷ []
+
+-- a list of bit patterns
+abbrev pub Patterns : List ℕ → Type 0
+Patterns ps = (i : ℕ) → getD ps i 0 < 2 ^ 32
 
 -- ---- what a file says
 
@@ -72,3 +77,7 @@ bitsOf xs = map (toBits binary32) xs
 
 abbrev pub cornersIn : List ℕ → List Float
 cornersIn file = floatsOf (patternsIn file)
+
+-- a list of values that an f32 has
+abbrev pub Binary32 : List Float → Type 0
+Binary32 xs = (i : ℕ) → T (fits binary32 (getD xs i nan))

@@ -1,0 +1,69 @@
+-- What a file is read as depends on its length, its count and its corners alone: the words of these are the same. Assumes nothing.
+use Prim.Native.Nat.{ℕ, _+_, _*_, _≤_, _<_}
+use native.Mathlib.Omega.{arith}
+use mathlib.Core.Path.{_≡_, refl, sym, ap, ap₂, _∙_}
+use mathlib.Core.List.{List, _++_}
+use lib.ListN.{length, getD, take, drop, length-append, length-drop}
+use lib.Seq.{getD-take, getD-drop, getD-append-add}
+use lib.Ieee.{Float}
+use Rattle.lists.proofs.Joined.{joined-same}
+use Rattle.lists.specs.Joined.{joined}
+use Rattle.lists.proofs.Table.{table-same}
+use Rattle.stl.specs.File.{wordAt, countIn, lengthFor, recordAt, cornersOf, patternsIn}
+use Rattle.stl.specs.Alike.{Alike}
+use Rattle.stl.specs.Reply.{counting, reading}
+
+-- a word by its four bytes
+same-word : (a b : List ℕ) (i j : ℕ) → ((n : ℕ) → n < 4 → getD a (i + n) 0 ≡ getD b (j + n) 0) → wordAt a i ≡ wordAt b j
+unfolding wordAt
+same-word a b i j h =
+    let p : i ≡ i + 0 = omega arith in
+    let q : j ≡ j + 0 = omega arith in
+    ap₂ (λ (x y : ℕ). x + y)
+    (ap₂ (λ (x y : ℕ). x + y)
+    (ap₂ (λ (x y : ℕ). x + y)
+    (ap (λ (k : ℕ). getD a k 0) p ∙ h 0 (omega arith) ∙ ap (λ (k : ℕ). getD b k 0) (sym q))
+    (ap (λ (x : ℕ). 256 * x) (h 1 (omega arith))))
+    (ap (λ (x : ℕ). 65536 * x) (h 2 (omega arith))))
+    (ap (λ (x : ℕ). 16777216 * x) (h 3 (omega arith)))
+
+module _ (file other : List ℕ) (a : Alike file other) where
+  same-count : countIn file ≡ countIn other
+  same-count = same-word file other 80 80 (a .count)
+
+  -- byte n of number i of facet k
+  at-corner : (f : List ℕ) (k i n : ℕ) → i < 9 → n < 4 → getD (recordAt f k) (12 + 4 * i + n) 0 ≡ getD f (lengthFor k + (12 + (4 * i + n))) 0
+  at-corner f k i n h w =
+      getD-take 50 (drop (lengthFor k) f) (12 + 4 * i + n) 0 (omega arith) ∙ getD-drop (lengthFor k) f (12 + 4 * i + n) 0 ∙ ap (λ (m : ℕ). getD f m 0) place
+    where
+      place : lengthFor k + (12 + 4 * i + n) ≡ lengthFor k + (12 + (4 * i + n))
+      place = omega arith
+
+  same-corners : (k : ℕ) → cornersOf (recordAt file k) ≡ cornersOf (recordAt other k)
+  unfolding cornersOf
+  same-corners k =
+      table-same _ _ 9 (λ i h.
+      same-word (recordAt file k) (recordAt other k) (12 + 4 * i) (12 + 4 * i) (λ n w.
+      at-corner file k i n h w ∙ a .corners k (4 * i + n) (omega arith) ∙ sym (at-corner other k i n h w)))
+
+  same-patterns : patternsIn file ≡ patternsIn other
+  unfolding patternsIn
+  same-patterns = joined-same _ _ (countIn file) (λ k h. same-corners k) ∙ ap (joined _) same-count
+
+  pub no-influence : (lent : List Float) → (counting file ≡ counting other) × (reading file lent ≡ reading other lent)
+  no-influence lent = (rw (a .long, same-count), rw (a .long, same-count, same-patterns))
+
+-- another header, as one that begins with "solid"
+pub any-header : (head file : List ℕ) → length head ≡ 80 → 80 ≤ length file → Alike (head ++ drop 80 file) file
+any-header head file h w =
+    record {
+      long = omega (arith, length-append head (drop 80 file), length-drop 80 file);
+      count = λ i l. behind i;
+      corners = λ k i l. ap (λ (m : ℕ). getD (head ++ drop 80 file) m 0) (place k i) ∙ behind (4 + 50 * k + (12 + i)) ∙ ap (λ (m : ℕ). getD file m 0) (sym (place k i));
+    }
+  where
+    behind : (i : ℕ) → getD (head ++ drop 80 file) (80 + i) 0 ≡ getD file (80 + i) 0
+    behind i = ap (λ (n : ℕ). getD (head ++ drop 80 file) (n + i) 0) (sym h) ∙ getD-append-add head (drop 80 file) i 0 ∙ getD-drop 80 file i 0
+
+    place : (k i : ℕ) → lengthFor k + (12 + i) ≡ 80 + (4 + 50 * k + (12 + i))
+    place k i = omega arith
