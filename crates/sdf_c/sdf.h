@@ -1,7 +1,7 @@
 /* SPDX-License-Identifier: MIT OR Apache-2.0 (NOTICE, LICENSE-MIT, LICENSE-APACHE)
  *
- * The signed distance field of a triangle mesh on a grid, for C and C++: the whole job, and the questions of it asked by
- * themselves. What they owe is docs/SPECIFICATION.md, whose sections stand here as [4.1]; every function is proved to
+ * The signed distance field of a triangle mesh on a grid, for C and C++: the whole job, the questions of it asked by
+ * themselves, and a scanner's file read and written. What they owe is docs/SPECIFICATION.md, whose sections stand here as [4.1]; every function is proved to
  * meet it.
  *
  * In six lines, with buffers of n floats, n, 3 n and 64 numbers and n entries:
@@ -40,7 +40,7 @@ extern "C" {
 #endif
 
 /* Raised whenever a function, a record or a number below is no longer what it was. */
-#define SDF_VERSION 2
+#define SDF_VERSION 3
 
 /* The numbers of the whole job [4.1], in the order in which they are checked; the first that applies is given. A
  * question asked by itself [4.4] gives 1 for the grid, 2 for a coordinate that is not finite or above 2,097,152 in
@@ -57,7 +57,10 @@ enum {
                              (a queue that is a row of records has one length) */
     SDF_NOT_A_NUMBER = 6, /* a distance met in seeding or spreading is a NaN: two corners a hair apart */
     SDF_QUEUE_FULL = 7,   /* an entry had to be queued and the queue was full */
-    SDF_LIMIT_MET = 8     /* entries waited and the pops taken were the limit */
+    SDF_LIMIT_MET = 8,    /* entries waited and the pops taken were the limit */
+    /* of a scanner's file alone [16]: of the numbers above it gives 2 and 5 too */
+    SDF_FILE = 11,        /* the file is shorter than 84 bytes, or not 84 + 50 times its count long */
+    SDF_FACETS = 12       /* more than 131,072 facets */
 };
 
 /* The axes. For C an axis is a plain number: 0 is x, 1 is y, and any other number z. */
@@ -140,6 +143,11 @@ typedef struct {
     size_t peak;
 } sdf_job_answer;
 
+/* facets: how many a scanner's file has, or how many were read or written. 0 on a refusal. */
+typedef struct {
+    uint32_t number, facets;
+} sdf_stl_answer;
+
 /* An entry of the queue: the bit pattern of its distance, its cell and its triangle. Only the room is the caller's; what
  * an entry holds is the job's. */
 typedef struct {
@@ -203,6 +211,27 @@ sdf_job_answer sdf_generate_grid_sdf_records(sdf_grid grid, const float *vertice
                                              size_t names_length, uint32_t *crossings, size_t crossings_length,
                                              uint32_t *rows, size_t rows_length, sdf_entry *queue,
                                              size_t queue_length, sdf_terms terms);
+
+/* A scanner's file, binary STL [16]: 80 bytes that are ignored, a count of four bytes, the least first, then 50 bytes for
+ * each facet: its normal, its three corners of three floats each, two bytes of attributes. The header, the normals and the
+ * attributes have no influence; a header that begins with "solid" means nothing.
+ *
+ * From a file to its field: ask sdf_stl_facets, lend 9 floats for each facet, call sdf_read_stl, and then the whole job with
+ * these 9 * facets coordinates, SDF_LIST and SDF_NO_INDICES: corner j of facet k is vertex 3 k + j, and facet k is triangle
+ * k. Reading refuses no corner for what it is; that is the job's SDF_COORDINATES. examples/c/stl.c is a whole program.
+ *
+ * A refusal changes no buffer. What C owes is what the whole job is owed: valid pointers, never null, to at least as many
+ * elements as the length beside them, and no byte lent twice. Stack: less than 1 KB. */
+
+/* How many facets a file has. Refuses by 11, then 12. */
+sdf_stl_answer sdf_stl_facets(const uint8_t *file, size_t file_length);
+/* The corners of a file: x, y, z of each in turn. Refuses by 11, 12, then 5 where coordinate_count is not 9 times the
+ * facets. A NaN of the file comes out as some NaN; every other number keeps its bits. */
+sdf_stl_answer sdf_read_stl(const uint8_t *file, size_t file_length, float *vertices, size_t coordinate_count);
+/* Corners, 9 coordinates for each facet, to a file: header, normals and attributes zero. What is written reads back as the
+ * same bits; a NaN is written as 7fc00000. Refuses by 2 where coordinate_count is no multiple of nine; then by 12; then by 5
+ * where file_length is not 84 + 50 times the facets. */
+sdf_stl_answer sdf_write_stl(const float *vertices, size_t coordinate_count, uint8_t *file, size_t file_length);
 
 /* The square root, rounded to nearest [6.5]. No refusal: what is below zero, and a NaN, gives a NaN. */
 float sdf_sqrt(float x);

@@ -5,8 +5,8 @@
 //   geometry  the root, the comparison and the geometry
 //   grids     the grid's questions
 //   job       the whole job
-//   stl       a scanner's file, read and written
+//   files     a scanner's file, read and written
+pub mod files;
 pub mod geometry;
 pub mod grids;
 pub mod job;
-pub mod stl;
