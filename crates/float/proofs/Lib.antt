@@ -3,8 +3,6 @@ pub mod Bools
 pub mod Units
 pub mod Order
 pub mod Magnitude
-pub mod Floors
-pub mod BelowZero
 pub mod Squares
 pub mod Grid
 pub mod Normal
@@ -15,4 +13,3 @@ pub mod Signs
 pub mod ZeroSign
 pub mod NoSign
 pub mod RootOrder
-pub mod Marked
