@@ -2,7 +2,7 @@
 -- `sdf::generate_grid_sdf`, and so one output for every input. Definitions only.
 use Prim.Native.Nat.{ℕ, _*_}
 use mathlib.Core.Path.{_≡_}
-use mathlib.Core.List.{List, _∷_, _++_, map}
+use mathlib.Core.List.{List, _∷_, _++_}
 use lib.ListN.{length, getD, replicate}
 use lib.Ieee.{Float, nan, binary32, ofBits, toBits}
 use Rattle.float.specs.Arith.{f0}
@@ -22,13 +22,10 @@ use Rattle.text.specs.declared.Head.{Head}
 use Rattle.text.specs.declared.Tail.{Tail}
 use Rattle.text.specs.Words.{space, decimal, hex8, spaced, line}
 use Rattle.lists.specs.Joined.{joined}
+use Rattle.float_bits.specs.Patterns.{floatsOf}
 use Rattle.text.specs.TextJob.{TextJob, Readable, jobText, indexList, givenOf, flat}
 
 -- ---- the job that a text asks for
-
--- the floats that bit patterns stand for
-abbrev pub floatsOf : List ℕ → List Float
-floatsOf bs = map (ofBits binary32) bs
 
 abbrev pub pointOf : Three → Point
 pointOf t = vec (ofBits binary32 (t .x)) (ofBits binary32 (t .y)) (ofBits binary32 (t .z))

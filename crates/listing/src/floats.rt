@@ -2,7 +2,7 @@
 use float_bits::float_of;
 ghost use lib.ListN.{length};
 ghost use mathlib.Core.Path.{_≡_};
-ghost use Rattle.listing.specs.Listing.{floatsOf};
+ghost use Rattle.float_bits.specs.Patterns.{floatsOf};
 
 pub fn fill(bits: &[u32], floats: &mut [f32])
     requires { ⌜ length (now floats) ≡ length (now bits) ⌝ }

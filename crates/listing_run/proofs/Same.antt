@@ -30,7 +30,8 @@ use Rattle.job_checks.proofs.Accepted.{accepted}
 use Rattle.job_clear.proofs.Lengths.{lengths-same}
 use Rattle.job_outcome.proofs.Outcomes.{same-ended, same-run}
 use Rattle.text.specs.Limits.{mostCells, mostEntries, crossingRoom}
-use Rattle.listing.specs.Listing.{floatsOf, lentBy, listed}
+use Rattle.float_bits.specs.Patterns.{floatsOf}
+use Rattle.listing.specs.Listing.{lentBy, listed}
 use Rattle.lists.specs.Put.{Put}
 use Rattle.lists.proofs.Puts.{said}
 use Rattle.listing.specs.Written.{shown, RoomToList, Listable}

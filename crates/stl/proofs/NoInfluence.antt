@@ -9,13 +9,13 @@ use lib.Ieee.{Float}
 use Rattle.lists.proofs.Joined.{joined-same}
 use Rattle.lists.specs.Joined.{joined}
 use Rattle.lists.proofs.Table.{table-same}
-use Rattle.stl.specs.File.{wordAt, countIn, lengthFor, recordAt, cornersOf, patternsIn}
+use Rattle.stl.specs.File.{u32At, countIn, lengthFor, recordAt, nineOf, patternsIn}
 use Rattle.stl.specs.Alike.{Alike}
 use Rattle.stl.specs.Reply.{counting, reading}
 
 -- a word by its four bytes
-same-word : (a b : List ℕ) (i j : ℕ) → ((n : ℕ) → n < 4 → getD a (i + n) 0 ≡ getD b (j + n) 0) → wordAt a i ≡ wordAt b j
-unfolding wordAt
+same-word : (a b : List ℕ) (i j : ℕ) → ((n : ℕ) → n < 4 → getD a (i + n) 0 ≡ getD b (j + n) 0) → u32At a i ≡ u32At b j
+unfolding u32At
 same-word a b i j h =
     let p : i ≡ i + 0 = omega arith in
     let q : j ≡ j + 0 = omega arith in
@@ -39,8 +39,8 @@ module _ (file other : List ℕ) (a : Alike file other) where
       place : lengthFor k + (12 + 4 * i + n) ≡ lengthFor k + (12 + (4 * i + n))
       place = omega arith
 
-  same-corners : (k : ℕ) → cornersOf (recordAt file k) ≡ cornersOf (recordAt other k)
-  unfolding cornersOf
+  same-corners : (k : ℕ) → nineOf (recordAt file k) ≡ nineOf (recordAt other k)
+  unfolding nineOf
   same-corners k =
       table-same _ _ 9 (λ i h.
       same-word (recordAt file k) (recordAt other k) (12 + 4 * i) (12 + 4 * i) (λ n w.

@@ -8,7 +8,8 @@ use lib.Ieee.{binary32, ofBits}
 use Rattle.lists.specs.Joined.{joined}
 use Rattle.lists.proofs.Table.{length-table}
 use Rattle.lists.proofs.Joined.{length-joined}
-use Rattle.stl.specs.File.{bytesOf, lengthFor, cornersOf, recordOf, floatsOf}
+use Rattle.float_bits.specs.Patterns.{floatsOf}
+use Rattle.stl.specs.File.{bytesOf, lengthFor, nineOf, recordOf}
 
 -- the parts of a file and of its corners that belong to facet k, as long as they are cut
 pub fifty : (k : ℕ) → lengthFor k + 50 - lengthFor k ≡ 50
@@ -17,12 +18,12 @@ fifty k = omega arith
 pub nine : (k : ℕ) → 9 * k + 9 - 9 * k ≡ 9
 nine k = omega arith
 
-pub corners-long : (facet : List ℕ) → length (cornersOf facet) ≡ 9
-unfolding cornersOf
+pub corners-long : (facet : List ℕ) → length (nineOf facet) ≡ 9
+unfolding nineOf
 corners-long facet = length-table _ 9
 
-pub floats-long : (facet : List ℕ) → length (floatsOf (cornersOf facet)) ≡ 9
-floats-long facet = length-map (cornersOf facet) (ofBits binary32) ∙ corners-long facet
+pub floats-long : (facet : List ℕ) → length (floatsOf (nineOf facet)) ≡ 9
+floats-long facet = length-map (nineOf facet) (ofBits binary32) ∙ corners-long facet
 
 pub word-long : (w : ℕ) → length (bytesOf w) ≡ 4
 unfolding bytesOf

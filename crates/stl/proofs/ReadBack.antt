@@ -10,7 +10,8 @@ use Rattle.lists.specs.Checks.{firstThatApplies}
 use Rattle.lists.specs.Joined.{joined}
 use Rattle.lists.proofs.Joined.{length-joined}
 use Rattle.stl.specs.declared.StlAnswer.the-variants.{Facets}
-use Rattle.stl.specs.File.{countIn, lengthFor, cornersIn, headOf, recordOf, nineAt, facetsIn, stlOf, bitsOf, Binary32}
+use Rattle.float_bits.specs.Patterns.{bitsOf}
+use Rattle.stl.specs.File.{countIn, lengthFor, cornersIn, headOf, recordOf, nineAt, facetsIn, stlOf, Binary32}
 use Rattle.stl.specs.Reply.{fileChecks, bufferChecks, writingChecks, answerBy, leftBy, outcomeBy, reading, writing}
 use Rattle.stl.proofs.Pieces.{record-long}
 use Rattle.stl.proofs.Replies.{fits, lent, Writable, writable}

@@ -11,7 +11,7 @@ use Rattle.lists.specs.Checks.{firstThatApplies}
 use Rattle.lists.proofs.Checks.{none-applies, first-of-append, or-kept}
 use Rattle.stl.specs.declared.StlAnswer.the-variants.{Refused, Facets}
 use Rattle.stl.specs.File.{countIn, lengthFor}
-use Rattle.stl.specs.Reply.{fileChecks, bufferChecks, writingChecks, answerBy, outcomeBy, Gives}
+use Rattle.stl.specs.Reply.{fileChecks, bufferChecks, writingChecks, answerBy, outcomeBy, FileGives}
 
 -- ---- a file
 
@@ -104,12 +104,12 @@ refused-is (suc n) facets h = refl
 
 -- n is what the checks come to, r the number or the facets that the code gives
 module _ {A : Type 0} (facets : ℕ) (made lent : List A) {n : ℕ} where
-  pub refused-by : {r : ℕ} → n ≡ r → (r ≡ 0 → ⊥) → Gives (outcomeBy n facets made lent) (Refused r) lent
+  pub refused-by : {r : ℕ} → n ≡ r → (r ≡ 0 → ⊥) → FileGives (outcomeBy n facets made lent) (Refused r) lent
   refused-by {r} e h = rw e (go r h)
     where
-      go : (r : ℕ) → (r ≡ 0 → ⊥) → Gives (outcomeBy r facets made lent) (Refused r) lent
+      go : (r : ℕ) → (r ≡ 0 → ⊥) → FileGives (outcomeBy r facets made lent) (Refused r) lent
       go zero h = absurd (h refl)
       go (suc r) h = record { answers = refl; numbers = refl; facets = refl; leaves = refl }
 
-  pub done-by : {r : ℕ} {left : List A} → n ≡ 0 → r ≡ facets → left ≡ made → Gives (outcomeBy n facets made lent) (Facets r) left
+  pub done-by : {r : ℕ} {left : List A} → n ≡ 0 → r ≡ facets → left ≡ made → FileGives (outcomeBy n facets made lent) (Facets r) left
   done-by z e l = rw (z, e, l) (record { answers = refl; numbers = refl; facets = refl; leaves = refl })

@@ -16,7 +16,8 @@ use lib.Ieee.Bits.{ofBits-toBits, toBits-ofBits, toBits-lt}
 use Rattle.lists.specs.Joined.{joined}
 use Rattle.lists.proofs.Joined.{joined-same, joined-at, joined-parts, length-joined}
 use Rattle.lists.proofs.Table.{is-table, getD-any}
-use Rattle.stl.specs.File.{wordAt, bytesOf, countIn, lengthFor, recordAt, cornersOf, patternsIn, headOf, recordOf, nineAt, facetsIn, stlOf, Patterns, Binary32, floatsOf, bitsOf, cornersIn}
+use Rattle.float_bits.specs.Patterns.{floatsOf, bitsOf}
+use Rattle.stl.specs.File.{u32At, bytesOf, countIn, lengthFor, recordAt, nineOf, patternsIn, headOf, recordOf, nineAt, facetsIn, stlOf, Patterns, Binary32, cornersIn}
 use Rattle.stl.proofs.Pieces.{word-long, record-long}
 
 -- ---- a word
@@ -33,8 +34,8 @@ four w h =
     (omega arith)
 
 -- a word is read where its bytes stand
-word-there : (l : List ℕ) (at w : ℕ) → w < 2 ^ 32 → take 4 (drop at l) ≡ bytesOf w → wordAt l at ≡ w
-unfolding wordAt bytesOf
+word-there : (l : List ℕ) (at w : ℕ) → w < 2 ^ 32 → take 4 (drop at l) ≡ bytesOf w → u32At l at ≡ w
+unfolding u32At bytesOf
 word-there l at w h e =
     let start : at ≡ at + 0 = omega arith in
     ap₂ (λ (a b : ℕ). a + b)
@@ -59,8 +60,8 @@ number-there ps i h =
     ∙ take-append-le 4 (drop (4 * i) (joined numbers 9)) (replicate 2 0) (omega (arith, length-drop (4 * i) (joined numbers 9)))
     ∙ joined-at numbers 4 (λ j. word-long (getD ps j 0)) 9 i h
 
-corners-there : (ps : List ℕ) → length ps ≡ 9 → Patterns ps → cornersOf (recordOf ps) ≡ ps
-unfolding cornersOf
+corners-there : (ps : List ℕ) → length ps ≡ 9 → Patterns ps → nineOf (recordOf ps) ≡ ps
+unfolding nineOf
 corners-there ps n p = sym (is-table 0 _ 9 ps n (λ i h. sym (word-there (recordOf ps) (12 + 4 * i) (getD ps i 0) (p i) (number-there ps i h))))
 
 -- ---- a file
@@ -97,7 +98,7 @@ pub round-trip : (ps : List ℕ) → Patterns ps → length ps % 9 ≡ 0 → fac
 unfolding patternsIn
 round-trip ps p e h =
     ap (joined _) (count-there ps h)
-    ∙ joined-same _ _ (facetsIn ps) (λ k w. ap cornersOf (record-there ps k w) ∙ corners-there (nineAt ps k) (nine-long ps k w) (nine-patterns ps k p))
+    ∙ joined-same _ _ (facetsIn ps) (λ k w. ap nineOf (record-there ps k w) ∙ corners-there (nineAt ps k) (nine-long ps k w) (nine-patterns ps k p))
     ∙ joined-parts 9 (facetsIn ps) ps
     ∙ take-all (9 * facetsIn ps) ps (omega arith)
 

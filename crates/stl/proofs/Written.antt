@@ -6,7 +6,8 @@ use lib.ListN.{length, take, drop, length-map}
 use lib.Ieee.{Float, binary32, toBits}
 use Rattle.lists.specs.Joined.{joined}
 use Rattle.lists.proofs.Joined.{joined-same}
-use Rattle.stl.specs.File.{headOf, recordOf, nineAt, facetsIn, stlOf, bitsOf}
+use Rattle.float_bits.specs.Patterns.{bitsOf}
+use Rattle.stl.specs.File.{headOf, recordOf, nineAt, facetsIn, stlOf}
 
 module _ {A B : Type 0} (f : A → B) where
   map-take : (n : ℕ) (l : List A) → map f (take n l) ≡ take n (map f l)

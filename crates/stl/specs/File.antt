@@ -2,20 +2,21 @@
 -- bytes)" (document 02, §1). What a file says, and the file that says it, over bytes and the bit patterns of the corners' numbers.
 -- Definitions only.
 use Prim.Native.Nat.{ℕ, _+_, _*_, _/_, _%_, _^_, _<_}
-use mathlib.Core.List.{List, [], _∷_, _++_, map}
+use mathlib.Core.List.{List, [], _∷_, _++_}
 use lib.ListN.{length, getD, take, drop, replicate}
 use lib.Dec.{T}
-use lib.Ieee.{Float, nan, fits, binary32, ofBits, toBits}
+use lib.Ieee.{Float, nan, fits, binary32}
+use Rattle.float_bits.specs.Patterns.{floatsOf}
 use Rattle.lists.specs.Table.{table}
 use Rattle.lists.specs.Joined.{joined}
 
 -- ---- a u32, and the pattern of an f32: four bytes, the least first
 
-abbrev pub wordOf : ℕ → ℕ → ℕ → ℕ → ℕ
-wordOf a b c d = a + 256 * b + 65536 * c + 16777216 * d
+abbrev pub u32Of : ℕ → ℕ → ℕ → ℕ → ℕ
+u32Of a b c d = a + 256 * b + 65536 * c + 16777216 * d
 
-unfoldable pub wordAt : List ℕ → ℕ → ℕ
-wordAt bytes at = wordOf (getD bytes at 0) (getD bytes (at + 1) 0) (getD bytes (at + 2) 0) (getD bytes (at + 3) 0)
+unfoldable pub u32At : List ℕ → ℕ → ℕ
+u32At bytes at = u32Of (getD bytes at 0) (getD bytes (at + 1) 0) (getD bytes (at + 2) 0) (getD bytes (at + 3) 0)
 
 unfoldable pub bytesOf : ℕ → List ℕ
 bytesOf w = w % 256 ∷ w / 256 % 256 ∷ w / 65536 % 256 ∷ w / 16777216 % 256 ∷ []
@@ -28,7 +29,7 @@ Patterns ps = (i : ℕ) → getD ps i 0 < 2 ^ 32
 
 -- behind the 80 bytes that are ignored
 abbrev pub countIn : List ℕ → ℕ
-countIn file = wordAt file 80
+countIn file = u32At file 80
 
 -- how long a file of so many facets is
 abbrev pub lengthFor : ℕ → ℕ
@@ -39,12 +40,12 @@ abbrev pub recordAt : List ℕ → ℕ → List ℕ
 recordAt file k = take 50 (drop (lengthFor k) file)
 
 -- the nine numbers of a record's three corners, x, y, z of each in turn, behind the 12 bytes of the normal; the two bytes behind them are not used
-unfoldable pub cornersOf : List ℕ → List ℕ
-cornersOf record′ = table (λ i. wordAt record′ (12 + 4 * i)) 9
+unfoldable pub nineOf : List ℕ → List ℕ
+nineOf record′ = table (λ i. u32At record′ (12 + 4 * i)) 9
 
 -- "corners become vertices in order"
 unfoldable pub patternsIn : List ℕ → List ℕ
-patternsIn file = joined (λ k. cornersOf (recordAt file k)) (countIn file)
+patternsIn file = joined (λ k. nineOf (recordAt file k)) (countIn file)
 
 -- ---- the file that says it
 
@@ -67,13 +68,7 @@ facetsIn ps = length ps / 9
 unfoldable pub stlOf : List ℕ → List ℕ
 stlOf ps = headOf (facetsIn ps) ++ joined (λ k. recordOf (nineAt ps k)) (facetsIn ps)
 
--- ---- patterns and floats. There is one NaN, and its pattern is 7fc00000.
-
-abbrev pub floatsOf : List ℕ → List Float
-floatsOf ps = map (ofBits binary32) ps
-
-abbrev pub bitsOf : List Float → List ℕ
-bitsOf xs = map (toBits binary32) xs
+-- ---- as floats
 
 abbrev pub cornersIn : List ℕ → List Float
 cornersIn file = floatsOf (patternsIn file)

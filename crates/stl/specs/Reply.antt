@@ -10,7 +10,8 @@ use lib.Ieee.{Float}
 use Rattle.lists.specs.Checks.{Check, firstThatApplies}
 use Rattle.stl.specs.declared.StlAnswer.{StlAnswer}
 use Rattle.stl.specs.declared.StlAnswer.the-variants.{Refused, Facets}
-use Rattle.stl.specs.File.{countIn, lengthFor, cornersIn, facetsIn, stlOf, bitsOf}
+use Rattle.float_bits.specs.Patterns.{bitsOf}
+use Rattle.stl.specs.File.{countIn, lengthFor, cornersIn, facetsIn, stlOf}
 
 -- ---- the checks
 
@@ -41,13 +42,13 @@ writingChecks numbers bytes =
 -- ---- the answer, and what the lent buffer then holds
 
 -- an answer's number, 0 where nothing is refused; and its facets, 0 on a refusal
-abbrev pub numberOf : StlAnswer → ℕ
-numberOf (Refused n) = n
-numberOf (Facets n) = 0
+abbrev pub stlNumber : StlAnswer → ℕ
+stlNumber (Refused n) = n
+stlNumber (Facets n) = 0
 
-abbrev pub facetsOf : StlAnswer → ℕ
-facetsOf (Refused n) = 0
-facetsOf (Facets n) = n
+abbrev pub stlFacets : StlAnswer → ℕ
+stlFacets (Refused n) = 0
+stlFacets (Facets n) = n
 
 -- a refusal by n, or, where n is 0, so many facets
 abbrev pub answerBy : ℕ → ℕ → StlAnswer
@@ -59,11 +60,11 @@ abbrev pub leftBy : {A : Type 0} → ℕ → List A → List A → List A
 leftBy zero made lent = made
 leftBy (suc n) made lent = lent
 
-pub record Outcome (A : Type 0) : Type 0 where
+pub record FileOutcome (A : Type 0) : Type 0 where
   pub answer : StlAnswer
   pub left : List A
 
-abbrev pub outcomeBy : {A : Type 0} → ℕ → ℕ → List A → List A → Outcome A
+abbrev pub outcomeBy : {A : Type 0} → ℕ → ℕ → List A → List A → FileOutcome A
 outcomeBy n facets made lent = record { answer = answerBy n facets; left = leftBy n made lent }
 
 -- how many facets a file has
@@ -71,17 +72,17 @@ abbrev pub counting : List ℕ → StlAnswer
 counting file = answerBy (firstThatApplies (fileChecks file)) (countIn file)
 
 -- a file read into a lent buffer: "corners become vertices in order, with no indices"
-abbrev pub reading : List ℕ → List Float → Outcome Float
+abbrev pub reading : List ℕ → List Float → FileOutcome Float
 reading file lent = outcomeBy (firstThatApplies (fileChecks file ++ bufferChecks file (length lent))) (countIn file) (cornersIn file) lent
 
 -- corners written into a lent file
-abbrev pub writing : List Float → List ℕ → Outcome ℕ
+abbrev pub writing : List Float → List ℕ → FileOutcome ℕ
 writing vertices lent =
     outcomeBy (firstThatApplies (writingChecks (length vertices) (length lent))) (facetsIn vertices) (stlOf (bitsOf vertices)) lent
 
 -- what a call promises: its answer, with number and facets, and what it leaves in the lent buffer are those of the outcome
-pub record Gives {A : Type 0} (o : Outcome A) (answer : StlAnswer) (left : List A) : Type 0 where
+pub record FileGives {A : Type 0} (o : FileOutcome A) (answer : StlAnswer) (left : List A) : Type 0 where
   pub answers : answer ≡ o .answer
-  pub numbers : numberOf answer ≡ numberOf (o .answer)
-  pub facets : facetsOf answer ≡ facetsOf (o .answer)
+  pub numbers : stlNumber answer ≡ stlNumber (o .answer)
+  pub facets : stlFacets answer ≡ stlFacets (o .answer)
   pub leaves : left ≡ o .left

@@ -4,7 +4,8 @@ ghost use Prim.Native.Nat.{_+_, _≤_};
 ghost use mathlib.Core.Path.{_≡_};
 ghost use lib.ListN.{length};
 ghost use Rattle.lists.specs.Put.{Put};
-ghost use Rattle.stl.specs.File.{wordOf, wordAt, bytesOf, cornersOf, recordOf, floatsOf, bitsOf};
+ghost use Rattle.float_bits.specs.Patterns.{floatsOf, bitsOf};
+ghost use Rattle.stl.specs.File.{u32Of, u32At, bytesOf, nineOf, recordOf};
 
 // The number of a refusal, or how many facets were found, read or written.
 pub enum StlAnswer {
@@ -14,7 +15,7 @@ pub enum StlAnswer {
 
 // Four bytes as a number, the least first.
 fn word_of(a: u8, b: u8, c: u8, d: u8) -> u32
-    ensures { λ r. ⌜ r ≡ wordOf a b c d ⌝ }
+    ensures { λ r. ⌜ r ≡ u32Of a b c d ⌝ }
 {
     (a as u32) + 256 * (b as u32) + 65536 * (c as u32) + 16777216 * (d as u32)
 }
@@ -22,7 +23,7 @@ fn word_of(a: u8, b: u8, c: u8, d: u8) -> u32
 // The number that stands at `at`.
 pub fn word(bytes: &[u8], at: usize) -> u32
     requires { ⌜ at + 4 ≤ length (now bytes) ⌝ }
-    ensures { λ r. ⌜ r ≡ wordAt (now (bytes .entry)) at ⌝ }
+    ensures { λ r. ⌜ r ≡ u32At (now (bytes .entry)) at ⌝ }
 {
     word_of(bytes[at], bytes[at + 1], bytes[at + 2], bytes[at + 3])
 }
@@ -42,7 +43,7 @@ pub fn put_word(bytes: &mut [u8], at: usize, w: u32)
 pub fn read_facet(facet: &[u8], corners: &mut [f32])
     requires { ⌜ length (now facet) ≡ 50 ⌝ }
     requires { ⌜ length (now corners) ≡ 9 ⌝ }
-    ensures { λ _. ⌜ now (corners .exit) ≡ floatsOf (cornersOf (now (facet .entry))) ⌝ }
+    ensures { λ _. ⌜ now (corners .exit) ≡ floatsOf (nineOf (now (facet .entry))) ⌝ }
 {
     let mut i = 0;
     while i < 9 {

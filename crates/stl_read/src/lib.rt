@@ -6,7 +6,7 @@ ghost use Prim.Native.Nat.{_*_, _≤_};
 ghost use lib.ListN.{length};
 ghost use Rattle.lists.specs.Checks.{firstThatApplies};
 ghost use Rattle.stl.specs.File.{countIn, lengthFor, cornersIn};
-ghost use Rattle.stl.specs.Reply.{fileChecks, Gives, counting, reading};
+ghost use Rattle.stl.specs.Reply.{fileChecks, FileGives, counting, reading};
 
 // The first of 11 and 12 that applies, and 0 where none does. The count is looked at only where there is one.
 fn file_refusal(file: &[u8]) -> u32
@@ -56,7 +56,7 @@ fn read_facets(file: &[u8], vertices: &mut [f32], count: usize)
 
 // The corners of a file's facets: corner j of facet k is vertex 3 k + j. Nothing is refused for what a corner is.
 pub fn read_stl(file: &[u8], vertices: &mut [f32]) -> StlAnswer
-    ensures { λ r. ⌜ Gives (reading (now (file .entry)) (now (vertices .entry))) r (now (vertices .exit)) ⌝ }
+    ensures { λ r. ⌜ FileGives (reading (now (file .entry)) (now (vertices .entry))) r (now (vertices .exit)) ⌝ }
 {
     let number = file_refusal(file);
     if number != 0 {

@@ -7,8 +7,9 @@ ghost use lib.ListN.{length};
 ghost use Rattle.lists.specs.Checks.{firstThatApplies};
 ghost use Rattle.lists.specs.Joined.{joined};
 ghost use Rattle.lists.specs.Put.{Put};
-ghost use Rattle.stl.specs.File.{lengthFor, headOf, recordOf, nineAt, bitsOf};
-ghost use Rattle.stl.specs.Reply.{writingChecks, Gives, writing};
+ghost use Rattle.float_bits.specs.Patterns.{bitsOf};
+ghost use Rattle.stl.specs.File.{lengthFor, headOf, recordOf, nineAt};
+ghost use Rattle.stl.specs.Reply.{writingChecks, FileGives, writing};
 
 // The first of 2, 12 and 5 that applies, and 0 where none does.
 fn writing_refusal(numbers: usize, bytes: usize) -> u32
@@ -61,7 +62,7 @@ fn write_facets(vertices: &[f32], file: &mut [u8], count: usize)
 
 // The file of a list of corners, nine numbers for each facet.
 pub fn write_stl(vertices: &[f32], file: &mut [u8]) -> StlAnswer
-    ensures { λ r. ⌜ Gives (writing (now (vertices .entry)) (now (file .entry))) r (now (file .exit)) ⌝ }
+    ensures { λ r. ⌜ FileGives (writing (now (vertices .entry)) (now (file .entry))) r (now (file .exit)) ⌝ }
 {
     let number = writing_refusal(vertices.len(), file.len());
     if number != 0 {

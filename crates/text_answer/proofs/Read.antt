@@ -14,7 +14,8 @@ use Rattle.text_read_job.specs.declared.Asked.{Asked}
 use Rattle.text_read_job.specs.Reading.{HoldsJob}
 use Rattle.lists.specs.Put.{Put}
 use Rattle.lists.proofs.Puts.{said}
-use Rattle.listing.specs.Listing.{floatsOf, jobBy, lentFor, listing, Prints, listing-of, unreadable}
+use Rattle.float_bits.specs.Patterns.{floatsOf}
+use Rattle.listing.specs.Listing.{jobBy, lentFor, listing, Prints, listing-of, unreadable}
 use Rattle.listing_run.specs.Parts.{listedOf, heldJob, Small}
 use Rattle.text_answer.specs.Answering.{Answered}
 

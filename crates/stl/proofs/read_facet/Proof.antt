@@ -7,12 +7,12 @@ use lib.ListN.{length}
 use lib.Ieee.{nan, binary32, ofBits}
 use Rattle.lists.specs.Table.{Filled}
 use Rattle.lists.proofs.Table.{filled-none, filled-more, filled-all, map-table}
-use Rattle.stl.specs.File.{wordAt, cornersOf}
+use Rattle.stl.specs.File.{u32At, nineOf}
 use Rattle.stl.proofs.read_facet.Statement.{statement}
 use Rattle.stl.proofs.read_facet.Tie as tie
 
 abbrev Inv-loop : tie.InvT-loop
-Inv-loop facet corners₀ i₀ corners i = (i ≤ 9) × Filled nan (λ k. ofBits binary32 (wordAt facet (12 + 4 * k))) corners₀ i corners
+Inv-loop facet corners₀ i₀ corners i = (i ≤ 9) × Filled nan (λ k. ofBits binary32 (u32At facet (12 + 4 * k))) corners₀ i corners
 
 abbrev μ-loop : tie.MeasureT-loop
 μ-loop facet corners₀ i₀ corners i = 9 - i
@@ -23,7 +23,7 @@ loop-again c =
     (omega arith, filled-more _ _ _ _ _ _ (omega arith) (c .float-of .ensures ∙ ap (ofBits binary32) (c .before .word .ensures)) (l .inv .1))
 
 returns : tie.Need-returns Inv-loop μ-loop
-unfolding cornersOf
+unfolding nineOf
 returns c =
     let s = c .before .before .before .before in
     let l = c .before .loop in

@@ -11,7 +11,8 @@ use Rattle.lists.specs.Joined.{joined}
 use Rattle.lists.proofs.Joined.{joined-same}
 use Rattle.lists.proofs.Table.{getD-any}
 use Rattle.lists.proofs.Puts.{Pieces, no-pieces, pieces-more, pieces-room, pieces-all, one, andThen, said, whole}
-use Rattle.stl.specs.File.{bytesOf, recordOf, bitsOf}
+use Rattle.float_bits.specs.Patterns.{bitsOf}
+use Rattle.stl.specs.File.{bytesOf, recordOf}
 use Rattle.stl.proofs.write_facet.Statement.{statement}
 use Rattle.stl.proofs.write_facet.Tie as tie
 

@@ -8,13 +8,14 @@ use borrow.Rule.Slice.PartMut.{mid-len}
 use Rattle.lists.specs.Joined.{joined}
 use Rattle.lists.proofs.Joined.{map-joined}
 use Rattle.lists.proofs.Puts.{Pieces, no-pieces, pieces-more, pieces-all, part, said, whole}
-use Rattle.stl.specs.File.{lengthFor, recordAt, cornersOf, patternsIn, floatsOf}
+use Rattle.float_bits.specs.Patterns.{floatsOf}
+use Rattle.stl.specs.File.{lengthFor, recordAt, nineOf, patternsIn}
 use Rattle.stl.proofs.Pieces.{fifty, nine, floats-long}
 use Rattle.stl_read.proofs.read_facets.Statement.{statement}
 use Rattle.stl_read.proofs.read_facets.Tie as tie
 
 abbrev Inv-loop : tie.InvT-loop
-Inv-loop file vertices₀ count k₀ vertices k = Pieces (λ j. floatsOf (cornersOf (recordAt file j))) 9 vertices₀ 0 count vertices k (9 * k)
+Inv-loop file vertices₀ count k₀ vertices k = Pieces (λ j. floatsOf (nineOf (recordAt file j))) 9 vertices₀ 0 count vertices k (9 * k)
 
 abbrev μ-loop : tie.MeasureT-loop
 μ-loop file vertices₀ count k₀ vertices k = count - k
@@ -44,7 +45,7 @@ loop-again c =
     let l = t .before in
     let k = l .loop .k in
     let read = p .read-facet .ensures in
-    pieces-more _ _ _ _ _ (l .loop .inv) (t .loop-test .taken) (said (read ∙ ap (λ (n : ℕ). floatsOf (cornersOf (take n (drop (lengthFor k) (entry l .args .file .now))))) (fifty k)) (omega arith) (part _ _ (9 * k) (9 * k + 9) (omega arith) (fits t) (ap length read ∙ floats-long _ ∙ sym (nine k)))) (omega arith)
+    pieces-more _ _ _ _ _ (l .loop .inv) (t .loop-test .taken) (said (read ∙ ap (λ (n : ℕ). floatsOf (nineOf (take n (drop (lengthFor k) (entry l .args .file .now))))) (fifty k)) (omega arith) (part _ _ (9 * k) (9 * k + 9) (omega arith) (fits t) (ap length read ∙ floats-long _ ∙ sym (nine k)))) (omega arith)
 
 returns : tie.Need-returns Inv-loop μ-loop
 unfolding patternsIn

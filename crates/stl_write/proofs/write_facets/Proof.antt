@@ -5,7 +5,8 @@ use mathlib.Core.Path.{_≡_, refl, sym, ap, _∙_}
 use lib.ListN.{length, take, drop}
 use borrow.Rule.Slice.PartMut.{mid-len}
 use Rattle.lists.proofs.Puts.{Pieces, no-pieces, pieces-more, pieces-all, part, said}
-use Rattle.stl.specs.File.{lengthFor, recordOf, nineAt, bitsOf}
+use Rattle.float_bits.specs.Patterns.{bitsOf}
+use Rattle.stl.specs.File.{lengthFor, recordOf, nineAt}
 use Rattle.stl.proofs.Pieces.{fifty, nine, record-long}
 use Rattle.stl_write.proofs.write_facets.Statement.{statement}
 use Rattle.stl_write.proofs.write_facets.Tie as tie

@@ -6,7 +6,7 @@ use lib.ListN.{length, getD, length-map, List·getD-map}
 use lib.Seq.{ext-getD}
 use lib.Ieee.{binary32, ofBits}
 use Rattle.float.specs.Arith.{f0}
-use Rattle.listing.specs.Listing.{floatsOf}
+use Rattle.float_bits.specs.Patterns.{floatsOf}
 use Rattle.lists.specs.Table.{Filled}
 use Rattle.lists.proofs.Table.{filled-none, filled-more}
 use Rattle.listing.proofs.floats.fill.Statement.{statement}

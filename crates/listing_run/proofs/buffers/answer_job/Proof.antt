@@ -8,7 +8,8 @@ use lib.Ieee.{Float, binary32, ofBits}
 use borrow.Author.Needs.{needs}
 use Rattle.job_checks.specs.Job.{Job}
 use Rattle.text.specs.Limits.{coordinateRoom}
-use Rattle.listing.specs.Listing.{floatsOf, lentBy}
+use Rattle.float_bits.specs.Patterns.{floatsOf}
+use Rattle.listing.specs.Listing.{lentBy}
 use Rattle.lists.proofs.Puts.{said}
 use Rattle.listing_run.specs.Parts.{listedOf, heldJob}
 use Rattle.listing_run.proofs.Same.{prefix, same-layers, front-of, long-as}
