@@ -3,5 +3,6 @@ pub mod Pieces
 pub mod Replies
 pub mod Written
 pub mod RoundTrip
+pub mod Vertices
 pub mod NoInfluence
 pub mod ReadBack

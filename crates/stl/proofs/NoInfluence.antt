@@ -3,41 +3,20 @@ use Prim.Native.Nat.{ℕ, _+_, _*_, _≤_, _<_}
 use native.Mathlib.Omega.{arith}
 use mathlib.Core.Path.{_≡_, refl, sym, ap, ap₂, _∙_}
 use mathlib.Core.List.{List, _++_}
-use lib.ListN.{length, getD, take, drop, length-append, length-drop}
-use lib.Seq.{getD-take, getD-drop, getD-append-add}
+use lib.ListN.{length, getD, drop, length-append, length-drop}
+use lib.Seq.{getD-drop, getD-append-add}
 use lib.Ieee.{Float}
 use Rattle.lists.proofs.Joined.{joined-same}
 use Rattle.lists.specs.Joined.{joined}
 use Rattle.lists.proofs.Table.{table-same}
-use Rattle.stl.specs.File.{u32At, countIn, lengthFor, recordAt, nineOf, patternsIn}
+use Rattle.stl.specs.File.{countIn, lengthFor, recordAt, nineOf, patternsIn}
 use Rattle.stl.specs.Alike.{Alike}
+use Rattle.stl.proofs.Vertices.{same-word, at-corner}
 use Rattle.stl.specs.Reply.{counting, reading}
-
--- a word by its four bytes
-same-word : (a b : List ℕ) (i j : ℕ) → ((n : ℕ) → n < 4 → getD a (i + n) 0 ≡ getD b (j + n) 0) → u32At a i ≡ u32At b j
-unfolding u32At
-same-word a b i j h =
-    let p : i ≡ i + 0 = omega arith in
-    let q : j ≡ j + 0 = omega arith in
-    ap₂ (λ (x y : ℕ). x + y)
-    (ap₂ (λ (x y : ℕ). x + y)
-    (ap₂ (λ (x y : ℕ). x + y)
-    (ap (λ (k : ℕ). getD a k 0) p ∙ h 0 (omega arith) ∙ ap (λ (k : ℕ). getD b k 0) (sym q))
-    (ap (λ (x : ℕ). 256 * x) (h 1 (omega arith))))
-    (ap (λ (x : ℕ). 65536 * x) (h 2 (omega arith))))
-    (ap (λ (x : ℕ). 16777216 * x) (h 3 (omega arith)))
 
 module _ (file other : List ℕ) (a : Alike file other) where
   same-count : countIn file ≡ countIn other
   same-count = same-word file other 80 80 (a .count)
-
-  -- byte n of number i of facet k
-  at-corner : (f : List ℕ) (k i n : ℕ) → i < 9 → n < 4 → getD (recordAt f k) (12 + 4 * i + n) 0 ≡ getD f (lengthFor k + (12 + (4 * i + n))) 0
-  at-corner f k i n h w =
-      getD-take 50 (drop (lengthFor k) f) (12 + 4 * i + n) 0 (omega arith) ∙ getD-drop (lengthFor k) f (12 + 4 * i + n) 0 ∙ ap (λ (m : ℕ). getD f m 0) place
-    where
-      place : lengthFor k + (12 + 4 * i + n) ≡ lengthFor k + (12 + (4 * i + n))
-      place = omega arith
 
   same-corners : (k : ℕ) → nineOf (recordAt file k) ≡ nineOf (recordAt other k)
   unfolding nineOf
