@@ -68,13 +68,13 @@ module _ {A : Type 0} (p : List ℕ → Got A) where
       by nothing = refl
 
   module _ (n i : ℕ) (done : List A) (s : List ℕ) where
-    pub pieces-more : {a : A} {t : List ℕ} {now : List A}
+    pub lines-more : {a : A} {t : List ℕ} {now : List A}
         → i < n
         → took a t ≡ p s
         → now ≡ done ++ a ∷ []
         → afterwards done (n - i) s ≡ afterwards now (n - (i + 1)) t
     unfolding afterwards linesAt
-    pieces-more {a = a} {t = t} h e g =
+    lines-more {a = a} {t = t} h e g =
         let q : n - i ≡ suc (n - (i + 1)) = omega arith in
         ap (λ (k : ℕ). afterwards done k s) q
         ∙ ap (λ (g : Got (List A)). follow g (λ l s. took (done ++ l) s)) (follows _ (sym e))

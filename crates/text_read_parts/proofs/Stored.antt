@@ -6,7 +6,7 @@ use mathlib.Core.Path.{_≡_, refl, sym, ap, _∙_}
 use mathlib.Core.List.{List, [], _∷_, _++_}
 use lib.ListN.{length, drop}
 use Rattle.text.specs.Reader.{Got, took, nothing, linesAt}
-use Rattle.text.proofs.Lines.{afterwards, lines-begin, pieces-more, lines-not, lines-end}
+use Rattle.text.proofs.Lines.{afterwards, lines-begin, lines-more, lines-not, lines-end}
 
 module _ {A : Type 0} (p : List ℕ → Got A) (held : ℕ → List ℕ → List A) where
   pub record Stored (text : List ℕ) (at n : ℕ) (out₀ out : List ℕ) (k i : ℕ) : Type 0 where
@@ -33,7 +33,7 @@ module _ {A : Type 0} (p : List ℕ → Got A) (held : ℕ → List ℕ → List
         → held (i + 1) now ≡ held i out ++ a ∷ []
         → Stored text at n out₀ now next (i + 1)
     stored-more h e l g =
-        record { few = omega arith; long = l ∙ s .long; all = s .all ∙ pieces-more p n i (held i out) (drop k text) h e g }
+        record { few = omega arith; long = l ∙ s .long; all = s .all ∙ lines-more p n i (held i out) (drop k text) h e g }
 
     pub stored-all : n ≤ i → took (held n out) (drop k text) ≡ linesAt n p (drop at text)
     stored-all h =

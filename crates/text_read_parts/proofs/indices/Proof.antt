@@ -52,8 +52,8 @@ returns-3 : tie.Need-returns-3
 unfolding indicesAt
 returns-3 c =
     let l = c .before .before .before .before in
-    let no-pieces = rw (c .enum-told3 .given .1) at (l .index-lines .ensures) in
-    record { is = the-second (stopped _ (some (number (l .before)))) (stopped _ no-pieces ∙ onward _ (count (l .before))); few = tt }
+    let no-lines = rw (c .enum-told3 .given .1) at (l .index-lines .ensures) in
+    record { is = the-second (stopped _ (some (number (l .before)))) (stopped _ no-lines ∙ onward _ (count (l .before))); few = tt }
 
 returns-4 : tie.Need-returns-4
 unfolding indicesAt
