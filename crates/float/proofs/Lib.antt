@@ -3,8 +3,6 @@ pub mod Bools
 pub mod Units
 pub mod Order
 pub mod Magnitude
-pub mod Floors
-pub mod BelowZero
 pub mod Squares
 pub mod Grid
 pub mod Normal

@@ -1,9 +1,7 @@
 pub mod Arith
 pub mod Steps
 pub mod Distance
-pub mod Cell
 pub mod Root
 pub mod RootOf
 pub mod Case
 pub mod RootCases
-pub mod FloorCases

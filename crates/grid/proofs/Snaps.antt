@@ -6,8 +6,8 @@ use Prim.Native.Nat.{ℕ, _-_, _<_, min}
 use native.Mathlib.Omega.{arith}
 use lib.IntN.{ℤ, pos, negsuc}
 use borrow.Author.Tests.{leb-false, lt-leb}
-use Rattle.float.specs.Cell.{cellOf, outside}
-use Rattle.float.proofs.Floors.{cell-lt}
+use Rattle.float_floor.specs.Cell.{cellOf, outside}
+use Rattle.float_floor.proofs.Floors.{cell-lt}
 use Rattle.point.specs.declared.Point.{Point}
 use Rattle.point.specs.declared.Axis.{Axis}
 use Rattle.point.specs.declared.Axis.the-variants.{X, Y, Z}

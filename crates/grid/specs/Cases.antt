@@ -5,7 +5,7 @@ use mathlib.Core.List.{List, [], _∷_, _++_}
 use Prim.Native.Nat.{ℕ}
 use lib.Ieee.{Float, binary32, add, sub, mul, div, ofBits}
 use Rattle.float.specs.Arith.{f0, f½, f1}
-use Rattle.float.specs.Cell.{floorOf, cellOf, outside}
+use Rattle.float_floor.specs.Cell.{floorOf, cellOf, outside}
 use Rattle.float.specs.Case.{Case, _gives_}
 use Rattle.point.specs.declared.Point.{Point}
 use Rattle.point.specs.declared.Axis.{Axis}

@@ -3,7 +3,7 @@
 use mathlib.Core.Bool.{Bool}
 use lib.IntN.{ℤ}
 use Rattle.float.specs.Arith.{if_then_else_}
-use Rattle.float.specs.Cell.{floorOf, cellOf, outside}
+use Rattle.float_floor.specs.Cell.{floorOf, cellOf, outside}
 use Rattle.grid_axis.specs.OnAxis.{centreOn, lowOn, highOn, quotientOn, boxSize, boxFirst}
 use Rattle.point.specs.declared.Point.{Point}
 use Rattle.point.specs.declared.Axis.{Axis}

@@ -1,10 +1,10 @@
 // What a grid has along one axis: where its cells lie, the cell of a coordinate, and the bounds (document 01,
 // "Grid" and "Bounds on a job"). The three axes are alike, so each is one function of numbers. A part of the
 // port: users call `sdf`.
-use float::Place;
+use float_floor::Place;
 ghost use mathlib.Core.Path.{_≡_};
 ghost use Prim.Native.Nat.{_^_, _<_};
-ghost use Rattle.float.specs.Cell.{Snapped};
+ghost use Rattle.float_floor.specs.Cell.{Snapped};
 ghost use Rattle.grid_axis.specs.OnAxis as Spec;
 ghost use Rattle.grid_axis.specs.AxisBounds.{axisInBounds};
 
@@ -40,7 +40,7 @@ pub fn end_on(first: f32, size: f32, count: u32) -> f32
 pub fn snap_on(first: f32, size: f32, count: u32, p: f32) -> Place
     ensures { λ r. ⌜ Snapped count (Spec.quotientOn first size p) (r .index) (r .clamped) ⌝ }
 {
-    float::cell((p - (first - size * 0.5)) / size, count)
+    float_floor::cell((p - (first - size * 0.5)) / size, count)
 }
 
 // The size of a cell on an axis where `count` cells reach from `low` to `high`.

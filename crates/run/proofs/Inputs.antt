@@ -10,7 +10,7 @@ use lib.Ieee.{Float, nan, inf, fin, isNan}
 use borrow.Author.Tests.{ltb-true}
 use Rattle.float.specs.Distance.{Distance}
 use Rattle.float.specs.RootOf.{rootOf}
-use Rattle.float.proofs.Floors.{cell-lt}
+use Rattle.float_floor.proofs.Floors.{cell-lt}
 use Rattle.float.proofs.Roots.{root-distance}
 use Rattle.point.specs.declared.Point.{Point}
 use Rattle.point.specs.declared.Axis.{Axis}

@@ -10,7 +10,7 @@ use lib.IntN.{ℤ, pos, negsuc}
 use lib.ListN.{length, getD}
 use lib.Ieee.{Float, nan, neg}
 use Rattle.float.specs.Arith.{_⊘_, _≺_, f0, if_then_else_}
-use Rattle.float.specs.Cell.{floorOf}
+use Rattle.float_floor.specs.Cell.{floorOf}
 use Rattle.lists.specs.Range.{countBelow, sumBelow}
 use Rattle.lists.specs.Table.{table}
 use Rattle.point.specs.declared.Axis.{Axis}

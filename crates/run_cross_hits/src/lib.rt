@@ -41,7 +41,7 @@ fn cross_line(grid: Grid, axis: Axis, u: u32, v: u32, hit: RayHit, crossings: &m
         RayHit::Miss => {}
         RayHit::Hit(t) => {
             let size = grid.cell_size;
-            let last = float::cell(t / size.get(axis), grid::parts::count_on(grid, axis));
+            let last = float_floor::cell(t / size.get(axis), grid::parts::count_on(grid, axis));
             add_line(grid, axis, u, v, last.index, crossings);
         }
     }

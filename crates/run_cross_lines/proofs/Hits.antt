@@ -9,7 +9,7 @@ use lib.Dec.{leb, eqb}
 use lib.ListN.{length, getD, replicate, length-replicate, getD-replicate, List·getD-eq-default}
 use lib.Ieee.{Float}
 use Rattle.float.specs.Arith.{_⊖_, _⊘_, _≺_, f0}
-use Rattle.float.specs.Cell.{floorOf, cellOf}
+use Rattle.float_floor.specs.Cell.{floorOf, cellOf}
 use Rattle.point.specs.declared.Axis.{Axis}
 use Rattle.point.specs.declared.Axis.the-variants.{X, Y, Z}
 use Rattle.grid.specs.declared.Grid.{Grid}

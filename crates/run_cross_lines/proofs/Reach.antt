@@ -10,7 +10,7 @@ use lib.Ieee.{Float, nan, inf, fin, binary32, ofBits, up, down, lt, le, div, rou
 use lib.Ieee.Positive.{positive, between}
 use borrow.Author.Tests.{eqb-true, leb-true, leb-false, le-leb, lt-leb}
 use Rattle.float.specs.Arith.{_⊘_, _≺_, f0}
-use Rattle.float.specs.Cell.{floorOf, cellOf}
+use Rattle.float_floor.specs.Cell.{floorOf, cellOf}
 use Rattle.float.specs.Distance.{unsigned}
 use Rattle.float.proofs.NoSign.{round-unsigned}
 use Rattle.grid_axis.specs.AxisBounds.{isSize, f2¹⁰, f2⁻¹⁰}

@@ -7,8 +7,8 @@ use mathlib.Core.Bool.{true}
 use lib.IntN.{ℤ}
 use lib.Ieee.{Float}
 use Rattle.float.specs.Arith.{_⊘_, _≺_, f0}
-use Rattle.float.specs.Cell.{floorOf, cellOf}
-use Rattle.float.proofs.Floors.{cell-lt}
+use Rattle.float_floor.specs.Cell.{floorOf, cellOf}
+use Rattle.float_floor.proofs.Floors.{cell-lt}
 use Rattle.grid.specs.Axes.{countOn, sizeOn}
 use Rattle.grid.proofs.Facts.{bounds-of, on-axis}
 use Rattle.run_cross_lines.specs.Pass.{ahead}

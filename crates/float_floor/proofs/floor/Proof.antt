@@ -1,4 +1,4 @@
--- `float::floor`: from zero on and below zero by the parts, and a NaN passes neither test. -1 - k is `negsuc k`. Assumes nothing.
+-- `float_floor::floor`: from zero on and below zero by the parts, and a NaN passes neither test. -1 - k is `negsuc k`. Assumes nothing.
 use borrow.Author.Needs.{needs}
 use mathlib.Core.Path.{_≡_, refl, sym, ap, _∙_, subst}
 use Prim.Native.Nat.{ℕ, zero, suc, _^_, _<_}
@@ -7,9 +7,9 @@ use lib.IntN.{ℤ, pos, negsuc, _-ℤ_}
 use mir.Syntax.{w64}
 use mir.Val.{SFits, toZ, ofZ}
 use mir.ValLaws.{toZ-pos, toZ-neg}
-use Rattle.float.proofs.BelowZero.{neither}
-use Rattle.float.proofs.floor.Statement.{statement}
-use Rattle.float.proofs.floor.Tie as tie
+use Rattle.float_floor.proofs.BelowZero.{neither}
+use Rattle.float_floor.proofs.floor.Statement.{statement}
+use Rattle.float_floor.proofs.floor.Tie as tie
 
 -- -1 - k
 one-less : (k : ℕ) → k < 2 ^ 63 → negsuc 0 -ℤ toZ w64 k ≡ negsuc k

@@ -15,10 +15,10 @@ use lib.Ieee.Fits.{up-pos, down-pos, and-l, and-r}
 use lib.Ieee.Exact.{HasValue}
 use lib.Ieee.Back.{round-whole}
 use borrow.Author.Tests.{ltb-true, ltb-false, leb-false}
 use Rattle.float.specs.Arith.{_≦_, _≺_, f0}
-use Rattle.float.specs.Cell.{floorOf, outside}
-use Rattle.float.proofs.Floors.{Truncates, f2⁶³, end-is, least-of-all, truncates, before-every-row}
+use Rattle.float_floor.specs.Cell.{floorOf, outside}
+use Rattle.float_floor.proofs.Floors.{Truncates, f2⁶³, end-is, least-of-all, truncates, before-every-row}
 use Rattle.float.proofs.Units.{zero-is}
 
 -- ---- a quotient, and one less than the quotient rounded up
 

@@ -13,10 +13,10 @@ use lib.Ieee.{Float, nan, inf, fin, binary32, ofBits, up, down, lt, le, eq, toUn
 use lib.Ieee.Fits.{up-pos, down-pos}
 use lib.Pow.{pow-mono, pow-pos}
 use borrow.Author.Tests.{ltb-true, ltb-false, eqb-true, lt-ltb, lt-leb, le-leb, eq-eqb}
 use Rattle.float.specs.Arith.{_≦_, _≺_, f0}
-use Rattle.float.specs.Cell.{floorOf, cellOf, outside, Snapped}
+use Rattle.float_floor.specs.Cell.{floorOf, cellOf, outside, Snapped}
 use Rattle.float.proofs.Bools.{and-first, both, or-first, or-second}
 use Rattle.float.proofs.Units.{zero-is}
 
 -- 4294967296.0, from which on no count of cells reaches
 abbrev pub f2³² : Float

@@ -4,8 +4,8 @@ use mathlib.Core.List.{List, [], _∷_}
 use Prim.Native.Nat.{ℕ, _-_, _^_}
 use lib.IntN.{ℤ, pos, negsuc}
 use lib.Ieee.{binary32, ofBits}
 use Rattle.float.specs.Case.{Case, _gives_}
-use Rattle.float.specs.Cell.{floorOf}
+use Rattle.float_floor.specs.Cell.{floorOf}
 
 -- a whole number stands in a row as the 64 bits of an i64: -k as 2 ^ 64 - k
 abbrev word : ℤ → ℕ

@@ -1,12 +1,12 @@
--- `float::floor_from_zero`: below 2 ^ 63 the truncated value is the floor, and from there on the floor is the end of the range
+-- `float_floor::floor_from_zero`: below 2 ^ 63 the truncated value is the floor, and from there on the floor is the end of the range
 -- (`proofs/Floors.antt`). Assumes nothing.
 use mathlib.Core.Path.{sym, ap, _∙_}
 use native.Mathlib.Omega.{arith}
 use lib.IntN.{pos}
 use lib.Dec.{lit≤, lit<}
-use Rattle.float.proofs.Floors.{Truncates, end-is, truncates, from}
-use Rattle.float.proofs.floor_from_zero.Statement.{statement}
-use Rattle.float.proofs.floor_from_zero.Tie as tie
+use Rattle.float_floor.proofs.Floors.{Truncates, end-is, truncates, from}
+use Rattle.float_floor.proofs.floor_from_zero.Statement.{statement}
+use Rattle.float_floor.proofs.floor_from_zero.Tie as tie
 
 range : (c : tie.Then1) → Truncates (c .before .args .x)
 range c = truncates end-is (lit≤ tt) (c .before .args .x) (c .before .pre) (c .if1 .taken)

@@ -1,4 +1,4 @@
--- `float::floor_below_zero`: each return by the tests that led there (`proofs/BelowZero.antt`). Assumes nothing.
+-- `float_floor::floor_below_zero`: each return by the tests that led there (`proofs/BelowZero.antt`). Assumes nothing.
 use borrow.Author.Needs.{needs}
 use mathlib.Core.Path.{_≡_, sym, subst}
 use Prim.Native.Nat.{ℕ, _-_, _≤_, _<_}
@@ -6,11 +6,11 @@ use native.Mathlib.Omega.{arith}
 use lib.IntN.{negsuc}
 use lib.Dec.{T, lit<, le→leb}
 use lib.Ieee.{binary32, fits, neg, inFloat}
-use Rattle.float.specs.Cell.{floorOf}
-use Rattle.float.proofs.Floors.{Truncates}
-use Rattle.float.proofs.BelowZero.{Cut, cut, cut-lt, truncated, at-the-end, with-fraction, without-fraction, no-digit-left}
-use Rattle.float.proofs.floor_below_zero.Statement.{statement}
-use Rattle.float.proofs.floor_below_zero.Tie as tie
+use Rattle.float_floor.specs.Cell.{floorOf}
+use Rattle.float_floor.proofs.Floors.{Truncates}
+use Rattle.float_floor.proofs.BelowZero.{Cut, cut, cut-lt, truncated, at-the-end, with-fraction, without-fraction, no-digit-left}
+use Rattle.float_floor.proofs.floor_below_zero.Statement.{statement}
+use Rattle.float_floor.proofs.floor_below_zero.Tie as tie
 
 range : (c : tie.Then1) → Truncates (neg (c .before .args .x))
 range c = truncated (c .before .args .x) (c .before .pre) (c .if1 .taken)

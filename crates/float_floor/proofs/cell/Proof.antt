@@ -1,4 +1,4 @@
--- `float::cell`: each return by the tests that led there (`proofs/Floors.antt`). Assumes nothing.
+-- `float_floor::cell`: each return by the tests that led there (`proofs/Floors.antt`). Assumes nothing.
 use borrow.Author.Needs.{needs}
 use mathlib.Core.Path.{_≡_, ap, _∙_}
 use mathlib.Core.Bool.{Bool, true, false}
@@ -6,10 +6,10 @@ use Prim.Native.Nat.{ℕ, _-_}
 use native.Mathlib.Omega.{arith}
 use lib.IntN.{pos}
 use lib.Dec.{lit≤}
-use Rattle.float.specs.Cell.{cellOf, outside, Snapped}
-use Rattle.float.proofs.Floors.{Truncates, most-is, truncates, inside, after, no-row, past-every-row, before-every-row}
-use Rattle.float.proofs.cell.Statement.{statement}
-use Rattle.float.proofs.cell.Tie as tie
+use Rattle.float_floor.specs.Cell.{cellOf, outside, Snapped}
+use Rattle.float_floor.proofs.Floors.{Truncates, most-is, truncates, inside, after, no-row, past-every-row, before-every-row}
+use Rattle.float_floor.proofs.cell.Statement.{statement}
+use Rattle.float_floor.proofs.cell.Tie as tie
 
 -- the entry, from where the value can be truncated
 abbrev entry : tie.Then3 → tie.Start

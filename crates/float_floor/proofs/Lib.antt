@@ -1,0 +1,4 @@
+-- Laws that the crate's proofs, and those of the crates above it, cite.
+pub mod Floors
+pub mod BelowZero
+pub mod Marked
