@@ -1,3 +1,1 @@
 mod Answers
--- what crates above cite
-pub mod Marked

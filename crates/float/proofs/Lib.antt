@@ -13,4 +13,3 @@ pub mod Signs
 pub mod ZeroSign
 pub mod NoSign
 pub mod RootOrder
-pub mod Marked

@@ -4,4 +4,3 @@ pub mod Distance
 pub mod Root
 pub mod RootOf
 pub mod Case
-pub mod RootCases

@@ -6,4 +6,4 @@ pub mod Signs
 pub mod Patterns
 pub mod Total
 pub mod Laws
-pub mod Cases
+pub mod Edges

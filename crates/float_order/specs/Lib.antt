@@ -1,4 +1,3 @@
 pub mod Compare
 pub mod Asked
 pub mod Total
-pub mod Cases

@@ -1,10 +1,9 @@
 -- What the tests of a grid and of a cell say of their numbers. Assumes nothing.
 use mathlib.Core.Path.{_≡_, refl, sym, ap, _∙_}
 use mathlib.Core.Bool.{Bool, true, false, not, _&&_, true≢false}
-use Prim.Native.Nat.{ℕ, _+_, _*_, _/_, _%_, _^_, _≤_, _<_}
-use native.Mathlib.Nat.{div-one, mod-eq-of-lt, mul-le-mul, le-mul-of-pos-right, lt-of-le-of-lt, lt-of-lt-of-le}
-use native.Mathlib.Omega.{arith}
-use lib.Dec.{leb, ltb, lit<}
+use Prim.Native.Nat.{ℕ, _*_, _/_, _%_, _^_, _≤_, _<_}
+use native.Mathlib.Nat.{div-one, mod-eq-of-lt, mul-pos, le-trans, lt-of-lt-of-le}
+use lib.Dec.{leb, ltb, lit≤}
 use lib.Ieee.{Float}
 use borrow.Author.Tests.{leb-true, ltb-true, lt-ltb, not-true, not-false}
 use Rattle.point.specs.declared.Axis.{Axis}
@@ -14,7 +13,9 @@ use Rattle.grid.specs.declared.Cell.{Cell}
 use Rattle.grid.specs.Axes.{countOn, firstOn, sizeOn, cellOn, onEvery}
 use Rattle.grid.specs.Index.{Inside, index, coordinates, cellAt, strideOn, total, isCell}
 use Rattle.grid_axis.specs.AxisBounds.{isCount, isCoordinate, isSize, axisInBounds}
-use Rattle.grid.specs.Bounds.{isAxis, isTotal, inBounds}
+use Rattle.grid_index.specs.ByCounts.{isTotal}
+use Rattle.grid_index.proofs.Fits.{counts-fit}
+use Rattle.grid.specs.Bounds.{isAxis, inBounds}
 use Rattle.grid.proofs.Laws.{index-below, cell-within}
 
 both : (a b : Bool) → (a && b) ≡ true → (a ≡ true) × (b ≡ true)
@@ -95,31 +96,17 @@ number-on g X h = sym (mod-eq-of-lt (cell-within h .x-below))
 number-on g Y h = refl
 number-on g Z {i} h = ap (λ (n : ℕ). n % countOn Z g) (sym (div-one i))
 
--- ---- what is formed on the way stays below 2^32
--- the counts' products
-pub counts-fit : (nx ny nz : ℕ) → nx ≤ 1024 → ny ≤ 1024 → nz ≤ 1024 → (nx * ny < 2 ^ 32) × (nx * ny * nz < 2 ^ 32)
-counts-fit nx ny nz x y z =
-    let xy = mul-le-mul x y in
-    (lt-of-le-of-lt xy (lit< tt), lt-of-le-of-lt (mul-le-mul xy z) (lit< tt))
+-- ---- what `grid_index` asks for
+-- the counts are few
+pub counts-few : (g : Grid) → inBounds g ≡ true → (countOn X g ≤ 1024) × (countOn Y g ≤ 1024) × (countOn Z g ≤ 1024)
+counts-few g h = let b = bounds-of g h in (b .on-x .few, b .on-y .few, b .on-z .few)
 
--- the parts of an index are at most the index
-pub record Parts (ny nz : ℕ) (c : Cell) : Type 0 where
-  pub y-nz : c .y * nz < 2 ^ 32
-  pub z-y : c .z + c .y * nz < 2 ^ 32
-  pub x-ny : c .x * ny < 2 ^ 32
-  pub x-ny-nz : c .x * ny * nz < 2 ^ 32
-  pub whole : c .z + c .y * nz + c .x * ny * nz < 2 ^ 32
+-- the index fits, and there are cells along z
+pub index-fits : (g : Grid) (c : Cell) → inBounds g ≡ true → Inside g c → (index (countOn Y g) (countOn Z g) c < 2 ^ 32) × (0 < countOn Z g)
+index-fits g c h w = let b = bounds-of g h in (lt-of-lt-of-le (index-below w) (le-trans (b .total-few) (lit≤ tt)), b .on-z .some)
 
-pub parts-fit : (g : Grid) (c : Cell) → inBounds g ≡ true → Inside g c → Parts (countOn Y g) (countOn Z g) c
-unfolding index
-parts-fit g c h w =
+-- the cells of a layer across x are counted below 2 ^ 32, and there are some
+pub across-fits : (g : Grid) → inBounds g ≡ true → (countOn Y g * countOn Z g < 2 ^ 32) × (0 < countOn Y g * countOn Z g)
+across-fits g h =
     let b = bounds-of g h in
-    let i = lt-of-lt-of-le (index-below w) (b .total-few) in
-    let n = le-mul-of-pos-right (c .x * countOn Y g) (b .on-z .some) in
-    record {
-      y-nz = omega arith;
-      z-y = omega arith;
-      x-ny = omega arith;
-      x-ny-nz = omega arith;
-      whole = omega arith;
-    }
+    (counts-fit _ _ _ (b .on-y .few) (b .on-z .few) (b .on-x .few) .0, mul-pos (b .on-y .some) (b .on-z .some))

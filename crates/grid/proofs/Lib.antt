@@ -1,4 +1,3 @@
 pub mod Laws
 pub mod Facts
 pub mod Snaps
-pub mod Cases

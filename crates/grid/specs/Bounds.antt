@@ -1,18 +1,14 @@
--- "Bounds on a job" (document 01), the rows that speak of the grid, over those of an axis (`grid_axis`, AxisBounds). "1: grid out of bounds" is the reply where one of them fails.
+-- "Bounds on a job" (document 01), the rows that speak of the grid, over those of an axis (`grid_axis`, AxisBounds) and of the product of the counts
+-- (`grid_index`, ByCounts). "1: grid out of bounds" is the reply where one of them fails.
 -- Definitions only.
 use mathlib.Core.Bool.{Bool, true, _&&_}
 use mathlib.Core.List.{List, [], _∷_}
-use Prim.Native.Nat.{ℕ}
-use lib.Dec.{leb}
 use Rattle.grid_axis.specs.AxisBounds.{axisInBounds}
+use Rattle.grid_index.specs.ByCounts.{isTotal}
 use Rattle.point.specs.declared.Axis.{Axis}
 use Rattle.grid.specs.declared.Grid.{Grid}
 use Rattle.grid.specs.Axes.{countOn, firstOn, sizeOn, onEvery}
 use Rattle.grid.specs.Index.{total}
-
--- "product of counts | 1 to 1,048,576"
-abbrev pub isTotal : ℕ → Bool
-isTotal n = leb 1 n && leb n 1048576
 
 -- what is asked of each axis alike
 abbrev pub isAxis : Grid → Axis → Bool

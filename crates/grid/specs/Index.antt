@@ -1,7 +1,9 @@
--- "Index of (x, y, z): z + y·nz + x·ny·nz; the way back is its inverse." (document 01, "Grid"). Definitions only.
+-- "Index of (x, y, z): z + y·nz + x·ny·nz; the way back is its inverse." (document 01, "Grid"): the formulas of `grid_index`, ByCounts, of a cell
+-- and of a grid. Definitions only.
 use mathlib.Core.Bool.{Bool}
-use Prim.Native.Nat.{ℕ, _+_, _*_, _/_, _%_, _<_}
+use Prim.Native.Nat.{ℕ, _*_, _<_}
 use lib.Dec.{ltb}
+use Rattle.grid_index.specs.ByCounts.{indexBy, xBy, yBy, zBy}
 use Rattle.point.specs.declared.Axis.{Axis}
 use Rattle.point.specs.declared.Axis.the-variants.{X, Y, Z}
 use Rattle.grid.specs.declared.Grid.{Grid}
@@ -10,10 +12,10 @@ use Rattle.grid.specs.Axes.{countOn, cellOn, cellNumbered, onEvery}
 
 -- of a grid with ny cells along y and nz along z
 unfoldable pub index : ℕ → ℕ → Cell → ℕ
-index ny nz c = c .z + c .y * nz + c .x * ny * nz
+index ny nz c = indexBy ny nz (c .x) (c .y) (c .z)
 
 unfoldable pub coordinates : ℕ → ℕ → ℕ → Cell
-coordinates ny nz i = cellNumbered (i / (ny * nz)) (i / nz % ny) (i % nz)
+coordinates ny nz i = cellNumbered (xBy ny nz i) (yBy ny nz i) (zBy nz i)
 
 -- by how much the index grows from a cell to the next along an axis
 abbrev pub stride : Axis → ℕ → ℕ → ℕ

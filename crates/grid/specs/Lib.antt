@@ -3,5 +3,4 @@ pub mod Index
 pub mod Layers
 pub mod Place
 pub mod Bounds
-pub mod Cases
 pub mod Reply

@@ -2,7 +2,8 @@
 // that take the grid by value, and none has a `requires`: each answers 1 for a grid out of bounds, then 4 for a
 // cell or an index outside the counts, then what was asked for (document 01, "Reply numbers"). The Rust panics
 // or runs on there. The port's own code, which has asked for the bounds once, calls the functions of `parts`;
-// what is alike on the three axes is in `grid_axis`. Users find `Grid` and its answers in `sdf`, and no `parts`.
+// what is alike on the three axes is in `grid_axis`, index and product of the counts in `grid_index`. Users find
+// `Grid` and its answers in `sdf`, and no `parts`.
 pub mod parts;
 
 use point::Axis;
@@ -119,8 +120,7 @@ impl Grid {
         if !(x & y & z) {
             return false;
         }
-        let n = self.count_x * self.count_y * self.count_z;
-        (1 <= n) & (n <= 1_048_576)
+        grid_index::total_in_bounds(self.count_x, self.count_y, self.count_z)
     }
 
     pub fn get_first_cell(self) -> PointAnswer
@@ -133,13 +133,21 @@ impl Grid {
         PointAnswer::At(first)
     }
 
+    // The source's comment says the centre of the last cell; what it gives is one cell further.
     pub fn get_last_cell(self) -> PointAnswer
         ensures { λ r. ⌜ Reply.pointReply r ≡ Reply.ofGrid self (Place.lastCell self) ⌝ }
     {
         if !self.in_bounds() {
             return PointAnswer::Refused(1);
         }
-        PointAnswer::At(parts::get_last_cell(self))
+        let first = self.first_cell;
+        let size = self.cell_size;
+        let last = Point {
+            x: grid_axis::end_on(first.x, size.x, self.count_x),
+            y: grid_axis::end_on(first.y, size.y, self.count_y),
+            z: grid_axis::end_on(first.z, size.z, self.count_z),
+        };
+        PointAnswer::At(last)
     }
 
     pub fn get_cell_size(self) -> PointAnswer
@@ -175,13 +183,28 @@ impl Grid {
         NumberAnswer::Number(parts::get_total_cell_count(self))
     }
 
+    // The corners of the box that the cells fill.
     pub fn get_bounding_box(self) -> BoxAnswer
         ensures { λ r. ⌜ Reply.boxReply r ≡ Reply.ofGrid self (Place.gridBox self) ⌝ }
     {
         if !self.in_bounds() {
             return BoxAnswer::Refused(1);
         }
-        BoxAnswer::Is(parts::get_bounding_box(self))
+        let first = self.first_cell;
+        let size = self.cell_size;
+        let filled = BoundingBox {
+            min: Point {
+                x: grid_axis::low_on(first.x, size.x),
+                y: grid_axis::low_on(first.y, size.y),
+                z: grid_axis::low_on(first.z, size.z),
+            },
+            max: Point {
+                x: grid_axis::high_on(first.x, size.x, self.count_x),
+                y: grid_axis::high_on(first.y, size.y, self.count_y),
+                z: grid_axis::high_on(first.z, size.z, self.count_z),
+            },
+        };
+        BoxAnswer::Is(filled)
     }
 
     pub fn get_cell_idx(self, cell: Cell) -> NumberAnswer
@@ -202,7 +225,7 @@ impl Grid {
         if !self.in_bounds() {
             return CellAnswer::Refused(1);
         }
-        if !parts::is_index(self, cell_idx) {
+        if !grid_index::is_index(cell_idx, self.count_x, self.count_y, self.count_z) {
             return CellAnswer::Refused(4);
         }
         CellAnswer::At(parts::get_cell_integer_coordinates(self, cell_idx))
@@ -234,7 +257,20 @@ impl Grid {
     pub fn from_bounding_box(bbox_min: Point, bbox_max: Point, cell_count: Counts) -> GridAnswer
         ensures { λ r. ⌜ Reply.gridReply r ≡ Reply.made (Place.fromBox «bbox_min» «bbox_max» «cell_count») ⌝ }
     {
-        let grid = parts::from_bounding_box(bbox_min, bbox_max, cell_count);
+        let x = grid_axis::size_between(bbox_min.x, bbox_max.x, cell_count.x);
+        let y = grid_axis::size_between(bbox_min.y, bbox_max.y, cell_count.y);
+        let z = grid_axis::size_between(bbox_min.z, bbox_max.z, cell_count.z);
+        let grid = Grid {
+            first_cell: Point {
+                x: grid_axis::first_from(bbox_min.x, x),
+                y: grid_axis::first_from(bbox_min.y, y),
+                z: grid_axis::first_from(bbox_min.z, z),
+            },
+            cell_size: Point { x: x, y: y, z: z },
+            count_x: cell_count.x,
+            count_y: cell_count.y,
+            count_z: cell_count.z,
+        };
         if !grid.in_bounds() {
             return GridAnswer::Refused(1);
         }

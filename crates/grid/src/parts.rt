@@ -1,9 +1,7 @@
 // What the grid's questions answer with, for a caller who has asked for the bounds before: these functions refuse
 // nothing, and some ask their caller for the bounds. The port's own code calls them, with a grid that
 // the job was not refused for; `sdf` does not show them.
-use crate::BoundingBox;
 use crate::Cell;
-use crate::Counts;
 use crate::Grid;
 use crate::Snap;
 use crate::SnapResult;
@@ -13,7 +11,7 @@ ghost use mathlib.Core.Path.{_≡_};
 ghost use mathlib.Core.Bool.{true};
 ghost use Prim.Native.Nat.{_^_, _<_};
 ghost use Rattle.grid.specs.Axes as Axes;
-ghost use Rattle.grid.specs.Index.{Inside, indexOf, cellAt, total, isCell, isIndex};
+ghost use Rattle.grid.specs.Index.{Inside, indexOf, cellAt, total, isCell};
 ghost use Rattle.grid.specs.Layers as Layers;
 ghost use Rattle.grid.specs.Place as Place;
 ghost use Rattle.grid.specs.Bounds.{inBounds};
@@ -40,21 +38,14 @@ pub fn get_total_cell_count(grid: Grid) -> u32
     requires { ⌜ inBounds grid ≡ true ⌝ }
     ensures { λ r. ⌜ r ≡ total grid ⌝ }
 {
-    grid.count_x * grid.count_y * grid.count_z
+    grid_index::total(grid.count_x, grid.count_y, grid.count_z)
 }
 
-// Whether a cell lies within the counts, and an index below the number of cells.
+// Whether a cell lies within the counts.
 pub fn is_cell(grid: Grid, cell: Cell) -> bool
     ensures { λ r. ⌜ r ≡ isCell grid cell ⌝ }
 {
     (cell.x < grid.count_x) & (cell.y < grid.count_y) & (cell.z < grid.count_z)
-}
-
-pub fn is_index(grid: Grid, cell_idx: u32) -> bool
-    requires { ⌜ inBounds grid ≡ true ⌝ }
-    ensures { λ r. ⌜ r ≡ isIndex grid «cell_idx» ⌝ }
-{
-    cell_idx < get_total_cell_count(grid)
 }
 
 // The index of a cell: z fastest, then y, then x.
@@ -62,7 +53,7 @@ pub fn get_cell_idx(grid: Grid, cell: Cell) -> u32
     requires { ⌜ (inBounds grid ≡ true) × Inside grid cell ⌝ }
     ensures { λ r. ⌜ r ≡ indexOf grid cell ⌝ }
 {
-    cell.z + cell.y * grid.count_z + cell.x * grid.count_y * grid.count_z
+    grid_index::index(cell.x, cell.y, cell.z, grid.count_y, grid.count_z)
 }
 
 // The cell of an index.
@@ -71,9 +62,9 @@ pub fn get_cell_integer_coordinates(grid: Grid, cell_idx: u32) -> Cell
     ensures { λ r. ⌜ r ≡ cellAt grid «cell_idx» ⌝ }
 {
     Cell {
-        x: cell_idx / (grid.count_y * grid.count_z),
-        y: (cell_idx / grid.count_z) % grid.count_y,
-        z: cell_idx % grid.count_z,
+        x: grid_index::x_of(cell_idx, grid.count_y, grid.count_z),
+        y: grid_index::y_of(cell_idx, grid.count_y, grid.count_z),
+        z: grid_index::z_of(cell_idx, grid.count_z),
     }
 }
 
@@ -88,39 +79,6 @@ pub fn get_cell_center(grid: Grid, cell: Cell) -> Point
         x: grid_axis::centre_on(first.x, size.x, cell.x),
         y: grid_axis::centre_on(first.y, size.y, cell.y),
         z: grid_axis::centre_on(first.z, size.z, cell.z),
-    }
-}
-
-// The corners of the box that the cells fill.
-pub fn get_bounding_box(grid: Grid) -> BoundingBox
-    ensures { λ r. ⌜ r ≡ Place.gridBox grid ⌝ }
-{
-    let first = grid.first_cell;
-    let size = grid.cell_size;
-    BoundingBox {
-        min: Point {
-            x: grid_axis::low_on(first.x, size.x),
-            y: grid_axis::low_on(first.y, size.y),
-            z: grid_axis::low_on(first.z, size.z),
-        },
-        max: Point {
-            x: grid_axis::high_on(first.x, size.x, grid.count_x),
-            y: grid_axis::high_on(first.y, size.y, grid.count_y),
-            z: grid_axis::high_on(first.z, size.z, grid.count_z),
-        },
-    }
-}
-
-// The source's comment says the centre of the last cell; what it gives is one cell further.
-pub fn get_last_cell(grid: Grid) -> Point
-    ensures { λ r. ⌜ r ≡ Place.lastCell grid ⌝ }
-{
-    let first = grid.first_cell;
-    let size = grid.cell_size;
-    Point {
-        x: grid_axis::end_on(first.x, size.x, grid.count_x),
-        y: grid_axis::end_on(first.y, size.y, grid.count_y),
-        z: grid_axis::end_on(first.z, size.z, grid.count_z),
     }
 }
 
@@ -147,25 +105,5 @@ pub fn snap_point_to_grid(grid: Grid, point: Point) -> Snap
     Snap {
         result: SnapResult::Inside,
         cell: cell,
-    }
-}
-
-// The grid of so many cells that fills a box.
-pub fn from_bounding_box(bbox_min: Point, bbox_max: Point, cell_count: Counts) -> Grid
-    ensures { λ r. ⌜ r ≡ Place.fromBox «bbox_min» «bbox_max» «cell_count» ⌝ }
-{
-    let x = grid_axis::size_between(bbox_min.x, bbox_max.x, cell_count.x);
-    let y = grid_axis::size_between(bbox_min.y, bbox_max.y, cell_count.y);
-    let z = grid_axis::size_between(bbox_min.z, bbox_max.z, cell_count.z);
-    Grid {
-        first_cell: Point {
-            x: bbox_min.x + x * 0.5,
-            y: bbox_min.y + y * 0.5,
-            z: bbox_min.z + z * 0.5,
-        },
-        cell_size: Point { x: x, y: y, z: z },
-        count_x: cell_count.x,
-        count_y: cell_count.y,
-        count_z: cell_count.z,
     }
 }

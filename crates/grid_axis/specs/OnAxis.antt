@@ -28,5 +28,8 @@ quotientOn first size p = (p ⊖ lowOn first size) ⊘ size
 abbrev pub boxSize : Float → Float → ℕ → Float
 boxSize low high count = (high ⊖ low) ⊘ real count
 
+abbrev pub firstFrom : Float → Float → Float
+firstFrom low size = low ⊕ size ⊗ f½
+
 abbrev pub boxFirst : Float → Float → ℕ → Float
-boxFirst low high count = low ⊕ boxSize low high count ⊗ f½
+boxFirst low high count = firstFrom low (boxSize low high count)

@@ -50,6 +50,13 @@ pub fn size_between(low: f32, high: f32, count: u32) -> f32
     (high - low) / std::num::nearest_u32_to_f32(count)
 }
 
+// The centre of the first cell of an axis whose cells begin at `low`.
+pub fn first_from(low: f32, size: f32) -> f32
+    ensures { λ r. ⌜ r ≡ Spec.firstFrom low size ⌝ }
+{
+    low + size * 0.5
+}
+
 // Whether what a grid has along one axis is within the bounds.
 pub fn axis_in_bounds(count: u32, first: f32, size: f32) -> bool
     ensures { λ r. ⌜ r ≡ axisInBounds count first size ⌝ }

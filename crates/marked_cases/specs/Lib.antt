@@ -1,1 +1,5 @@
+pub mod RootCases
+pub mod SnapCases
+pub mod GeoCases
+pub mod CompareCases
 pub mod Marked

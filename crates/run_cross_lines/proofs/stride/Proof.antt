@@ -1,6 +1,7 @@
 -- `run_cross_lines::stride`: each arm by the axis that led there; the product of two counts fits. Assumes nothing.
 use borrow.Author.Needs.{needs}
-use Rattle.grid.proofs.Facts.{bounds-of, counts-fit}
+use Rattle.grid_index.proofs.Fits.{counts-fit}
+use Rattle.grid.proofs.Facts.{bounds-of}
 use Rattle.run_cross_lines.proofs.stride.Statement.{statement}
 use Rattle.run_cross_lines.proofs.stride.Tie as tie
 

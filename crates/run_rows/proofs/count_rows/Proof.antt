@@ -6,7 +6,8 @@ use native.Mathlib.Omega.{arith}
 use mathlib.Core.Path.{_≡_, sym, ap, _∙_}
 use lib.ListN.{replicate}
 use Rattle.grid.specs.Index.{total}
-use Rattle.grid.proofs.Facts.{bounds-of, counts-fit}
+use Rattle.grid_index.proofs.Fits.{counts-fit}
+use Rattle.grid.proofs.Facts.{bounds-of}
 use Rattle.run_rows.proofs.Columns.{Rowed, rowed-none, rowed-more, rowed-room, rowed-all}
 use Rattle.run_rows.proofs.count_rows.Statement.{statement}
 use Rattle.run_rows.proofs.count_rows.Tie as tie

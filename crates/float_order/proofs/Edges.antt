@@ -1,19 +1,13 @@
--- Document 01's marked cases on the comparison, and the edges of the two margins on either side, computed. Assumes nothing.
+-- The edges of the two margins of the comparison, on either side, computed. Assumes nothing.
 use mathlib.Core.Path.{_≡_, refl}
-use mathlib.Core.Bool.{true, false}
+use mathlib.Core.Bool.{false}
 use mathlib.Core.List.{[], _∷_}
 use Prim.Native.Nat.{ℕ}
 use lib.Ieee.{binary32, eq, le, lt, sub, ofBits, toBits, round}
-use Rattle.float.specs.Case.{allHold}
 use Rattle.float.specs.Steps.{absOf}
 use Rattle.float_order.specs.declared.Order.{Order}
 use Rattle.float_order.specs.declared.Order.the-variants.{Less, Greater}
 use Rattle.float_order.specs.Compare.{alikeMargin, alike, order}
-use Rattle.float_order.specs.Cases.{compareCases}
-
-pub compare-cases : allHold compareCases ≡ true
-unfolding compareCases
-compare-cases = refl
 
 -- the margin is the binary32 nearest to 1 / 1,000,000
 pub margin-nearest : alikeMargin ≡ round binary32 false 1 1000000

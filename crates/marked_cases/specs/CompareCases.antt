@@ -5,16 +5,16 @@ use lib.Ieee.{Float, binary32, eq, le, lt, sub, ofBits, toBits}
 use Rattle.float.specs.Arith.{f1}
 use Rattle.float.specs.Case.{Case, _gives_}
 use Rattle.float.specs.Steps.{absOf}
 use Rattle.float_order.specs.Compare.{alike, order}
 use Rattle.float_order.specs.declared.Order.{Order}
 use Rattle.float_order.specs.declared.Order.the-variants.{Less, Equal, Greater}
 
 -- -1.0
-abbrev pub minusOne : Float
+abbrev minusOne : Float
 minusOne = ofBits binary32 0xbf80_0000
 
 -- less, equal and greater as numbers
-abbrev pub orderNumber : Order → ℕ
+abbrev orderNumber : Order → ℕ
 orderNumber Less = 0
 orderNumber Equal = 1
 orderNumber Greater = 2

@@ -1,7 +1,0 @@
--- `parts::is_index`: the test is on the number of cells. Assumes nothing.
-use borrow.Author.Needs.{needs}
-use Rattle.grid.proofs.parts.is_index.Statement.{statement}
-use Rattle.grid.proofs.parts.is_index.Tie as tie
-
-pub is-index-spec : {M : Type 1} → statement M
-is-index-spec = tie.close (tie.spec (λ c κs. search needs) (λ c. rw (c .get-total-cell-count .ensures)))
