@@ -19,7 +19,8 @@ use Rattle.run.specs.Run.{takeFirst, spreading}
 use Rattle.run.specs.Input.{runInput}
 use Rattle.run_state.specs.declared.Progress.{Progress}
 use Rattle.run_state.specs.Told.{refusedBy, orderIn, Known}
-use Rattle.run_spread.proofs.Pops.{first-known, rest-holds, popped, Spreads, spread-spent, spread-stops, spread-on, counted}
+use Rattle.run_pop.proofs.Pops.{first-known, rest-holds, popped}
+use Rattle.run_spread.proofs.Spreads.{Spreads, spread-spent, spread-stops, spread-on, counted}
 use Rattle.entries.specs.Row.{rowDistances, rowCells, rowTriangles, HeldRow, TakenRow}
 use Rattle.entries_batch.specs.declared.Batch.{Batch}
 use Rattle.entries_gather.specs.Gathered.{PopOffered}

@@ -1,4 +1,2 @@
-mod Equal
-mod Loop
 -- what crates above cite
 pub mod Laws

@@ -25,7 +25,8 @@ use Rattle.grid.proofs.Laws.{index-below, cell-of-index, cell-within}
 use Rattle.grid.proofs.Facts.{each, bounds-of}
 use Rattle.geo_closest.specs.declared.Facet.{Facet}
 use Rattle.geo_closest.specs.Closest.{facetOf}
-use Rattle.geo_distance.specs.Distance.{squaredOn, distanceOn, Squares}
+use Rattle.geo_distance.specs.Distance.{squaredOn, distanceOn}
+use Rattle.geo_squares.specs.Squares.{Squares}
 use Rattle.geo_distance.proofs.Laws.{nan-alike}
 use Rattle.mesh.specs.Mesh.{Mesh, trianglesIn, cornersAt}
 use Rattle.queue.specs.declared.Entry.{Entry}

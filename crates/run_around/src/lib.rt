@@ -166,5 +166,5 @@ pub fn look_around(
     let mut zs = [0.0f32; 27];
     let cell = grid::parts::get_cell_integer_coordinates(grid, e.cell);
     gather(grid, cell, steps, to, &mut xs, &mut ys, &mut zs);
-    geo_distance::squares_on(facet, &xs, &ys, &zs, squares);
+    geo_squares::squares_on(facet, &xs, &ys, &zs, squares);
 }

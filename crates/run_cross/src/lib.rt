@@ -1,8 +1,8 @@
 // The crossing counts: for each cell and axis the number of triangles whose hit reaches the cell (document 01, "The
 // run", 4). The triangle is outside and the lines are inside, so that what depends on the triangle alone, or on the
 // triangle and one of a line's two numbers, is worked out once. A part of the port: users call `sdf`. `run_cross_lines` says
-// which cells a line along an axis has, `run_cross_marks` which lines of a row may be hit, and `run_cross_hits` counts them.
-use geo_ray::Cast;
+// which cells a line along an axis has, `run_cross_marks` which lines of a row may be hit, `run_cross_hits` counts them, and
+// `run_cross_rows` takes the rows one after the other.
 use grid::Grid;
 use mesh::Corners;
 use mesh_topology::Indices;
@@ -17,39 +17,7 @@ ghost use Rattle.grid.specs.Bounds.{inBounds};
 ghost use Rattle.mesh.specs.Mesh.{meshOf, trianglesIn, Sound};
 ghost use Rattle.run.specs.Signs.{allCrossings};
 ghost use Rattle.slices.specs.Counts.{Room};
-ghost use Rattle.run_cross_lines.specs.Pass.{Grown, axisCrossed, hitOn, crossedBy, castHit};
-
-// The rows of lines along the axis, against a triangle that is made ready for them.
-fn cross_rows(
-    grid: Grid,
-    axis: Axis,
-    cast: Cast,
-    z0: &[f32],
-    z1: &[f32],
-    z2: &[f32],
-    flags: &mut [bool],
-    crossings: &mut [u32],
-)
-    requires { ⌜ inBounds grid ≡ true ⌝ }
-    requires { ⌜ (1024 ≤ length (now z0)) × (1024 ≤ length (now z1)) × (1024 ≤ length (now z2)) ×
-        (1024 ≤ length (now flags)) ⌝ }
-    requires { ⌜ length (now crossings) ≡ 3 * total grid ⌝ }
-    requires { ⌜ Room 3 (now crossings) ⌝ }
-    ensures { λ _.
-        ⌜ Grown grid
-        (axisCrossed grid axis (castHit grid axis cast (now (z0 .entry)) (now (z1 .entry)) (now (z2 .entry))))
-        (now (crossings .entry)) (now (crossings .exit)) ⌝ }
-{
-    let xs = geo_ray::along_x(cast, run_cross_lines::centre(grid, axis, 0));
-    let across = run_cross_lines::next(axis);
-    let count = grid::parts::count_on(grid, across);
-    let mut u: u32 = 0;
-    while u < count {
-        let ys = geo_ray::across_y(cast, run_cross_lines::centre(grid, across, u));
-        run_cross_hits::cross_row(grid, axis, u, z0, z1, z2, ys, xs, flags, crossings);
-        u += 1;
-    }
-}
+ghost use Rattle.run_cross_lines.specs.Pass.{Grown, axisCrossed, hitOn, crossedBy};
 
 // The lines along the axis, against a triangle.
 fn cross_along(
@@ -71,7 +39,7 @@ fn cross_along(
 {
     let cast = geo_ray::cast_of(axis, t.a, t.b, t.c);
     run_cross_marks::fill_across(grid, run_cross_lines::second(axis), cast, z0, z1, z2);
-    cross_rows(grid, axis, cast, z0, z1, z2, flags, crossings);
+    run_cross_rows::cross_rows(grid, axis, cast, z0, z1, z2, flags, crossings);
 }
 
 // The lines along all three axes.

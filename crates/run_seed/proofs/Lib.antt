@@ -1,4 +1,2 @@
-mod Pieces
-mod Along
 -- Laws that the crates above cite.
 pub mod Whole

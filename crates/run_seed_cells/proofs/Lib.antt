@@ -1,2 +1,2 @@
-mod Fours
-mod Offers
+-- what crates above cite
+pub mod Offers

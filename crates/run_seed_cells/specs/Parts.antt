@@ -1,10 +1,8 @@
 -- The loops of seeding one inside the other, for a triangle made ready as a facet: along z, along y, along x. `seeding` has a law that
--- they add up to `seedTriangle` of the run. And the squared distances that are worked out four at a time. Definitions only.
-use Prim.Native.Nat.{ℕ, _+_, _<_}
-use mathlib.Core.Path.{_≡_}
+-- they add up to `seedTriangle` of the run. Definitions only.
+use Prim.Native.Nat.{ℕ}
 use mathlib.Core.List.{List, []}
-use lib.ListN.{getD}
-use lib.Ieee.{Float, nan}
+use lib.Ieee.{Float}
 use Rattle.lists.specs.Turns.{Turn, through}
 use Rattle.grid.specs.declared.Grid.{Grid}
 use Rattle.grid.specs.declared.Cell.{Cell}
@@ -13,7 +11,7 @@ use Rattle.grid.specs.Index.{indexOf, cellAt}
 use Rattle.grid.specs.Place.{centreOf}
 use Rattle.geo_closest.specs.declared.Facet.{Facet}
 use Rattle.geo_closest.specs.Closest.{facetOf}
-use Rattle.geo_distance.specs.Distance.{squaredOn, distanceOn}
+use Rattle.geo_distance.specs.Distance.{distanceOn}
 use Rattle.mesh.specs.declared.Corners.{Corners}
 use Rattle.mesh.specs.Mesh.{Mesh, cornersAt}
 use Rattle.run.specs.Run.{State, Box, offerAt, nothingElse}
@@ -44,7 +42,3 @@ overBox g t k s = alongBox g (facetOf (t .a) (t .b) (t .c)) k (snappedBox g t .l
 
 unfoldable pub overTriangle : Grid → Mesh → ℕ → State → Turn State
 overTriangle g m k s = overBox g (cornersAt m k) k s
-
--- the squared distances of four cells, the one given and the three behind it along z
-pub record SquaresFrom (g : Grid) (f : Facet) (at : Cell) (squares : List Float) : Type 0 where
-  pub each : (i : ℕ) → i < 4 → getD squares i nan ≡ squaredOn f (centreOf g (cellNumbered (at .x) (at .y) (at .z + i)))

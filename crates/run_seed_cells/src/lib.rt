@@ -1,24 +1,17 @@
-// Seeding's offers: a triangle is offered to cells, four of a line at a time, and a cell takes it if it is nearer
-// (document 01, "The run", 1). A part of the port: users call `sdf`.
-use geo_closest::Facet;
-use grid::Cell;
-use grid::Grid;
+// Seeding's offers: a triangle is offered to a cell, which takes it if it is nearer (document 01, "The run", 1). And
+// the loops of seeding, as definitions. A part of the port: users call `sdf`.
 ghost use mathlib.Core.Path.{_≡_};
-ghost use mathlib.Core.Bool.{true};
-ghost use Prim.Native.Nat.{_+_, _≤_, _<_};
+ghost use Prim.Native.Nat.{_<_};
 ghost use lib.ListN.{length};
 ghost use lib.Ieee.{isNan};
 ghost use Rattle.float.specs.RootOf.{rootOf};
 ghost use Rattle.lists.specs.Turns.{told};
-ghost use Rattle.grid.specs.Axes.{cellNumbered};
-ghost use Rattle.grid.specs.Index.{Inside, total};
-ghost use Rattle.grid.specs.Bounds.{inBounds};
 ghost use Rattle.run.specs.Run.{offerAt, nothingElse};
-ghost use Rattle.run_seed_cells.specs.Parts.{seedState, alongLine, SquaresFrom};
+ghost use Rattle.run_seed_cells.specs.Parts.{seedState};
 
 // Offers triangle k, whose squared distance is q, to cell c, which takes it if it is nearer than what it
 // holds. Tells 6 where the distance is a NaN, which it is where q is.
-fn offer(field: &mut [f32], names: &mut [u32], c: usize, k: u32, q: f32) -> u32
+pub fn offer(field: &mut [f32], names: &mut [u32], c: usize, k: u32, q: f32) -> u32
     requires { ⌜ (c < length (now field)) × (c < length (now names)) ⌝ }
     requires { ⌜ isNan (rootOf q) ≡ isNan q ⌝ }
     ensures { λ r.
@@ -39,60 +32,6 @@ fn offer(field: &mut [f32], names: &mut [u32], c: usize, k: u32, q: f32) -> u32
         field[c] = d;
         names[c] = k;
         return 0;
-    }
-    0
-}
-
-// The squared distances of f from the centres of four cells: `at` and the three behind it along z, which need not
-// be on the grid. Four are worked out with no branch in little more time than one.
-fn squares_from(grid: Grid, f: Facet, at: Cell) -> [f32; 4]
-    requires { ⌜ (inBounds grid ≡ true) × Inside grid at ⌝ }
-    ensures { λ r. ⌜ SquaresFrom grid f at r ⌝ }
-{
-    let p = grid::parts::get_cell_center(grid, at);
-    let first = grid.first_cell.z;
-    let size = grid.cell_size.z;
-    let xs = [p.x; 4];
-    let ys = [p.y; 4];
-    let zs = [
-        p.z,
-        grid_axis::centre_on(first, size, at.z + 1),
-        grid_axis::centre_on(first, size, at.z + 2),
-        grid_axis::centre_on(first, size, at.z + 3),
-    ];
-    let mut squares = [0.0f32; 4];
-    geo_distance::squares_on(f, &xs, &ys, &zs, &mut squares);
-    squares
-}
-
-// Offers triangle k, made ready as f, to `at` and the cells behind it along z as far as `last`, four at most.
-pub fn offer_four(
-    field: &mut [f32],
-    names: &mut [u32],
-    grid: Grid,
-    f: Facet,
-    k: u32,
-    at: Cell,
-    last: u32,
-) -> u32
-    requires { ⌜ (inBounds grid ≡ true) × Inside grid (cellNumbered (at .x) (at .y) last) × (at .z ≤ last) ×
-        (last < at .z + 4) ⌝ }
-    requires { ⌜ (length (now field) ≡ total grid) × (length (now names) ≡ total grid) ⌝ }
-    ensures { λ r.
-        let s = seedState (now (field .entry)) (now (names .entry)) in
-        let t = seedState (now (field .exit)) (now (names .exit)) in
-        ⌜ alongLine grid f k (at .x) (at .y) (at .z) last s ≡ told r t ⌝ }
-{
-    let squares = squares_from(grid, f, at);
-    let c = grid::parts::get_cell_idx(grid, at) as usize;
-    let n = (last - at.z) as usize;
-    let mut i = 0;
-    while i <= n {
-        let r = offer(field, names, c + i, k, squares[i]);
-        if r != 0 {
-            return r;
-        }
-        i += 1;
     }
     0
 }

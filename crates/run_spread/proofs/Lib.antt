@@ -1,2 +1,2 @@
--- The laws that the proofs of the functions cite.
-pub mod Pops
+-- Laws that the crates above cite too.
+pub mod Spreads

@@ -1,95 +1,14 @@
-// Spreading: the first of the waiting entries is taken, and its triangle is offered to the cells around its
-// cell, until none waits (document 01, "The run", 3). Older entries of a cell are not removed and still
-// spread: what its cell holds by now is not asked when an entry is taken. A part of the port: users call `sdf`.
+// Spreading: the waiting entries are taken one after the other, until none waits (document 01, "The run", 3). A part of the
+// port: users call `sdf`.
 use grid::Grid;
 use mesh_topology::Indices;
 use mesh_topology::Topology;
 use run_state::Progress;
 use terms::Terms;
 ghost use mathlib.Core.Path.{_≡_};
-ghost use Prim.Native.Nat.{_<_};
-ghost use lib.ListN.{length};
-ghost use Rattle.lists.specs.Turns.{goes};
 ghost use Rattle.mesh.specs.Mesh.{meshOf};
-ghost use Rattle.run.specs.Run.{takeFirst, spreading};
-ghost use Rattle.run.specs.Steps as Steps;
-ghost use Rattle.run_around.specs.Around.{codes};
+ghost use Rattle.run.specs.Run.{spreading};
 ghost use Rattle.run_state.specs.Told.{Ready, Holds, Told};
-
-// Takes the first of the waiting entries, and spreads it.
-fn pop(
-    grid: Grid,
-    vertices: &[f32],
-    topology: Topology,
-    given: Indices,
-    indices: &[u32],
-    steps: &[u16],
-    field: &mut [f32],
-    names: &mut [u32],
-    distances: &mut [u32],
-    cells: &mut [u32],
-    triangles: &mut [u32],
-    at: Progress,
-) -> Progress
-    requires { ⌜ Ready grid (meshOf (now vertices) topology given (now indices)) ⌝ }
-    requires { let m = meshOf (now vertices) topology given (now indices) in
-        ⌜ Holds grid m (now field) (now names) (now distances) (now cells) (now triangles) (at .waiting) ⌝ }
-    requires { ⌜ (now steps ≡ codes Steps.steps) × (0 < at .waiting) × (at .pops < 4294967295) ⌝ }
-    ensures { λ r.
-        let m = meshOf (now (vertices .entry)) topology given (now (indices .entry)) in
-        ⌜ Told grid m (λ g s. takeFirst g goes (s .waiting) s) (now (field .entry)) (now (names .entry))
-        (now (distances .entry)) (now (cells .entry)) (now (triangles .entry)) at (now (field .exit))
-        (now (names .exit)) (now (distances .exit)) (now (cells .exit)) (now (triangles .exit)) r ⌝ }
-{
-    let n = at.waiting;
-    let e = queue_take::take(
-        distances,
-        cells,
-        triangles,
-        n,
-        topology,
-        given,
-        indices,
-        vertices.len() / 3,
-    );
-    let mut to = [0u32; 27];
-    let mut squares = [0.0f32; 27];
-    run_around::look_around(
-        grid,
-        vertices,
-        topology,
-        given,
-        indices,
-        steps,
-        e,
-        &mut to,
-        &mut squares,
-    );
-    let left = n - 1;
-    let pops = at.pops + 1;
-    let taken = Progress {
-        number: 0,
-        waiting: left,
-        pops: pops,
-        peak: at.peak,
-    };
-    run_offer::offer_around(
-        grid,
-        vertices,
-        topology,
-        given,
-        indices,
-        field,
-        names,
-        distances,
-        cells,
-        triangles,
-        taken,
-        e,
-        &to,
-        &squares,
-    )
-}
 
 // Step 3 of the run: spreads what waits, until nothing does, with at most as many pops as the limit.
 pub fn spread(
@@ -122,7 +41,7 @@ pub fn spread(
         if run.pops == terms.limit {
             return run.refused(8);
         }
-        run = pop(
+        run = run_pop::pop(
             grid,
             vertices,
             topology,

@@ -8,7 +8,7 @@ use Rattle.mesh.specs.Mesh.{Mesh, meshOf}
 use Rattle.run.specs.Run.{spreading}
 use Rattle.run_state.specs.Told.{Ready, orderIn}
 use Rattle.entries_gather.specs.Gathered.{PopOffered}
-use Rattle.run_spread.proofs.Pops.{spread-begins, spread-ends}
+use Rattle.run_spread.proofs.Spreads.{spread-begins, spread-ends}
 use Rattle.entries.specs.Row.{TakenRow}
 use Rattle.entries.proofs.ByValue.{a-topology, a-given, an-entry}
 use Rattle.entries_state.specs.Records.{poppedBy, HoldsRow, ToldRow, QueuedAll}

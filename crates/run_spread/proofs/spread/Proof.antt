@@ -7,7 +7,7 @@ use Rattle.mesh.specs.Mesh.{meshOf}
 use Rattle.run.specs.Steps as Steps
 use Rattle.run_around.specs.Around.{codes}
 use Rattle.run_state.proofs.Loops.{Alike, alike}
-use Rattle.run_spread.proofs.Pops.{Spreads, spread-begins, spread-ends, spread-spent, spread-on, spread-stops, counted}
+use Rattle.run_spread.proofs.Spreads.{Spreads, spread-begins, spread-ends, spread-spent, spread-on, spread-stops, counted}
 use Rattle.run_spread.proofs.spread.Statement.{statement}
 use Rattle.run_spread.proofs.spread.Tie as tie
 

@@ -1,0 +1,44 @@
+// The crossings of the lines along an axis with one triangle, row by row. A part of the port: users call `sdf`.
+use geo_ray::Cast;
+use grid::Grid;
+use point::Axis;
+ghost use mathlib.Core.Path.{_≡_};
+ghost use mathlib.Core.Bool.{true};
+ghost use Prim.Native.Nat.{_*_, _≤_};
+ghost use lib.ListN.{length};
+ghost use Rattle.grid.specs.Index.{total};
+ghost use Rattle.grid.specs.Bounds.{inBounds};
+ghost use Rattle.slices.specs.Counts.{Room};
+ghost use Rattle.run_cross_lines.specs.Pass.{Grown, axisCrossed, castHit};
+
+// The rows of lines along the axis, against a triangle that is made ready for them.
+pub fn cross_rows(
+    grid: Grid,
+    axis: Axis,
+    cast: Cast,
+    z0: &[f32],
+    z1: &[f32],
+    z2: &[f32],
+    flags: &mut [bool],
+    crossings: &mut [u32],
+)
+    requires { ⌜ inBounds grid ≡ true ⌝ }
+    requires { ⌜ (1024 ≤ length (now z0)) × (1024 ≤ length (now z1)) × (1024 ≤ length (now z2)) ×
+        (1024 ≤ length (now flags)) ⌝ }
+    requires { ⌜ length (now crossings) ≡ 3 * total grid ⌝ }
+    requires { ⌜ Room 3 (now crossings) ⌝ }
+    ensures { λ _.
+        ⌜ Grown grid
+        (axisCrossed grid axis (castHit grid axis cast (now (z0 .entry)) (now (z1 .entry)) (now (z2 .entry))))
+        (now (crossings .entry)) (now (crossings .exit)) ⌝ }
+{
+    let xs = geo_ray::along_x(cast, run_cross_lines::centre(grid, axis, 0));
+    let across = run_cross_lines::next(axis);
+    let count = grid::parts::count_on(grid, across);
+    let mut u: u32 = 0;
+    while u < count {
+        let ys = geo_ray::across_y(cast, run_cross_lines::centre(grid, across, u));
+        run_cross_hits::cross_row(grid, axis, u, z0, z1, z2, ys, xs, flags, crossings);
+        u += 1;
+    }
+}

@@ -1,0 +1,3 @@
+mod Pieces
+-- the loops along the other axes rest on it too
+pub mod Along
