@@ -27,7 +27,7 @@ pub fn consider(field: &mut [f32], names: &mut [u32], k: u32, to: u32, q: f32) -
     }
     let i = to as usize;
     let held = field[i];
-    if float_root::root_not_below(q, held) {
+    if float_shortcut::root_not_below(q, held) {
         return v;
     }
     let d = float_root::sqrt(q);

@@ -1,12 +1,9 @@
-// The square root, rounded to the nearest binary32: the digits are a whole number, so the root of a
-// whole number is guessed by a table and then corrected by comparing squares. A part of the public face `sdf`.
-mod shortcut;
-
+// The square root, rounded to the nearest binary32: the digits are a whole number, so the root of a whole number is
+// guessed by a table and then corrected by comparing squares (`float_root_whole`). A part of the public face `sdf`.
 use float_root_table::entry;
-pub use shortcut::root_not_below;
 ghost use mathlib.Core.Path.{_≡_};
 ghost use Prim.Native.Nat.{_+_, _-_, _*_, _/_, _%_, _^_, _≤_, _<_};
-ghost use Rattle.float.specs.RootOf.{NearestTo, NormalForm, rootBits, IsRoot};
+ghost use Rattle.float.specs.RootOf.{NormalForm, rootBits, IsRoot};
 
 // The pattern of a number above zero with an exponent's field that has no lower end, offset by 24,
 // and so with a leading one above its 23 digits: a subnormal's digits are shifted up by its count
@@ -48,51 +45,13 @@ fn guess(w: u32) -> u64
     ((row >> 35) + rise) >> 5
 }
 
-// From g down to a number that is not too large to be nearest to the root of n.
-fn lowered(n: u64, g: u64) -> u64
-    requires { ⌜ (0 < n) × (n < 2 ^ 48) × (g < 2 ^ 25) ⌝ }
-    ensures { λ q. ⌜ (q < 2 ^ 25) × (q * q < n + q) ⌝ }
-{
-    let mut q = g;
-    while n + q <= q * q {
-        q -= 1;
-    }
-    q
-}
-
-// From such a number up to the nearest.
-fn raised(n: u64, g: u64) -> u64
-    requires { ⌜ (n < 2 ^ 48) × (g < 2 ^ 25) × (g * g < n + g) ⌝ }
-    ensures { λ q. ⌜ NearestTo n q ⌝ }
-{
-    let mut q = g;
-    while q * q + q < n {
-        q += 1;
-    }
-    q
-}
-
-// The whole number nearest to the root of n, which g nearly always is.
-fn nearest_root(n: u64, g: u64) -> u64
-    requires { ⌜ (0 < n) × (n < 2 ^ 48) × (g < 2 ^ 25) ⌝ }
-    ensures { λ q. ⌜ NearestTo n q ⌝ }
-{
-    let square = g * g;
-    if square < n + g {
-        if n <= square + g {
-            return g;
-        }
-    }
-    raised(n, lowered(n, g))
-}
-
 // The pattern of the root of the number above zero whose pattern is b.
 fn root_bits(b: u32) -> u32
     requires { ⌜ (0 < b) × (b < 0x7f80_0000) ⌝ }
     ensures { λ r. ⌜ (r < 0x7f80_0000) × (r ≡ rootBits b) ⌝ }
 {
     let w = normalised(b);
-    let q = nearest_root(lifted(w), guess(w));
+    let q = float_root_whole::nearest_root(lifted(w), guess(w));
     (51 + (w >> 24)) * 0x80_0000 + (q as u32)
 }
 

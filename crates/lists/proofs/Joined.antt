@@ -5,7 +5,7 @@ use native.Mathlib.Nat.{mul-suc, mul-add, mul-one, mul-le-mul-left, not-suc-le-z
 use native.Mathlib.Decide.{ℕ-discrete}
 use native.Mathlib.Omega.{arith}
 use mathlib.Core.Path.{_≡_, refl, sym, ap, ap₂, _∙_}
-use mathlib.Core.List.{List, [], _∷_, _++_, map, map-append}
+use mathlib.Core.List.{List, _++_, map, map-append}
 use lib.ListN.{length, take, drop, length-append, length-drop}
 use lib.Seq.{take-add, take-all, drop-at, drop-append-le, take-append-le}
 use Rattle.lists.specs.Joined.{joined}

@@ -1,13 +1,10 @@
 -- What a trial asks about and lends. Definitions only.
 use Prim.Native.Nat.{ℕ}
-use mathlib.Core.List.{List, [], _∷_}
-use lib.ListN.{replicate}
+use lib.ListN.{replicate, take}
 use Rattle.float.specs.Arith.{f0, f1}
 use Rattle.grid.specs.declared.Grid.{Grid}
-use Rattle.mesh_topology.specs.declared.Topology.the-variants.{TriangleList}
-use Rattle.mesh_topology.specs.declared.Indices.the-variants.{Given}
 use Rattle.terms.specs.declared.Terms.{Terms}
-use Rattle.job_checks.specs.Job.{Job, Lent, jobOf, lentOf}
+use Rattle.job_checks.specs.Job.{Lent, lentOf}
 
 -- cells of size 1, the first at the origin
 abbrev pub unitGrid : ℕ → ℕ → ℕ → Grid
@@ -20,13 +17,11 @@ unitGrid x y z =
       «count_z» = z;
     }
 
--- the buffers of one cell, with room for one entry
-abbrev pub oneCell : Lent
-oneCell = lentOf (replicate 1 f0) (replicate 1 0) (replicate 3 0) (replicate 1 0) (replicate 1 0) (replicate 1 0) (replicate 1 0)
+-- zeros of these lengths, off what a trial has of each
+abbrev pub lentBy : ℕ → ℕ → ℕ → ℕ → ℕ → ℕ → ℕ → Lent
+lentBy field names crossings rows distances cells triangles =
+    lentOf (take field (replicate 7 f0)) (take names (replicate 7 0)) (take crossings (replicate 19 0)) (take rows (replicate 4 0))
+    (take distances (replicate 5 0)) (take cells (replicate 5 0)) (take triangles (replicate 5 0))
 
 abbrev pub onePop : Terms
 onePop = record { limit = 1 }
-
--- one vertex and one index, which make no triangle
-abbrev pub noTriangles : Job
-noTriangles = jobOf (unitGrid 2 1 3) (replicate 3 f0) TriangleList Given (replicate 1 0) onePop

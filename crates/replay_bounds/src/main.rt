@@ -8,7 +8,11 @@ use sdf::Grid;
 use sdf::Indices;
 use sdf::Point;
 use sdf::Topology;
+ghost use mathlib.Core.Path.{_≡_};
 ghost use Prim.Native.Nat.{_≤_};
+ghost use Rattle.job_checks.specs.Job.{jobOf};
+ghost use Rattle.job_outcome.specs.Outcome.{outcome, numberOf};
+ghost use Rattle.replay_bounds.specs.Trials.{lentBy, onePop};
 
 fn tell(name: &[u8], number: u32) {
     io::print_decimal(1, number as u64);
@@ -17,12 +21,40 @@ fn tell(name: &[u8], number: u32) {
     io::write_all(1, b"\n");
 }
 
+// The number that a job over the buffers of one cell, with room for one entry, is answered by.
+fn one_cell(
+    grid: Grid,
+    vertices: &[f32],
+    topology: Topology,
+    given: Indices,
+    indices: &[u32],
+) -> u32
+    ensures { λ r.
+        let job = jobOf grid (now (vertices .entry)) topology given (now (indices .entry)) onePop in
+        ⌜ r ≡ numberOf (outcome job (lentBy 1 1 3 1 1 1 1) .answer) ⌝ }
+{
+    trial::asked(
+        grid,
+        vertices,
+        topology,
+        given,
+        indices,
+        1,
+        1,
+        3,
+        1,
+        1,
+        1,
+        1,
+    )
+}
+
 // ---- 1: the grid. One cell is lent, so a grid of several cells that is not out of bounds is answered 5.
 
 fn try_grid(name: &[u8], grid: Grid) {
     let vertices = [0.0f32; 3];
     let indices = [0u32; 1];
-    let number = trial::one_cell(
+    let number = one_cell(
         grid,
         &vertices,
         Topology::TriangleList,
@@ -112,10 +144,7 @@ fn sizes() {
 
 fn try_mesh(name: &[u8], vertices: &[f32], topology: Topology, given: Indices, indices: &[u32]) {
     let grid = trial::grid_of(1, 1, 1);
-    tell(
-        name,
-        trial::one_cell(grid, vertices, topology, given, indices),
-    );
+    tell(name, one_cell(grid, vertices, topology, given, indices));
 }
 
 fn try_vertices(name: &[u8], vertices: &[f32]) {
@@ -294,21 +323,21 @@ fn try_lengths(
     requires { ⌜ (field ≤ 7) × (names ≤ 7) × (crossings ≤ 19) × (rows ≤ 4) ⌝ }
     requires { ⌜ (distances ≤ 5) × (cells ≤ 5) × (triangles ≤ 5) ⌝ }
 {
-    let mut f = [0.0f32; 7];
-    let mut n = [0u32; 7];
-    let mut k = [0u32; 19];
-    let mut r = [0u32; 4];
-    let mut d = [0u32; 5];
-    let mut c = [0u32; 5];
-    let mut t = [0u32; 5];
-    let number = trial::no_triangles(
-        &mut f[..field],
-        &mut n[..names],
-        &mut k[..crossings],
-        &mut r[..rows],
-        &mut d[..distances],
-        &mut c[..cells],
-        &mut t[..triangles],
+    let vertices = [0.0f32; 3];
+    let indices = [0u32; 1];
+    let number = trial::asked(
+        trial::grid_of(2, 1, 3),
+        &vertices,
+        Topology::TriangleList,
+        Indices::Given,
+        &indices,
+        field,
+        names,
+        crossings,
+        rows,
+        distances,
+        cells,
+        triangles,
     );
     tell(name, number);
 }

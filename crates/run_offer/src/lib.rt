@@ -50,7 +50,7 @@ fn offer(
     }
     let i = c as usize;
     let held = field[i];
-    if float_root::root_not_below(q, held) {
+    if float_shortcut::root_not_below(q, held) {
         return at;
     }
     let d = float_root::sqrt(q);

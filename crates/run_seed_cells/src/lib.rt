@@ -23,7 +23,7 @@ pub fn offer(field: &mut [f32], names: &mut [u32], c: usize, k: u32, q: f32) -> 
         return 6;
     }
     let held = field[c];
-    let far = float_root::root_not_below(q, held);
+    let far = float_shortcut::root_not_below(q, held);
     if far {
         return 0;
     }

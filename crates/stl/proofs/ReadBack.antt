@@ -1,6 +1,6 @@
 -- What `write_stl` writes, `read_stl` reads: a file that was written passes every check of reading, and its corners are those that were
 -- lent. Assumes nothing.
-use Prim.Native.Nat.{ℕ, zero, suc, _+_, _*_, _/_, _%_, _^_, _≤_, _<_}
+use Prim.Native.Nat.{ℕ, zero, suc, _+_, _/_}
 use native.Mathlib.Omega.{arith}
 use mathlib.Core.Path.{_≡_, refl, sym, ap, _∙_}
 use mathlib.Core.List.{List, _++_}
@@ -11,7 +11,7 @@ use Rattle.lists.specs.Joined.{joined}
 use Rattle.lists.proofs.Joined.{length-joined}
 use Rattle.stl.specs.declared.StlAnswer.the-variants.{Facets}
 use Rattle.float_bits.specs.Patterns.{bitsOf}
-use Rattle.stl.specs.File.{countIn, lengthFor, cornersIn, headOf, recordOf, nineAt, facetsIn, stlOf, Binary32}
+use Rattle.stl.specs.File.{countIn, lengthFor, headOf, recordOf, nineAt, facetsIn, stlOf, Binary32}
 use Rattle.stl.specs.Reply.{fileChecks, bufferChecks, writingChecks, answerBy, leftBy, outcomeBy, reading, writing}
 use Rattle.stl.proofs.Pieces.{record-long}
 use Rattle.stl.proofs.Replies.{fits, lent, Writable, writable}

@@ -1,7 +1,7 @@
 -- "What we write reads back as the same corner bits" (document 02, §1): for every list of bit patterns, nine for each facet, those of NaNs too;
 -- and for every list of floats. A word's bytes are found where they were put, a record where its facet's is, and the file is its head and
 -- its records. Assumes nothing.
-use Prim.Native.Nat.{ℕ, zero, suc, _+_, _*_, _/_, _%_, _^_, _≤_, _<_}
+use Prim.Native.Nat.{ℕ, suc, _+_, _*_, _/_, _%_, _^_, _<_}
 use native.Mathlib.Decide.{decLt}
 use native.Mathlib.Nat.{div-add-mod', div-div-eq-div-mul}
 use native.Mathlib.Omega.{arith}
@@ -17,7 +17,7 @@ use Rattle.lists.specs.Joined.{joined}
 use Rattle.lists.proofs.Joined.{joined-same, joined-at, joined-parts, length-joined}
 use Rattle.lists.proofs.Table.{is-table, getD-any}
 use Rattle.float_bits.specs.Patterns.{floatsOf, bitsOf}
-use Rattle.stl.specs.File.{u32At, bytesOf, countIn, lengthFor, recordAt, nineOf, patternsIn, headOf, recordOf, nineAt, facetsIn, stlOf, Patterns, Binary32, cornersIn}
+use Rattle.stl.specs.File.{u32At, bytesOf, countIn, recordAt, nineOf, patternsIn, headOf, recordOf, nineAt, facetsIn, stlOf, Patterns, Binary32, cornersIn}
 use Rattle.stl.proofs.Pieces.{word-long, record-long}
 
 -- ---- a word

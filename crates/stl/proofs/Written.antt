@@ -2,7 +2,7 @@
 use Prim.Native.Nat.{ℕ, zero, suc, _+_, _*_, _/_}
 use mathlib.Core.Path.{_≡_, refl, sym, ap, ap₂, _∙_}
 use mathlib.Core.List.{List, [], _∷_, _++_, map}
-use lib.ListN.{length, take, drop, length-map}
+use lib.ListN.{take, drop, length-map}
 use lib.Ieee.{Float, binary32, toBits}
 use Rattle.lists.specs.Joined.{joined}
 use Rattle.lists.proofs.Joined.{joined-same}

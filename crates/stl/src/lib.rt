@@ -39,17 +39,47 @@ pub fn put_word(bytes: &mut [u8], at: usize, w: u32)
     bytes[at + 3] = (w / 16777216 % 256) as u8;
 }
 
+// The patterns of a facet's nine numbers. They are all read before the first is stored: a compiler that cannot see that the
+// file and the corners lie apart would go through them one by one.
+fn nine_words(facet: &[u8]) -> [u32; 9]
+    requires { ⌜ length (now facet) ≡ 50 ⌝ }
+    ensures { λ r. ⌜ r ≡ nineOf (now (facet .entry)) ⌝ }
+{
+    let mut words = [0u32; 9];
+    let mut i = 0;
+    while i < 9 {
+        words[i] = word(facet, 12 + 4 * i);
+        i += 1;
+    }
+    words
+}
+
 // The corner reader: the nine numbers of a facet's record, which is handed to it as it stands in the file.
 pub fn read_facet(facet: &[u8], corners: &mut [f32])
     requires { ⌜ length (now facet) ≡ 50 ⌝ }
     requires { ⌜ length (now corners) ≡ 9 ⌝ }
     ensures { λ _. ⌜ now (corners .exit) ≡ floatsOf (nineOf (now (facet .entry))) ⌝ }
 {
+    let words = nine_words(facet);
     let mut i = 0;
     while i < 9 {
-        corners[i] = float_bits::float_of(word(facet, 12 + 4 * i));
+        corners[i] = float_bits::float_of(words[i]);
         i += 1;
     }
+}
+
+// The patterns of nine numbers, before the first is written, as above.
+fn nine_bits(corners: &[f32]) -> [u32; 9]
+    requires { ⌜ length (now corners) ≡ 9 ⌝ }
+    ensures { λ r. ⌜ r ≡ bitsOf (now (corners .entry)) ⌝ }
+{
+    let mut words = [0u32; 9];
+    let mut i = 0;
+    while i < 9 {
+        words[i] = float_bits::bits_of(corners[i]);
+        i += 1;
+    }
+    words
 }
 
 // Writes the record of a facet: the normal zero, the nine numbers, the attributes zero.
@@ -58,12 +88,13 @@ pub fn write_facet(corners: &[f32], facet: &mut [u8])
     requires { ⌜ length (now facet) ≡ 50 ⌝ }
     ensures { λ _. ⌜ now (facet .exit) ≡ recordOf (bitsOf (now (corners .entry))) ⌝ }
 {
+    let words = nine_bits(corners);
     put_word(facet, 0, 0);
     put_word(facet, 4, 0);
     put_word(facet, 8, 0);
     let mut i = 0;
     while i < 9 {
-        put_word(facet, 12 + 4 * i, float_bits::bits_of(corners[i]));
+        put_word(facet, 12 + 4 * i, words[i]);
         i += 1;
     }
     facet[48] = 0;

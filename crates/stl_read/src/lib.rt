@@ -2,7 +2,7 @@
 // without indices. A part of the public face `sdf`, which users call.
 use stl::StlAnswer;
 ghost use mathlib.Core.Path.{_≡_};
-ghost use Prim.Native.Nat.{_*_, _≤_};
+ghost use Prim.Native.Nat.{_*_};
 ghost use lib.ListN.{length};
 ghost use Rattle.lists.specs.Checks.{firstThatApplies};
 ghost use Rattle.stl.specs.File.{countIn, lengthFor, cornersIn};

@@ -1,10 +1,10 @@
 -- `stl_read::file_refusal`: each return by the tests that led there. Assumes nothing.
 use borrow.Author.Needs.{needs}
 use Prim.Native.Nat.{ℕ}
-use mathlib.Core.Path.{_≡_, sym, ap, _∙_, subst}
+use mathlib.Core.Path.{_≡_, sym, ap, _∙_}
 use mathlib.Core.List.{List}
 use lib.ListN.{length}
-use Prim.Native.Nat.{_≤_, _<_}
+use Prim.Native.Nat.{_≤_}
 use Rattle.stl.specs.File.{countIn, lengthFor}
 use Rattle.stl.proofs.Replies.{short, unlike, many, fits}
 use Rattle.stl_read.proofs.file_refusal.Statement.{statement}

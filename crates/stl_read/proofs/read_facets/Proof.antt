@@ -1,7 +1,7 @@
 -- `stl_read::read_facets`: after k turns the corners of the first k facets stand in the vertices, one facet behind the other. Assumes nothing.
 use Prim.Native.Nat.{ℕ, _+_, _*_, _-_, _≤_}
 use native.Mathlib.Omega.{arith}
-use mathlib.Core.Path.{_≡_, refl, sym, ap, _∙_}
+use mathlib.Core.Path.{_≡_, sym, ap, _∙_}
 use lib.ListN.{length, take, drop}
 use lib.Ieee.{binary32, ofBits}
 use borrow.Rule.Slice.PartMut.{mid-len}

@@ -2,11 +2,11 @@
 use borrow.Author.Needs.{needs}
 use native.Mathlib.Omega.{arith}
 use Prim.Native.Nat.{ℕ, _*_}
-use mathlib.Core.Path.{_≡_, refl, sym, ap, _∙_}
-use mathlib.Core.List.{List, _++_}
+use mathlib.Core.Path.{_≡_, sym, ap, _∙_}
+use mathlib.Core.List.{List}
 use lib.ListN.{length}
 use Rattle.lists.specs.Checks.{firstThatApplies}
-use Rattle.stl.specs.File.{countIn, lengthFor, cornersIn}
+use Rattle.stl.specs.File.{countIn, lengthFor}
 use Rattle.stl.specs.Reply.{fileChecks}
 use Rattle.stl.proofs.Replies.{Fits, fitting, refused-first, unlent, lent, refused-by, done-by}
 use Rattle.stl_read.proofs.read_stl.Statement.{statement}

@@ -1,7 +1,7 @@
 -- `stl_read::stl_count`: the number of the first check that applies, or the count. Assumes nothing.
 use borrow.Author.Needs.{needs}
 use native.Mathlib.Omega.{arith}
-use mathlib.Core.Path.{_≡_, refl, sym, ap, _∙_}
+use mathlib.Core.Path.{sym, ap, _∙_}
 use Prim.Native.Nat.{ℕ}
 use Rattle.stl.specs.declared.StlAnswer.the-variants.{Facets}
 use Rattle.stl.specs.File.{countIn}

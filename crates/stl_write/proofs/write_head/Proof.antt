@@ -1,8 +1,7 @@
 -- `stl_write::write_head`: after i turns i words of zero are put; twenty of them are the header. Assumes nothing.
-use borrow.Author.Needs.{needs}
-use Prim.Native.Nat.{ℕ, _+_, _*_, _-_, _≤_}
+use Prim.Native.Nat.{_*_, _-_, _≤_}
 use native.Mathlib.Omega.{arith}
-use mathlib.Core.Path.{_≡_, refl, sym, ap, _∙_}
+use mathlib.Core.Path.{_≡_, refl, _∙_}
 use lib.ListN.{length, replicate}
 use Rattle.lists.specs.Joined.{joined}
 use Rattle.lists.proofs.Puts.{Pieces, no-pieces, pieces-more, pieces-all, andThen, said}

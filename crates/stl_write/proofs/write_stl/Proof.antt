@@ -1,8 +1,7 @@
 -- `stl_write::write_stl`: the number of the first check that applies and the file as it was, or the file of the corners. Assumes nothing.
 use borrow.Author.Needs.{needs}
 use native.Mathlib.Omega.{arith}
-use Prim.Native.Nat.{ℕ, _*_, _/_}
-use mathlib.Core.Path.{_≡_, refl, sym, ap, _∙_}
+use mathlib.Core.Path.{refl, sym, _∙_}
 use lib.ListN.{length}
 use Rattle.lists.proofs.Puts.{andThen, whole}
 use Rattle.stl.proofs.Replies.{Writable, writable, refused-by, done-by}

@@ -1,11 +1,11 @@
--- `float_root::raised`: a step up from a q with q * q + q < n keeps q * q < n + q, and the loop ends where the other half of `NearestTo` holds. Assumes nothing.
+-- `float_root_whole::raised`: a step up from a q with q * q + q < n keeps q * q < n + q, and the loop ends where the other half of `NearestTo` holds. Assumes nothing.
 use borrow.Author.Needs.{needs}
 use Prim.Native.Nat.{ℕ, _+_, _-_, _*_, _^_, _<_}
 use native.Mathlib.Omega.{arith}
 use mir.Facts.{fits-bits}
 use Rattle.float.proofs.Squares.{mul-lt, next-square, root-digits}
-use Rattle.float_root.proofs.raised.Statement.{statement}
-use Rattle.float_root.proofs.raised.Tie as tie
+use Rattle.float_root_whole.proofs.raised.Statement.{statement}
+use Rattle.float_root_whole.proofs.raised.Tie as tie
 
 abbrev Inv-loop : tie.InvT-loop
 Inv-loop n g q₀ q = (q < 2 ^ 25) × (q * q < n + q)

@@ -1,11 +1,11 @@
--- `float_root::lowered`: q * q is above n + q only where q is above 0, so the loop ends before it. Assumes nothing.
+-- `float_root_whole::lowered`: q * q is above n + q only where q is above 0, so the loop ends before it. Assumes nothing.
 use borrow.Author.Needs.{needs}
 use Prim.Native.Nat.{ℕ, zero, suc, _+_, _*_, _^_, _≤_, _<_}
 use native.Mathlib.Omega.{arith}
 use mir.Facts.{fits-bits}
 use Rattle.float.proofs.Squares.{mul-lt}
-use Rattle.float_root.proofs.lowered.Statement.{statement}
-use Rattle.float_root.proofs.lowered.Tie as tie
+use Rattle.float_root_whole.proofs.lowered.Statement.{statement}
+use Rattle.float_root_whole.proofs.lowered.Tie as tie
 
 abbrev Inv-loop : tie.InvT-loop
 Inv-loop n g q₀ q = q < 2 ^ 25

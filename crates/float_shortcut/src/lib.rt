@@ -1,6 +1,6 @@
 // Most offers of a triangle to a cell are no nearer than what the cell holds. Where the squared length
-// already shows that, no root is worked out.
-ghost use Rattle.float_root.specs.Shown.{Shown};
+// already shows that, no root is worked out. A part of the port: users call `sdf`.
+ghost use Rattle.float_shortcut.specs.Shown.{Shown};
 
 // Whether q is at least the square of h: then the root of q is not below h. The square of an f32 is exact in an
 // f64. A NaN shows nothing.

@@ -1,12 +1,12 @@
--- `float_root::root_not_below`: the wide values are the values themselves, so the test is the definition's, and `not-below` says what it shows.
+-- `float_shortcut::root_not_below`: the wide values are the values themselves, so the test is the definition's, and `not-below` says what it shows.
 -- Assumes nothing.
 use borrow.Author.Needs.{needs}
 use mathlib.Core.Path.{sym, ap₂, _∙_, subst}
 use lib.Dec.{T}
 use lib.Ieee.{Float, binary64, mul, le}
 use Rattle.float.proofs.NotBelow.{not-below}
-use Rattle.float_root.proofs.shortcut.root_not_below.Statement.{statement}
-use Rattle.float_root.proofs.shortcut.root_not_below.Tie as tie
+use Rattle.float_shortcut.proofs.root_not_below.Statement.{statement}
+use Rattle.float_shortcut.proofs.root_not_below.Tie as tie
 
 returns : tie.Need-returns
 returns c =

@@ -1,7 +1,7 @@
--- `queue::triple_first` meets its contract: each return is a case of `largerTriple`, by the tests that led to it. Assumes nothing.
+-- `queue_triple::triple_first` meets its contract: each return is a case of `largerTriple`, by the tests that led to it. Assumes nothing.
 use borrow.Author.Tests.{lt-ltb, le-ltb}
-use Rattle.queue.proofs.triple_first.Statement.{statement}
-use Rattle.queue.proofs.triple_first.Tie as tie
+use Rattle.queue_triple.proofs.triple_first.Statement.{statement}
+use Rattle.queue_triple.proofs.triple_first.Tie as tie
 
 returns : tie.Need-returns
 returns c = simp (lt-ltb _ _ (c .if1 .taken))

@@ -1,12 +1,12 @@
--- `queue::triple` meets its contract: past the last triangle the definition gives 0, 0, 0 too. Assumes nothing.
+-- `queue_triple::triple` meets its contract: past the last triangle the definition gives 0, 0, 0 too. Assumes nothing.
 use native.Mathlib.Omega.{arith}
 use mathlib.Core.Path.{sym}
 use denote.Ref.{now}
 use lib.ListN.{List·getD-eq-default}
 use borrow.Author.Needs.{needs}
 use Rattle.mesh_topology.specs.Topology.{triangle, trianglesOf}
-use Rattle.queue.proofs.triple.Statement.{statement}
-use Rattle.queue.proofs.triple.Tie as tie
+use Rattle.queue_triple.proofs.triple.Statement.{statement}
+use Rattle.queue_triple.proofs.triple.Tie as tie
 
 returns-2 : tie.Need-returns-2
 returns-2 c =
