@@ -18,8 +18,8 @@ unitGrid x y z =
     }
 
 -- zeros of these lengths, off what a trial has of each
-abbrev pub lentBy : ℕ → ℕ → ℕ → ℕ → ℕ → ℕ → ℕ → Lent
-lentBy field names crossings rows distances cells triangles =
+abbrev pub lentLong : ℕ → ℕ → ℕ → ℕ → ℕ → ℕ → ℕ → Lent
+lentLong field names crossings rows distances cells triangles =
     lentOf (take field (replicate 7 f0)) (take names (replicate 7 0)) (take crossings (replicate 19 0)) (take rows (replicate 4 0))
     (take distances (replicate 5 0)) (take cells (replicate 5 0)) (take triangles (replicate 5 0))
 

@@ -12,7 +12,7 @@ ghost use mathlib.Core.Path.{_≡_};
 ghost use Prim.Native.Nat.{_≤_};
 ghost use Rattle.job_checks.specs.Job.{jobOf};
 ghost use Rattle.job_outcome.specs.Outcome.{outcome, numberOf};
-ghost use Rattle.replay_bounds.specs.Trials.{lentBy, onePop};
+ghost use Rattle.replay_bounds.specs.Trials.{lentLong, onePop};
 
 fn tell(name: &[u8], number: u32) {
     io::print_decimal(1, number as u64);
@@ -31,7 +31,7 @@ fn one_cell(
 ) -> u32
     ensures { λ r.
         let job = jobOf grid (now (vertices .entry)) topology given (now (indices .entry)) onePop in
-        ⌜ r ≡ numberOf (outcome job (lentBy 1 1 3 1 1 1 1) .answer) ⌝ }
+        ⌜ r ≡ numberOf (outcome job (lentLong 1 1 3 1 1 1 1) .answer) ⌝ }
 {
     trial::asked(
         grid,

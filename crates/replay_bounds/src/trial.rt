@@ -10,7 +10,7 @@ ghost use mathlib.Core.Path.{_≡_};
 ghost use Prim.Native.Nat.{_≤_};
 ghost use Rattle.job_checks.specs.Job.{jobOf};
 ghost use Rattle.job_outcome.specs.Outcome.{outcome, numberOf};
-ghost use Rattle.replay_bounds.specs.Trials.{unitGrid, lentBy, onePop};
+ghost use Rattle.replay_bounds.specs.Trials.{unitGrid, lentLong, onePop};
 
 // A grid of cells of size 1, the first at the origin.
 pub fn grid_of(x: u32, y: u32, z: u32) -> Grid
@@ -61,7 +61,7 @@ pub fn asked(
     requires { ⌜ (distances ≤ 5) × (cells ≤ 5) × (triangles ≤ 5) ⌝ }
     ensures { λ r.
         let job = jobOf grid (now (vertices .entry)) topology given (now (indices .entry)) onePop in
-        ⌜ r ≡ numberOf (outcome job (lentBy field names crossings rows distances cells triangles) .answer) ⌝ }
+        ⌜ r ≡ numberOf (outcome job (lentLong field names crossings rows distances cells triangles) .answer) ⌝ }
 {
     let mut f = [0.0f32; 7];
     let mut n = [0u32; 7];
