@@ -1,8 +1,8 @@
 /* SPDX-License-Identifier: MIT OR Apache-2.0 (NOTICE, LICENSE-MIT, LICENSE-APACHE)
  *
  * The signed distance field of a triangle mesh on a grid, for C and C++: the whole job, the questions of it asked by
- * themselves, and a scanner's file read and written. What they owe is docs/SPECIFICATION.md, whose sections stand here as [4.1]; every function is proved to
- * meet it.
+ * themselves, and a scanner's file read and written. What they owe is docs/SPECIFICATION.md, whose sections stand here as
+ * [4.1]; every function is proved to meet it.
  *
  * In six lines, with buffers of n floats, n, 3 n and 64 numbers and n entries:
  *
@@ -221,7 +221,7 @@ sdf_job_answer sdf_generate_grid_sdf_records(sdf_grid grid, const float *vertice
  * k. Reading refuses no corner for what it is; that is the job's SDF_COORDINATES. examples/c/stl.c is a whole program.
  *
  * A refusal changes no buffer. What C owes is what the whole job is owed: valid pointers, never null, to at least as many
- * elements as the length beside them, and no byte lent twice. Stack: less than 1 KB. */
+ * elements as the length beside them, and no byte lent twice. They call nothing, and take no stack beside the call's own. */
 
 /* How many facets a file has. Refuses by 11, then 12. */
 sdf_stl_answer sdf_stl_facets(const uint8_t *file, size_t file_length);

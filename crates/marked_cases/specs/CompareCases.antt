@@ -10,7 +10,7 @@ use Rattle.float_order.specs.declared.Order.{Order}
 use Rattle.float_order.specs.declared.Order.the-variants.{Less, Equal, Greater}
 
 -- -1.0
-abbrev minusOne : Float
+abbrev pub minusOne : Float
 minusOne = ofBits binary32 0xbf80_0000
 
 -- less, equal and greater as numbers

@@ -14,13 +14,11 @@ use Rattle.geo_distance.specs.Distance.{squaredOn, distance}
 use Rattle.geo_ray.specs.Ray.{weightsX, reachX, rayX, rayAligned}
 use Rattle.geo_ray.specs.declared.RayHit.{RayHit}
 use Rattle.geo_ray.specs.declared.RayHit.the-variants.{Miss, Hit}
+use Rattle.marked_cases.specs.CompareCases.{minusOne}
 
 -- the corners of T: (0,0,0), (4,0,0), (0,4,0)
 abbrev four : Float
 four = ofBits binary32 0x4080_0000
-
-abbrev minusOne : Float
-minusOne = ofBits binary32 0xbf80_0000
 
 abbrev T0 : Point
 T0 = vec f0 f0 f0

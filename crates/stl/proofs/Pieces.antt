@@ -1,5 +1,5 @@
 -- How long the pieces of a file are: the nine numbers of a record, a word's four bytes, the record of nine numbers. Assumes nothing.
-use Prim.Native.Nat.{ℕ, _+_, _*_, _-_}
+use Prim.Native.Nat.{ℕ}
 use native.Mathlib.Omega.{arith}
 use mathlib.Core.Path.{_≡_, refl, _∙_}
 use mathlib.Core.List.{List}
@@ -9,14 +9,7 @@ use Rattle.lists.specs.Joined.{joined}
 use Rattle.lists.proofs.Table.{length-table}
 use Rattle.lists.proofs.Joined.{length-joined}
 use Rattle.float_bits.specs.Patterns.{floatsOf}
-use Rattle.stl.specs.File.{bytesOf, lengthFor, nineOf, recordOf}
-
--- the parts of a file and of its corners that belong to facet k, as long as they are cut
-pub fifty : (k : ℕ) → lengthFor k + 50 - lengthFor k ≡ 50
-fifty k = omega arith
-
-pub nine : (k : ℕ) → 9 * k + 9 - 9 * k ≡ 9
-nine k = omega arith
+use Rattle.stl.specs.File.{bytesOf, nineOf, recordOf}
 
 pub corners-long : (facet : List ℕ) → length (nineOf facet) ≡ 9
 unfolding nineOf

@@ -1,5 +1,6 @@
 -- `stl_read::read_facets`: after k turns the corners of the first k facets stand in the vertices, one facet behind the other. Assumes nothing.
 use Prim.Native.Nat.{ℕ, _+_, _*_, _-_, _≤_}
+use native.Mathlib.Nat.{add-sub-cancel-left}
 use native.Mathlib.Omega.{arith}
 use mathlib.Core.Path.{_≡_, sym, ap, _∙_}
 use lib.ListN.{length, take, drop}
@@ -10,7 +11,7 @@ use Rattle.lists.proofs.Joined.{map-joined}
 use Rattle.lists.proofs.Puts.{Pieces, no-pieces, pieces-more, pieces-all, part, said, whole}
 use Rattle.float_bits.specs.Patterns.{floatsOf}
 use Rattle.stl.specs.File.{lengthFor, recordAt, nineOf, patternsIn}
-use Rattle.stl.proofs.Pieces.{fifty, nine, floats-long}
+use Rattle.stl.proofs.Pieces.{floats-long}
 use Rattle.stl_read.proofs.read_facets.Statement.{statement}
 use Rattle.stl_read.proofs.read_facets.Tie as tie
 
@@ -28,15 +29,17 @@ entry l = l .before .before .before
 long : (l : tie.At-loop Inv-loop μ-loop) → length (l .loop .vertices) ≡ 9 * entry l .args .count
 long l = l .loop .inv .put .long ∙ entry l .pre .1 .1
 
--- there is room for one facet more
+-- the record of facet k lies within the file, and there is room for its nine numbers
+record-fits : (t : tie.In-loop Inv-loop μ-loop) → lengthFor (t .before .loop .k) + 50 ≤ length (entry (t .before) .args .file .now)
+record-fits t = omega (arith, entry (t .before) .pre .1 .0, t .loop-test .taken)
+
 fits : (t : tie.In-loop Inv-loop μ-loop) → 9 * t .before .loop .k + 9 ≤ length (t .before .loop .vertices)
 fits t = omega (arith, long (t .before), t .loop-test .taken)
 
 read-facet-requires : tie.Need-read-facet-requires Inv-loop μ-loop
 read-facet-requires c κs =
     let t = c .before .before in
-    let k = t .before .loop .k in
-    (mid-len _ _ _ (omega (arith, entry (t .before) .pre .1 .0, t .loop-test .taken)) ∙ fifty k, mid-len _ _ _ (fits t) ∙ nine k)
+    (mid-len _ _ _ (record-fits t) ∙ add-sub-cancel-left _ 50, mid-len _ _ _ (fits t) ∙ add-sub-cancel-left _ 9)
 
 loop-again : tie.Need-loop-again Inv-loop μ-loop
 loop-again c =
@@ -45,7 +48,10 @@ loop-again c =
     let l = t .before in
     let k = l .loop .k in
     let read = p .read-facet .ensures in
-    pieces-more _ _ _ _ _ (l .loop .inv) (t .loop-test .taken) (said (read ∙ ap (λ (n : ℕ). floatsOf (nineOf (take n (drop (lengthFor k) (entry l .args .file .now))))) (fifty k)) (omega arith) (part _ _ (9 * k) (9 * k + 9) (omega arith) (fits t) (ap length read ∙ floats-long _ ∙ sym (nine k)))) (omega arith)
+    let same = ap (λ (n : ℕ). floatsOf (nineOf (take n (drop (lengthFor k) (entry l .args .file .now))))) (add-sub-cancel-left (lengthFor k) 50) in
+    pieces-more _ _ _ _ _ (l .loop .inv) (t .loop-test .taken)
+    (said (read ∙ same) (omega arith) (part _ _ (9 * k) (9 * k + 9) (omega arith) (fits t) (ap length read ∙ floats-long _ ∙ sym (add-sub-cancel-left (9 * k) 9))))
+    (omega arith)
 
 returns : tie.Need-returns Inv-loop μ-loop
 unfolding patternsIn

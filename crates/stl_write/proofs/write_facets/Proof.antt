@@ -1,5 +1,6 @@
 -- `stl_write::write_facets`: after k turns the records of the first k facets stand in the file, one behind the other. Assumes nothing.
 use Prim.Native.Nat.{ℕ, _+_, _*_, _-_, _≤_}
+use native.Mathlib.Nat.{add-sub-cancel-left}
 use native.Mathlib.Omega.{arith}
 use mathlib.Core.Path.{_≡_, refl, sym, ap, _∙_}
 use lib.ListN.{length, take, drop}
@@ -7,7 +8,7 @@ use borrow.Rule.Slice.PartMut.{mid-len}
 use Rattle.lists.proofs.Puts.{Pieces, no-pieces, pieces-more, pieces-all, part, said}
 use Rattle.float_bits.specs.Patterns.{bitsOf}
 use Rattle.stl.specs.File.{lengthFor, recordOf, nineAt}
-use Rattle.stl.proofs.Pieces.{fifty, nine, record-long}
+use Rattle.stl.proofs.Pieces.{record-long}
 use Rattle.stl_write.proofs.write_facets.Statement.{statement}
 use Rattle.stl_write.proofs.write_facets.Tie as tie
 
@@ -28,11 +29,14 @@ long l = l .loop .inv .put .long ∙ entry l .pre .1
 fits : (t : tie.In-loop Inv-loop μ-loop) → lengthFor (t .before .loop .k) + 50 ≤ length (t .before .loop .file)
 fits t = omega (arith, long (t .before), t .loop-test .taken)
 
+-- the nine numbers of facet k lie within the vertices
+nine-fit : (t : tie.In-loop Inv-loop μ-loop) → 9 * t .before .loop .k + 9 ≤ length (entry (t .before) .args .vertices .now)
+nine-fit t = omega (arith, entry (t .before) .pre .0, t .loop-test .taken)
+
 write-facet-requires : tie.Need-write-facet-requires Inv-loop μ-loop
 write-facet-requires c κs =
     let t = c .before .before in
-    let k = t .before .loop .k in
-    (mid-len _ _ _ (omega (arith, entry (t .before) .pre .0, t .loop-test .taken)) ∙ nine k, mid-len _ _ _ (fits t) ∙ fifty k)
+    (mid-len _ _ _ (nine-fit t) ∙ add-sub-cancel-left _ 9, mid-len _ _ _ (fits t) ∙ add-sub-cancel-left _ 50)
 
 loop-again : tie.Need-loop-again Inv-loop μ-loop
 loop-again c =
@@ -41,9 +45,9 @@ loop-again c =
     let l = t .before in
     let k = l .loop .k in
     let written = p .write-facet .ensures in
-    let same = ap (λ (n : ℕ). recordOf (bitsOf (take n (drop (9 * k) (entry l .args .vertices .now))))) (nine k) in
+    let same = ap (λ (n : ℕ). recordOf (bitsOf (take n (drop (9 * k) (entry l .args .vertices .now))))) (add-sub-cancel-left (9 * k) 9) in
     pieces-more _ _ _ _ _ (l .loop .inv) (t .loop-test .taken)
-    (said (written ∙ same) (omega arith) (part _ _ (lengthFor k) (lengthFor k + 50) (omega arith) (fits t) (ap length written ∙ record-long _ ∙ sym (fifty k))))
+    (said (written ∙ same) (omega arith) (part _ _ (lengthFor k) (lengthFor k + 50) (omega arith) (fits t) (ap length written ∙ record-long _ ∙ sym (add-sub-cancel-left (lengthFor k) 50))))
     (omega arith)
 
 returns : tie.Need-returns Inv-loop μ-loop
