@@ -45,8 +45,8 @@ def values(listing):
 
 
 def owed(jobs):
-    """The listings that document 01 owes the jobs: the unmodified Rust's field and pops, the model's number, peak, names
-    and rows. Where both speak they must agree. Builds the oracle and the model."""
+    """The listings that the jobs are owed: the unmodified Rust's field and pops, rows counted off that field, and the model's
+    number, peak and names. Where two speak they must agree. Builds the oracle and the model."""
     build("tools/oracle/build")
     build("tools/model/build")
     model = batch(["build/model/model", "--batch"], jobs)
@@ -64,5 +64,15 @@ def joined(model, rust):
     assert [cell for cell, _ in names] == theirs["cell"]
     lines = ["answer=0", "pops=" + theirs["steps"][0], "peak=" + ours["peak"][0]]
     lines += [f"cell={cell} {name}" for cell, (_, name) in zip(theirs["cell"], names)]
-    lines += ["row=" + row for row in ours["row"]]
+    rows = set_signs(theirs["cell"], len(ours["row"]))
+    assert ours["row"] == rows
+    lines += ["row=" + row for row in rows]
     return "".join(line + "\n" for line in lines).encode()
+
+
+def set_signs(cells, layers):
+    """`LAYER COUNT` for each layer: how many of its cells have their sign bit set. Along z the index grows by one."""
+    rows = [0] * layers
+    for index, bits in map(str.split, cells):
+        rows[int(index) % layers] += int(bits, 16) >> 31
+    return [f"{layer} {count}" for layer, count in enumerate(rows)]

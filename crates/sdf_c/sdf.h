@@ -40,7 +40,7 @@ extern "C" {
 #endif
 
 /* Raised whenever a function, a record or a number below is no longer what it was. */
-#define SDF_VERSION 3
+#define SDF_VERSION 4
 
 /* The numbers of the whole job [4.1], in the order in which they are checked; the first that applies is given. A
  * question asked by itself [4.4] gives 1 for the grid, 2 for a coordinate that is not finite or above 2,097,152 in
@@ -174,8 +174,8 @@ enum { SDF_NO_INDICES = 0, SDF_INDICES = 1 };
  *                the surface has 0 or, where two are odd, -0
  *   names        n numbers: the triangle, counted from 0, that the distance is to; SDF_NONE with none
  *   crossings    3 n numbers: the rays' hits along x, y, z of each cell in turn
- *   rows         as many as the z count: how many cells of each layer have a distance less than zero. -0 is not less than
- *                zero, so a cell whose centre lies on the surface is not counted
+ *   rows         as many as the z count: how many cells of each layer are inside, that is, have their sign bit set
+ *                (signbit of <math.h>). -0 counts, and +0 does not: `field[i] < 0` would leave out a centre on the surface
  *   distances, cells, triangles
  *                the queue: three arrays of one length, its room. Any length, 0 too
  * terms          limit: how many entries may be taken

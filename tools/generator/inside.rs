@@ -115,6 +115,28 @@ fn zero_distances(r: &mut Random) -> Job {
     job(grid, &mesh, r)
 }
 
+/// A tiny triangle across the first cell's three rays, near its centre: each of them hits it, and the cell is inside. But the
+/// weights' sum is so small that its inverse overflows, so the distance is infinite and the cell stays at f32::MAX: −f32::MAX.
+pub fn at_max(r: &mut Random) -> Job {
+    loop {
+        let mut grid = roomy_grid(r);
+        grid.first = [0.0; 3];
+        grid.count = [0; 3].map(|_| r.between(1, 3));
+        let mut job = job(grid, &Mesh { vertices: vec![[0.0; 3]; 3], triangles: vec![[0, 1, 2]] }, r);
+        let scale = f32::from_bits(r.between(89, 92) << 23);
+        let near = r.unit().abs() * 0.9 - 1.0;
+        let corners = [[3.0, -1.0, -1.0], [-1.0, 3.0, near], [-1.0, near, 3.0]];
+        let turned = r.below(3) as usize;
+        job.vertices = corners.map(|v| [0, 1, 2].map(|axis| v[(axis + turned) % 3] * scale)).to_vec();
+        let corners = [job.vertices[0], job.vertices[1], job.vertices[2]];
+        let centre = job.grid.centre([0; 3]);
+        let hit = (0..3).all(|axis| model::geometry::ray(centre, corners, axis).is_some());
+        if hit && model::geometry::distance(centre, corners).is_infinite() {
+            return job;
+        }
+    }
+}
+
 /// The grid's box as a hull, bit for bit as document 01 rounds its sides.
 fn hull_touches_box(r: &mut Random) -> Job {
     let grid = roomy_grid(r);

@@ -18,13 +18,15 @@ const MOST_ENTRIES: u32 = 2_048;
 
 pub type Make = fn(&mut Random) -> Job;
 
-/// Kinds that are asked for by name alone: they lie beyond the job program's limits.
-pub const LARGE: [(&str, Make); 5] = [
+/// Kinds that are asked for by name alone: five that lie beyond the job program's limits, and one that came after the sets.
+pub const ALONE: [(&str, Make); 6] = [
     ("large-sphere", large_sphere),
     ("large-tank", large_tank),
     ("large-soup", large_soup),
     ("large-too-many-triangles", too_many_triangles),
     ("large-too-many-vertices", too_many_vertices),
+    // A set sign bit without a distance: §2.
+    ("inside-at-max", inside::at_max),
 ];
 
 /// The kinds that the base was built with.
@@ -123,7 +125,7 @@ pub fn of_set(set: Option<&str>) -> Vec<&'static str> {
 
 /// The text of one job of the kind.
 pub fn make(kind: &str, r: &mut Random) -> Option<Vec<u8>> {
-    let (_, make) = BASE.iter().chain(&inside::KINDS).chain(&LARGE).find(|(name, _)| *name == kind)?;
+    let (_, make) = BASE.iter().chain(&inside::KINDS).chain(&ALONE).find(|(name, _)| *name == kind)?;
     let text = text::write(&make(r));
     Some(match kind {
         // The two begin at different ways, so that together they show all of them sooner.

@@ -17,7 +17,7 @@ fn main() {
     if args == ["--kinds"] {
         kinds::BASE.iter().for_each(|(name, _)| println!("{name} (base)"));
         inside::KINDS.iter().for_each(|(name, _)| println!("{name} (inside)"));
-        kinds::LARGE.iter().for_each(|(name, _)| println!("{name} (by name alone)"));
+        kinds::ALONE.iter().for_each(|(name, _)| println!("{name} (by name alone)"));
         return;
     }
     let number = |i: usize| args.get(i).and_then(|a| a.parse::<u64>().ok());

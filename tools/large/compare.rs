@@ -195,7 +195,7 @@ fn owed(job: &Job, uneven: bool, wrong: bool) -> Result<Done, u32> {
     if wrong {
         return Err(5);
     }
-    model::run::run(job, model::LANDED)
+    model::run::run(job)
 }
 
 struct Noise {

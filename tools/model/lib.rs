@@ -1,4 +1,5 @@
-//! A plain model of a whole job, written from document 01 alone. One file for each of its sections:
+//! A plain model of a whole job, written from document 01 and from those requests of document 02 that have landed. One file for
+//! each section of document 01:
 //!
 //!   text.rs       One job, one listing
 //!   bounds.rs     Bounds on a job; Reply numbers 1 to 4
@@ -8,8 +9,9 @@
 //!   topology.rs   Topology
 //!   run.rs        The run; Reply numbers 6 to 8
 //!
-//! The requests of document 02 come in one by one. Each is an option that is off until it lands (`LANDED`), so that what a
-//! landing changes in the answers can be told before, and is the request's alone.
+//! The requests of document 02 come in one by one. One that is written here before it lands is an option that is off
+//! (`KNOWN`), so that what its landing changes in the answers can be told before, and is the request's alone. Once it has landed
+//! the option goes, and it stands where document 01 stood.
 //!
 //! Nothing here is meant to be fast. Every f32 operation below is one of IEEE 754 binary32, rounded once: that is
 //! what Rust gives. Reply number 5 speaks of lent buffers; a job's text lends none, so it cannot occur.
@@ -39,14 +41,14 @@ pub struct Job {
     pub pops: u32,
 }
 
-/// Which requests of document 02 are in force, by their numbers.
+/// Which requests of document 02 are in force beyond those that have landed, by their numbers.
 #[derive(Clone, Copy)]
 pub struct Requests(u32);
 
-/// Those that have landed.
+/// No others than those that have landed.
 pub const LANDED: Requests = Requests(0);
 /// Those that the model knows.
-pub const KNOWN: [u32; 3] = [2, 6, 7];
+pub const KNOWN: [u32; 2] = [6, 7];
 
 impl Requests {
     pub fn with(self, number: u32) -> Requests {
@@ -72,7 +74,7 @@ pub struct Done {
     pub names: Vec<u32>,
     /// Crossing counts along x, y, z of each cell.
     pub crossings: Vec<[u32; 3]>,
-    /// Cells with a distance less than zero, for each layer z; from §2 on cells with a sign bit.
+    /// Cells with their sign bit set, for each layer z.
     pub rows: Vec<u32>,
 }
 
@@ -81,8 +83,8 @@ pub fn answer(job: &Job) -> Result<Done, Refusal> {
     answer_with(job, LANDED)
 }
 
-/// The same with other requests in force.
+/// The same with more requests in force.
 pub fn answer_with(job: &Job, requests: Requests) -> Result<Done, Refusal> {
     bounds::check(job, requests)?;
-    run::run(job, requests)
+    run::run(job)
 }

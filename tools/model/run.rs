@@ -2,7 +2,7 @@
 
 use crate::geometry::{self, Point};
 use crate::grid::{floor, Grid, AXES};
-use crate::{order, topology, Done, Job, Refusal, Requests, NONE};
+use crate::{order, topology, Done, Job, Refusal, NONE};
 use std::cmp::Ordering;
 use std::collections::BTreeSet;
 
@@ -21,14 +21,14 @@ struct Run<'a> {
     peak: u32,
 }
 
-pub fn run(job: &Job, requests: Requests) -> Result<Done, Refusal> {
+pub fn run(job: &Job) -> Result<Done, Refusal> {
     let mut run = Run::begin(job);
     run.seeding()?;
     run.queueing()?;
     run.spreading()?;
     let crossings = run.crossings();
     run.signs(&crossings);
-    let rows = run.rows(requests);
+    let rows = run.rows();
     Ok(Done { pops: run.pops, peak: run.peak, field: run.field, names: run.names, crossings, rows })
 }
 
@@ -215,12 +215,11 @@ impl<'a> Run<'a> {
         }
     }
 
-    /// Row z: how many cells of layer z have a distance less than zero. From §2 on: how many have a sign bit.
-    fn rows(&self, requests: Requests) -> Vec<u32> {
-        let inside = |d: f32| if requests.has(2) { d.is_sign_negative() } else { d < 0.0 };
+    /// Row z: how many cells of layer z have their sign bit set, -0 too (document 02, §2).
+    fn rows(&self) -> Vec<u32> {
         let mut rows = vec![0; self.grid.count[2] as usize];
         for index in 0..self.grid.cells() {
-            if inside(self.field[index as usize]) {
+            if self.field[index as usize].is_sign_negative() {
                 rows[self.grid.coordinates(index)[2] as usize] += 1;
             }
         }

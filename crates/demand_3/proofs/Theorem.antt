@@ -31,7 +31,7 @@ pub record Ended (j : Job) (b : Lent) : Type 0 where
 refused-done : (n : ℕ) (t : Tally) → Refused n ≡ Done t → ⊥
 refused-done n t e = let z : _≡_ {A = ℕ} 0 1 = cc in omega arith
 
-done-ended : (j : Job) (b : Lent) (t : Tally) → outcome j b .answer ≡ Done t → Ended j b
+pub done-ended : (j : Job) (b : Lent) (t : Tally) → outcome j b .answer ≡ Done t → Ended j b
 unfolding outcome unlessRefused ended
 done-ended j b t h = check (refusal j b) refl h
   where

@@ -9,7 +9,8 @@ use lib.Dec.{leb, ltb, eqb}
 use lib.IntN.{ℤ, pos, negsuc}
 use lib.ListN.{length, getD}
 use lib.Ieee.{Float, nan, neg}
-use Rattle.float.specs.Arith.{_⊘_, _≺_, f0, if_then_else_}
+use Rattle.float.specs.Arith.{_⊘_, if_then_else_}
+use Rattle.float.specs.Steps.{signBit}
 use Rattle.float_floor.specs.Cell.{floorOf}
 use Rattle.lists.specs.Range.{countBelow, sumBelow}
 use Rattle.lists.specs.Table.{table}
@@ -86,11 +87,13 @@ signed g m field c = if inside g m (cellAt g c) then neg (getD field c nan) else
 unfoldable pub signedField : Grid → Mesh → List Float → List Float
 signedField g m field = table (signed g m field) (total g)
 
--- ---- "Row z: how many cells of layer z have a distance less than zero."
+-- ---- "Row z: how many cells of layer z" are inside: "a cell counts as inside when at least two of its crossing counts are odd, which is
+-- when its sign bit is set" (document 01, "The run"; document 02, §2). So −0 counts, and +0 does not. That the one is when the other is, of
+-- every job answered Done, is shown in crate `row_meaning`.
 
 -- what counts in a row
 abbrev pub counted : Float → Bool
-counted d = d ≺ f0
+counted d = signBit d
 
 -- with what weight a cell's distance is added to its row
 abbrev pub rowWeight : Float → ℕ

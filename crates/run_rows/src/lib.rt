@@ -1,5 +1,5 @@
-// "Row z: how many cells of layer z have a distance less than zero" (document 01). A part of the port: users call
-// `sdf`.
+// The rows: how many cells of each layer are inside. A cell counts "when its sign bit is set" (document 02, §2), -0 too. A part
+// of the port: users call `sdf`.
 use grid::Grid;
 ghost use mathlib.Core.Path.{_≡_};
 ghost use mathlib.Core.Bool.{true};
@@ -16,7 +16,7 @@ ghost use Rattle.run_rows.specs.Column.{ColumnAdded};
 fn counted(d: f32) -> bool
     ensures { λ r. ⌜ r ≡ Signs.counted d ⌝ }
 {
-    d < 0.0
+    float::sign_bit(d)
 }
 
 // Adds the cells of one column, which begin at `base`, each to its row.
