@@ -77,7 +77,7 @@ fn hold_to_field(job: &Job, lent: &Lent) -> Result<(), String> {
     let mut rows = vec![0; lent.rows.len()];
     for (cell, (&value, &name)) in lent.field.iter().zip(&lent.names).enumerate() {
         let at = job.grid.coordinates(cell as u32);
-        rows[at[2] as usize] += u32::from(value < 0.0);
+        rows[at[2] as usize] += u32::from(value.is_sign_negative());
         let owed = match name {
             NONE => f32::MAX,
             name => {
