@@ -1,16 +1,17 @@
 -- "Aligned ray: weights w0, w1, w2 and t exactly as in 001, with the products summed w0, w2, w1. The answer of a ray test is either a
--- miss or a hit carrying its f32 distance t. Hit only if all weights are below 0 or all above 0, and t > 0" (document 01).
--- Definitions only.
-use mathlib.Core.Bool.{Bool, _&&_, _||_}
+-- miss or a hit carrying its f32 distance t. Hit only if all weights are below 0 or all above 0, and t > 0" (document 01). "The ray test
+-- shall have a third reply, grazed: not a hit, at least one weight is 0, and not one above 0 with another below 0 (all three 0
+-- included), wherever t lies" (document 02, §3). Definitions only.
+use mathlib.Core.Bool.{Bool, true, false, not, _&&_, _||_}
 use lib.Ieee.{Float, neg}
-use Rattle.float.specs.Arith.{_⊕_, _⊖_, _⊗_, _⊘_, _≺_, f0, if_then_else_}
+use Rattle.float.specs.Arith.{_⊕_, _⊖_, _⊗_, _⊘_, _≺_, _≐_, f0, if_then_else_}
 use Rattle.point.specs.Point.{_-ᵥ_, turned}
 use Rattle.point.specs.declared.Point.{Point}
 use Rattle.point.specs.declared.Axis.{Axis}
 use Rattle.geo_ray.specs.declared.Three.{Three}
 use Rattle.geo_ray.specs.declared.Cast.{Cast}
 use Rattle.geo_ray.specs.declared.RayHit.{RayHit}
-use Rattle.geo_ray.specs.declared.RayHit.the-variants.{Miss, Hit}
+use Rattle.geo_ray.specs.declared.RayHit.the-variants.{Miss, Grazed, Hit}
 
 -- ---- the test, for a ray along x
 
@@ -35,8 +36,31 @@ allBelow w0 w1 w2 = (w0 ≺ f0) && (w1 ≺ f0) && (w2 ≺ f0)
 abbrev pub allAbove : Float → Float → Float → Bool
 allAbove w0 w1 w2 = (f0 ≺ w0) && (f0 ≺ w1) && (f0 ≺ w2)
 
+-- "Hit only if all weights are below 0 or all above 0, and t > 0"
+abbrev pub hits : Float → Float → Float → Float → Bool
+hits w0 w1 w2 t = (allBelow w0 w1 w2 || allAbove w0 w1 w2) && (f0 ≺ t)
+
+-- "at least one weight is 0": -0 is 0 too
+abbrev pub someZero : Float → Float → Float → Bool
+someZero w0 w1 w2 = (w0 ≐ f0) || (w1 ≐ f0) || (w2 ≐ f0)
+
+-- "one above 0 with another below 0"
+abbrev pub onBothSides : Float → Float → Float → Bool
+onBothSides w0 w1 w2 = ((f0 ≺ w0) || (f0 ≺ w1) || (f0 ≺ w2)) && ((w0 ≺ f0) || (w1 ≺ f0) || (w2 ≺ f0))
+
+abbrev pub grazes : Float → Float → Float → Bool
+grazes w0 w1 w2 = someZero w0 w1 w2 && not (onBothSides w0 w1 w2)
+
 abbrev pub reply : Float → Float → Float → Float → RayHit
-reply w0 w1 w2 t = if allBelow w0 w1 w2 || allAbove w0 w1 w2 then (if f0 ≺ t then Hit t else Miss) else Miss
+reply w0 w1 w2 t =
+    if hits w0 w1 w2 t then Hit t
+    else if grazes w0 w1 w2 then Grazed
+    else Miss
+
+abbrev pub isGrazed : RayHit → Bool
+isGrazed Miss = false
+isGrazed Grazed = true
+isGrazed (Hit t) = false
 
 unfoldable pub rayX : Point → Point → Point → Point → RayHit
 rayX o v0 v1 v2 = let w = weightsX o v0 v1 v2 in reply (w .v0) (w .v1) (w .v2) (reachX o v0 v1 v2)

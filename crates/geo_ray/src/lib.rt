@@ -7,8 +7,10 @@ ghost use Rattle.geo_ray.specs.Ray as Ray;
 use point::Axis;
 use point::Point;
 
+// What a ray meets: nothing; an edge or a corner that it only touches; or the triangle's inside, at t.
 pub enum RayHit {
     Miss,
+    Grazed,
     Hit(f32),
 }
 
@@ -81,6 +83,16 @@ pub fn along_x(f: Cast, x: f32) -> Three
     }
 }
 
+// "At least one weight is 0, and not one above 0 with another below 0."
+fn grazes(w0: f32, w1: f32, w2: f32) -> bool
+    ensures { λ r. ⌜ r ≡ Ray.grazes w0 w1 w2 ⌝ }
+{
+    let zero = (w0 == 0.0) | (w1 == 0.0) | (w2 == 0.0);
+    let above = (w0 > 0.0) | (w1 > 0.0) | (w2 > 0.0);
+    let below = (w0 < 0.0) | (w1 < 0.0) | (w2 < 0.0);
+    zero & !(above & below)
+}
+
 // The test itself, from the three parts.
 pub fn ray_of(zs: Three, ys: Three, xs: Three) -> RayHit
     ensures { λ r. ⌜ r ≡ Ray.rayOf zs ys xs ⌝ }
@@ -98,6 +110,10 @@ pub fn ray_of(zs: Three, ys: Three, xs: Three) -> RayHit
         if t > 0.0 {
             return RayHit::Hit(t);
         }
+        return RayHit::Miss;
+    }
+    if grazes(w0, w1, w2) {
+        return RayHit::Grazed;
     }
     RayHit::Miss
 }

@@ -3,3 +3,4 @@ pub mod Steps
 pub mod Input
 pub mod Signs
 pub mod Good
+pub mod Grazed

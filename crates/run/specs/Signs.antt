@@ -23,7 +23,7 @@ use Rattle.grid.specs.Index.{cellAt, total}
 use Rattle.grid.specs.Layers.{layers, layerOf}
 use Rattle.grid.specs.Place.{centreOf}
 use Rattle.geo_ray.specs.declared.RayHit.{RayHit}
-use Rattle.geo_ray.specs.declared.RayHit.the-variants.{Miss, Hit}
+use Rattle.geo_ray.specs.declared.RayHit.the-variants.{Miss, Grazed, Hit}
 use Rattle.geo_ray.specs.Ray.{rayAligned}
 use Rattle.mesh.specs.declared.Corners.{Corners}
 use Rattle.mesh.specs.Mesh.{Mesh, trianglesIn, cornersAt}
@@ -45,9 +45,11 @@ abbrev pub atMost : ℕ → ℤ → Bool
 atMost i (pos n) = leb i n
 atMost i (negsuc n) = false
 
--- whether what a ray answers reaches cell number i of a line whose cells are `size` long; a miss reaches none
+-- whether what a ray is answered reaches cell number i of a line whose cells are `size` long; a miss reaches none, and a ray that grazed
+-- "still adds no crossing" (document 02, §3)
 abbrev pub reaches : Float → ℕ → RayHit → Bool
 reaches size i Miss = false
+reaches size i Grazed = false
 reaches size i (Hit t) = atMost i (floorOf (t ⊘ size))
 
 unfoldable pub crosses : Grid → Mesh → Axis → Cell → ℕ → Bool

@@ -8,7 +8,9 @@ use mathlib.Core.List.{List}
 use lib.Dec.{leb, eqb}
 use lib.ListN.{length, getD, replicate, length-replicate, getD-replicate, List·getD-eq-default}
 use lib.Ieee.{Float}
-use Rattle.float.specs.Arith.{_⊖_, _⊘_, _≺_, f0}
+use borrow.Author.Tests.{not-false}
+use Rattle.float.specs.Arith.{_⊖_, _⊘_, _≺_, f0, if_then_else_}
+use Rattle.float.proofs.Bools.{and-second}
 use Rattle.float_floor.specs.Cell.{floorOf, cellOf}
 use Rattle.point.specs.declared.Axis.{Axis}
 use Rattle.point.specs.declared.Axis.the-variants.{X, Y, Z}
@@ -20,9 +22,10 @@ use Rattle.grid.specs.Bounds.{inBounds}
 use Rattle.grid.specs.Place.{centreOf}
 use Rattle.grid.proofs.Facts.{bounds-of, on-axis}
 use Rattle.geo_ray.specs.declared.Three.{Three}
-use Rattle.geo_ray.specs.declared.RayHit.the-variants.{Miss, Hit}
-use Rattle.geo_ray.specs.Ray.{allBelow, allAbove, reach, castOf, acrossZ, acrossY, alongX, rayOf}
+use Rattle.geo_ray.specs.declared.RayHit.the-variants.{Miss, Grazed, Hit}
+use Rattle.geo_ray.specs.Ray.{allBelow, allAbove, hits, grazes, reach, castOf, acrossZ, acrossY, alongX, rayOf}
 use Rattle.geo_ray.proofs.Rays.{in-parts}
+use Rattle.geo_ray.proofs.Sides as Sides
 use Rattle.lists.specs.Range.{countBelow}
 use Rattle.lists.proofs.Range.{count-none, count-more, count-le}
 use Rattle.lists.proofs.Table.{is-table}
@@ -31,16 +34,16 @@ use Rattle.mesh.specs.Mesh.{Mesh, trianglesIn, cornersAt}
 use Rattle.run.specs.Signs.{axisAt, rayFrom, crosses, crossings, crossingsAt, allCrossings}
 use Rattle.slices.specs.Counts.{Room}
 use Rattle.run_cross_lines.specs.Lines.{uOf, vOf, centreAlong, entryOf}
-use Rattle.run_cross_lines.specs.Pass.{Grown, same, onLine, lineCrossed, hitOn, crossedBy, mayHit, ahead, Across, castHit}
+use Rattle.run_cross_lines.specs.Pass.{Grown, same, onLine, lineCrossed, hitOn, crossedBy, mayMeet, ahead, Across, castHit}
 use Rattle.run_cross_lines.proofs.Entries.{inside-on, entry-below, inside-at, entry-at}
 use Rattle.run_cross_lines.proofs.Grown.{grown-as}
 use Rattle.run_cross_lines.proofs.Reach.{reached}
 
 -- ---- the answer
 
-pub must-miss : (zs ys xs : Three) → mayHit zs ys ≡ false → rayOf zs ys xs ≡ Miss
-unfolding mayHit rayOf
-must-miss zs ys xs h = rw h
+pub must-miss : (zs ys xs : Three) → mayMeet zs ys ≡ false → rayOf zs ys xs ≡ Miss
+unfolding mayMeet rayOf
+must-miss zs ys xs h = Sides.must-miss _ _ _ _ (not-false _ h)
 
 pub hit-ahead : (zs ys xs : Three) → ahead (rayOf zs ys xs) ≡ true
 unfolding rayOf
@@ -48,15 +51,13 @@ hit-ahead zs ys xs =
     let w0 = zs .v0 ⊖ ys .v0 in
     let w1 = zs .v1 ⊖ ys .v1 in
     let w2 = zs .v2 ⊖ ys .v2 in
-    go (allBelow w0 w1 w2 || allAbove w0 w1 w2) (reach w0 w1 w2 (xs .v0) (xs .v1) (xs .v2))
+    let t = reach w0 w1 w2 (xs .v0) (xs .v1) (xs .v2) in
+    go t (hits w0 w1 w2 t) (grazes w0 w1 w2) (and-second (allBelow w0 w1 w2 || allAbove w0 w1 w2) (f0 ≺ t))
   where
-    inner : (t : Float) (e : Bool) → f0 ≺ t ≡ e → ahead (cond e (Hit t) Miss) ≡ true
-    inner t true h = h
-    inner t false h = refl
-
-    go : (b : Bool) (t : Float) → ahead (cond b (cond (f0 ≺ t) (Hit t) Miss) Miss) ≡ true
-    go true t = inner t (f0 ≺ t) refl
-    go false t = refl
+    go : (t : Float) (b c : Bool) → (b ≡ true → f0 ≺ t ≡ true) → ahead (if b then Hit t else if c then Grazed else Miss) ≡ true
+    go t true c h = h refl
+    go t false true h = refl
+    go t false false h = refl
 
 -- a hit reaches the cells of its line up to the cell of the quotient
 pub hit-grown : (g : Grid) (axis : Axis) (u v last : ℕ) (t : Float) {l m : List ℕ} → inBounds g ≡ true → f0 ≺ t ≡ true

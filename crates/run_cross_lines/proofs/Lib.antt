@@ -4,3 +4,4 @@ pub mod Grown
 pub mod Marks
 pub mod Reach
 pub mod Hits
+pub mod Grazing

@@ -17,7 +17,7 @@ use Rattle.geo_ray.specs.declared.Three.{Three}
 use Rattle.geo_ray.specs.declared.Cast.{Cast}
 use Rattle.geo_ray.specs.Ray.{acrossZ}
 use Rattle.run_cross_lines.specs.Lines.{centreAlong}
-use Rattle.run_cross_lines.specs.Pass.{partsAt, mayHit, Across, Marked}
+use Rattle.run_cross_lines.specs.Pass.{partsAt, mayMeet, Across, Marked}
 
 -- ---- the parts of the weights
 
@@ -40,15 +40,15 @@ across-more g axis f i z0 z1 z2 part h0 h1 h2 e s = record { each = λ v h. go v
 pub marked-none : (z0 z1 z2 : List Float) (ys : Three) (flags : List Bool) → Marked z0 z1 z2 ys 0 flags
 marked-none z0 z1 z2 ys flags = record { each = λ v h. absurd (not-suc-le-zero h) }
 
-pub marked-more : (z0 z1 z2 : List Float) (ys : Three) (i : ℕ) (flags : List Bool) (flag : Bool) → i < length flags → flag ≡ mayHit (partsAt z0 z1 z2 i) ys
+pub marked-more : (z0 z1 z2 : List Float) (ys : Three) (i : ℕ) (flags : List Bool) (flag : Bool) → i < length flags → flag ≡ mayMeet (partsAt z0 z1 z2 i) ys
     → Marked z0 z1 z2 ys i flags → Marked z0 z1 z2 ys (i + 1) (set flags i flag)
 marked-more z0 z1 z2 ys i flags flag l e s = record { each = λ v h. go v h (ℕ-discrete v i) }
   where
-    go : (v : ℕ) → v < i + 1 → Dec (v ≡ i) → getD (set flags i flag) v false ≡ mayHit (partsAt z0 z1 z2 v) ys
-    go v h (yes q) = stored-at false flags i v flag l q ∙ e ∙ ap (λ (k : ℕ). mayHit (partsAt z0 z1 z2 k) ys) (sym q)
+    go : (v : ℕ) → v < i + 1 → Dec (v ≡ i) → getD (set flags i flag) v false ≡ mayMeet (partsAt z0 z1 z2 v) ys
+    go v h (yes q) = stored-at false flags i v flag l q ∙ e ∙ ap (λ (k : ℕ). mayMeet (partsAt z0 z1 z2 k) ys) (sym q)
     go v h (no q) = getD-set-other flags i v flag false q ∙ s .each v (omega arith)
 
--- while nothing is marked, no line may be hit
+-- while nothing is marked, no line may be met
 pub none-marked : (p : ℕ → Bool) (any flag : Bool) (i : ℕ) → flag ≡ p i → (any ≡ false → (v : ℕ) → v < i → p v ≡ false)
     → (any || flag) ≡ false → (v : ℕ) → v < i + 1 → p v ≡ false
 none-marked p true flag i e h n = absurd (true≢false n)

@@ -1,13 +1,14 @@
 -- What the parts of the crossing pass leave behind: each entry as it was, or one more. Definitions only.
 use Prim.Native.Nat.{ℕ, _+_, _<_}
 use mathlib.Core.Path.{_≡_}
-use mathlib.Core.Bool.{Bool, true, false, cond, _&&_, _||_}
+use mathlib.Core.Bool.{Bool, true, false, cond, not, _&&_}
 use mathlib.Core.List.{List}
 use lib.Dec.{leb, eqb}
 use lib.ListN.{length, getD}
 use lib.Ieee.{Float, nan}
 use Rattle.float.specs.Arith.{_⊖_, _≺_, f0}
 use Rattle.point.specs.declared.Axis.{Axis}
+use Rattle.point.specs.declared.Axis.the-variants.{X, Y, Z}
 use Rattle.grid.specs.declared.Grid.{Grid}
 use Rattle.grid.specs.declared.Cell.{Cell}
 use Rattle.grid.specs.Axes.{sizeOn, cellOn, next, cellFrom}
@@ -16,10 +17,11 @@ use Rattle.grid.specs.Place.{centreOf}
 use Rattle.geo_ray.specs.declared.Three.{Three}
 use Rattle.geo_ray.specs.declared.Cast.{Cast}
 use Rattle.geo_ray.specs.declared.RayHit.{RayHit}
-use Rattle.geo_ray.specs.declared.RayHit.the-variants.{Miss, Hit}
-use Rattle.geo_ray.specs.Ray.{allBelow, allAbove, acrossZ, acrossY, alongX, rayOf, rayAligned}
+use Rattle.geo_ray.specs.declared.RayHit.the-variants.{Miss, Grazed, Hit}
+use Rattle.geo_ray.specs.Ray.{onBothSides, acrossZ, acrossY, alongX, rayOf, rayAligned}
 use Rattle.mesh.specs.declared.Corners.{Corners}
 use Rattle.run.specs.Signs.{reaches}
+use Rattle.run.specs.Grazed.{grazedOn}
 use Rattle.run_cross_lines.specs.Lines.{uOf, vOf, centreAlong, axisNumber, entryOf}
 
 -- ---- entries that grow by one
@@ -56,32 +58,35 @@ hitOn g t axis u v = rayAligned (centreOf g (cellFrom axis 0 u v)) (t .a) (t .b)
 unfoldable pub crossedBy : Grid → Corners → Axis → Cell → Bool
 crossedBy g t axis c = reaches (sizeOn axis g) (cellOn axis c) (hitOn g t axis (uOf axis c) (vOf axis c))
 
+-- ---- the rays that graze
+
+-- how many rays of the three axes graze a triangle
+unfoldable pub grazedBy : Grid → Corners → ℕ
+grazedBy g t = grazedOn g X (hitOn g t X) + grazedOn g Y (hitOn g t Y) + grazedOn g Z (hitOn g t Z)
+
 -- ---- the ray test in a row of lines
 
 -- the parts of the weights of line v
 abbrev pub partsAt : List Float → List Float → List Float → ℕ → Three
 partsAt z0 z1 z2 v = record { v0 = getD z0 v nan; v1 = getD z1 v nan; v2 = getD z2 v nan }
 
--- the weights are all below 0 or all above 0. Else the ray misses.
-unfoldable pub mayHit : Three → Three → Bool
-mayHit zs ys =
-    let w0 = zs .v0 ⊖ ys .v0 in
-    let w1 = zs .v1 ⊖ ys .v1 in
-    let w2 = zs .v2 ⊖ ys .v2 in
-    allBelow w0 w1 w2 || allAbove w0 w1 w2
+-- no weight is above 0 with another below 0. Else the ray misses: it neither hits nor grazes.
+unfoldable pub mayMeet : Three → Three → Bool
+mayMeet zs ys = not (onBothSides (zs .v0 ⊖ ys .v0) (zs .v1 ⊖ ys .v1) (zs .v2 ⊖ ys .v2))
 
 -- a hit lies ahead of the ray's origin
 abbrev pub ahead : RayHit → Bool
 ahead Miss = true
+ahead Grazed = true
 ahead (Hit t) = f0 ≺ t
 
 -- the parts of the weights on the lines of a row, worked out once for a triangle
 pub record Across (g : Grid) (axis : Axis) (f : Cast) (count : ℕ) (z0 z1 z2 : List Float) : Type 0 where
   pub each : (v : ℕ) → v < count → partsAt z0 z1 z2 v ≡ acrossZ f (centreAlong g axis v)
 
--- the lines of a row that may be hit are marked
+-- the lines of a row that a hit or a graze may be on are marked
 pub record Marked (z0 z1 z2 : List Float) (ys : Three) (count : ℕ) (flags : List Bool) : Type 0 where
-  pub each : (v : ℕ) → v < count → getD flags v false ≡ mayHit (partsAt z0 z1 z2 v) ys
+  pub each : (v : ℕ) → v < count → getD flags v false ≡ mayMeet (partsAt z0 z1 z2 v) ys
 
 -- the answers on the lines of a row
 abbrev pub rowHit : List Float → List Float → List Float → Three → Three → ℕ → RayHit
