@@ -17,9 +17,14 @@ use Rattle.run.specs.Signs.{rayFrom}
 abbrev pub grazedInRow : ℕ → (ℕ → RayHit) → ℕ
 grazedInRow count answer = countBelow (λ v. isGrazed (answer v)) count
 
--- of all rays along an axis. A starting cell has number 0 on the axis, u on the next, and v on the one after that.
+-- of the first `rows` rows of rays along an axis. A starting cell has number 0 on the axis, u on the next, which is its row, and v on the
+-- one after that.
+abbrev pub grazedInRows : Grid → Axis → ℕ → (ℕ → ℕ → RayHit) → ℕ
+grazedInRows g axis rows answer = sumBelow (λ u. grazedInRow (countOn (next (next axis)) g) (answer u)) rows
+
+-- of all rays along an axis
 abbrev pub grazedOn : Grid → Axis → (ℕ → ℕ → RayHit) → ℕ
-grazedOn g axis answer = sumBelow (λ u. grazedInRow (countOn (next (next axis)) g) (answer u)) (countOn (next axis) g)
+grazedOn g axis answer = grazedInRows g axis (countOn (next axis) g) answer
 
 -- how many rays along the axis graze triangle k
 unfoldable pub grazedAlong : Grid → Mesh → Axis → ℕ → ℕ

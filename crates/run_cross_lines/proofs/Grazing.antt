@@ -13,17 +13,25 @@ use Rattle.grid.specs.Axes.{countOn, next}
 use Rattle.grid.specs.Bounds.{inBounds}
 use Rattle.grid.proofs.Facts.{bounds-of, on-axis}
 use Rattle.geo_ray.specs.declared.RayHit.{RayHit}
-use Rattle.geo_ray.specs.declared.RayHit.the-variants.{Miss}
+use Rattle.geo_ray.specs.declared.RayHit.the-variants.{Miss, Grazed, Hit}
 use Rattle.geo_ray.specs.Ray.{isGrazed}
 use Rattle.lists.specs.Range.{sumBelow}
-use Rattle.lists.proofs.Range.{count-none, count-more, count-le, count-failed, count-same, sum-le, sum-same}
+use Rattle.lists.proofs.Range.{count-none, count-more, count-le, count-failed, count-same, sum-none, sum-more, sum-le, sum-same}
 use Rattle.mesh.specs.declared.Corners.{Corners}
 use Rattle.mesh.specs.Mesh.{Mesh, trianglesIn, cornersAt}
 use Rattle.run.specs.Signs.{rayFrom}
-use Rattle.run.specs.Grazed.{grazedInRow, grazedOn, grazedAlong, grazed}
+use Rattle.run.specs.Grazed.{grazedInRow, grazedInRows, grazedOn, grazedAlong, grazed}
 use Rattle.run_cross_lines.specs.Pass.{hitOn, grazedBy}
 
 -- ---- a row
+
+pub line-grazed-le : (hit : RayHit) → cond (isGrazed hit) 1 0 ≤ 1
+line-grazed-le Miss = omega arith
+line-grazed-le Grazed = omega arith
+line-grazed-le (Hit t) = omega arith
+
+pub row-grazed-first : (hit : ℕ → RayHit) → 0 ≡ grazedInRow 0 hit
+row-grazed-first hit = sym (count-none (λ i. isGrazed (hit i)))
 
 -- one line more
 pub row-grazed-more : (hit : ℕ → RayHit) (v : ℕ) → grazedInRow (v + 1) hit ≡ grazedInRow v hit + cond (isGrazed (hit v)) 1 0
@@ -35,7 +43,7 @@ row-grazed-missed hit v e = count-failed (λ i. isGrazed (hit i)) v (ap isGrazed
 
 -- lines that are all missed
 pub row-grazed-none : (hit : ℕ → RayHit) (count : ℕ) → ((v : ℕ) → v < count → hit v ≡ Miss) → grazedInRow count hit ≡ 0
-row-grazed-none hit zero h = count-none (λ i. isGrazed (hit i))
+row-grazed-none hit zero h = sym (row-grazed-first hit)
 row-grazed-none hit (suc k) h =
     ap (λ (n : ℕ). grazedInRow n hit) (sym (add-one k))
     ∙ row-grazed-missed hit k (h k (omega arith))
@@ -52,9 +60,15 @@ pub axis-grazed-as : (g : Grid) (axis : Axis) (p q : ℕ → ℕ → RayHit) →
 axis-grazed-as g axis p q h =
     sum-same _ _ (countOn (next axis) g) (λ u l. count-same _ _ (countOn (next (next axis)) g) (λ v k. ap isGrazed (h u v k)))
 
--- the rows before u
-pub rows-grazed-le : (g : Grid) (axis : Axis) (hit : ℕ → ℕ → RayHit) (u : ℕ) → inBounds g ≡ true
-    → sumBelow (λ i. grazedInRow (countOn (next (next axis)) g) (hit i)) u ≤ u * 1024
+pub rows-grazed-first : (g : Grid) (axis : Axis) (hit : ℕ → ℕ → RayHit) → 0 ≡ grazedInRows g axis 0 hit
+rows-grazed-first g axis hit = sym (sum-none (λ u. grazedInRow (countOn (next (next axis)) g) (hit u)))
+
+-- one row more
+pub rows-grazed-more : (g : Grid) (axis : Axis) (hit : ℕ → ℕ → RayHit) (u : ℕ)
+    → grazedInRows g axis (u + 1) hit ≡ grazedInRows g axis u hit + grazedInRow (countOn (next (next axis)) g) (hit u)
+rows-grazed-more g axis hit u = sum-more (λ i. grazedInRow (countOn (next (next axis)) g) (hit i)) u
+
+pub rows-grazed-le : (g : Grid) (axis : Axis) (hit : ℕ → ℕ → RayHit) (u : ℕ) → inBounds g ≡ true → grazedInRows g axis u hit ≤ u * 1024
 rows-grazed-le g axis hit u b =
     sum-le _ 1024 u (λ i h. omega (arith, row-grazed-le (hit i) (countOn (next (next axis)) g), on-axis (bounds-of g b) (next (next axis)) .few))
 

@@ -162,9 +162,10 @@ pub row-all : (g : Grid) (axis : Axis) (u v : ℕ) (hit : ℕ → RayHit) {l m :
 row-all g axis u v hit h s =
     grown-as (λ a c w. ap (λ (b : Bool). b && rowCrossed g axis u hit a c) (lt-ltb (vOf axis c) v (omega (arith, inside-on g w (next (next axis)))))) s
 
--- a line that is missed adds nothing
-pub line-missed : (g : Grid) (axis : Axis) (u v : ℕ) (hit : RayHit) (l : List ℕ) → hit ≡ Miss → Grown g (lineCrossed g axis u v hit) l l
-line-missed g axis u v hit l e = grown-none l (λ a c w. rw (e, and-false (eqb (vOf axis c) v), and-false))
+-- a line whose ray reaches no cell adds nothing
+pub line-passed : (g : Grid) (axis : Axis) (u v : ℕ) (hit : RayHit) (l : List ℕ) → ((i : ℕ) → reaches (sizeOn axis g) i hit ≡ false)
+    → Grown g (lineCrossed g axis u v hit) l l
+line-passed g axis u v hit l h = grown-none l (λ a c w. rw (h (cellOn axis c), and-false (eqb (vOf axis c) v), and-false))
 
 -- a row of lines that are all missed adds nothing
 pub row-missed : (g : Grid) (axis : Axis) (u : ℕ) (hit : ℕ → RayHit) (l : List ℕ) → ((v : ℕ) → v < countOn (next (next axis)) g → hit v ≡ Miss)
@@ -192,10 +193,6 @@ axis-all g axis u hit h s =
     grown-as (λ a c w. ap (λ (b : Bool). b && axisCrossed g axis hit a c) (lt-ltb (uOf axis c) u (omega (arith, inside-on g w (next axis))))) s
 
 -- other answers that are the same on the grid's lines
-pub row-as : (g : Grid) (axis : Axis) (u : ℕ) (p q : ℕ → RayHit) {l m : List ℕ} → ((v : ℕ) → p v ≡ q v) → Grown g (rowCrossed g axis u p) l m → Grown g (rowCrossed g axis u q) l m
-row-as g axis u p q h s =
-    grown-as (λ a c w. ap (λ (r : RayHit). (same a axis && eqb (uOf axis c) u) && reaches (sizeOn axis g) (cellOn axis c) r) (h (vOf axis c))) s
-
 pub axis-as : (g : Grid) (axis : Axis) (p q : ℕ → ℕ → RayHit) {l m : List ℕ} → ((u v : ℕ) → v < countOn (next (next axis)) g → p u v ≡ q u v)
     → Grown g (axisCrossed g axis p) l m → Grown g (axisCrossed g axis q) l m
 axis-as g axis p q h s =

@@ -1,5 +1,5 @@
-// Which lines of a row may be hit: of the crossing pass what depends on the triangle and one of a line's two
-// numbers is worked out once, and a loop over the lines of a row only tells which may be hit. It has no branch, so
+// Which lines of a row may be hit or grazed: of the crossing pass what depends on the triangle and one of a line's two
+// numbers is worked out once, and a loop over the lines of a row only tells which are to be asked. It has no branch, so
 // that it is compiled to vector code. A part of the port: users call `sdf`.
 use geo_ray::Cast;
 use geo_ray::Three;
@@ -11,7 +11,7 @@ ghost use Prim.Native.Nat.{ℕ, _<_, _≤_};
 ghost use lib.ListN.{length};
 ghost use Rattle.grid.specs.Axes.{countOn};
 ghost use Rattle.grid.specs.Bounds.{inBounds};
-ghost use Rattle.run_cross_lines.specs.Pass.{partsAt, mayHit, Across, Marked};
+ghost use Rattle.run_cross_lines.specs.Pass.{partsAt, mayMeet, Across, Marked};
 
 // Line v of a row: the parts of its weights.
 pub fn three_at(z0: &[f32], z1: &[f32], z2: &[f32], v: usize) -> Three
@@ -24,16 +24,16 @@ pub fn three_at(z0: &[f32], z1: &[f32], z2: &[f32], v: usize) -> Three
     Three { v0, v1, v2 }
 }
 
-// Whether all weights are below 0 or all above 0, as every hit has them.
-fn may_hit(zs: Three, ys: Three) -> bool
-    ensures { λ r. ⌜ r ≡ mayHit zs ys ⌝ }
+// Whether no weight is above 0 with another below 0, as every hit and every graze has them.
+fn may_meet(zs: Three, ys: Three) -> bool
+    ensures { λ r. ⌜ r ≡ mayMeet zs ys ⌝ }
 {
     let w0 = zs.v0 - ys.v0;
     let w1 = zs.v1 - ys.v1;
     let w2 = zs.v2 - ys.v2;
-    let below = (w0 < 0.0) & (w1 < 0.0) & (w2 < 0.0);
-    let above = (w0 > 0.0) & (w1 > 0.0) & (w2 > 0.0);
-    below | above
+    let above = (w0 > 0.0) | (w1 > 0.0) | (w2 > 0.0);
+    let below = (w0 < 0.0) | (w1 < 0.0) | (w2 < 0.0);
+    !(above & below)
 }
 
 // The parts of the weights that depend on v, for every line of a row. The axis is that along which v counts.
@@ -61,7 +61,7 @@ pub fn fill_across(
     }
 }
 
-// Marks the lines of a row that may be hit, and tells whether there are any.
+// Marks the lines of a row that may be hit or grazed, and tells whether there are any.
 pub fn mark_row(
     z0: &[f32],
     z1: &[f32],
@@ -75,12 +75,12 @@ pub fn mark_row(
     ensures { λ r. ⌜ Marked (now (z0 .entry)) (now (z1 .entry)) (now (z2 .entry)) ys count (now (flags .exit)) ⌝ }
     ensures { λ r.
         let parts = partsAt (now (z0 .entry)) (now (z1 .entry)) (now (z2 .entry)) in
-        ⌜ (r ≡ false → (v : ℕ) → v < count → mayHit (parts v) ys ≡ false) ⌝ }
+        ⌜ (r ≡ false → (v : ℕ) → v < count → mayMeet (parts v) ys ≡ false) ⌝ }
 {
     let mut any = false;
     let mut v = 0;
     while v < count {
-        let flag = may_hit(three_at(z0, z1, z2, v), ys);
+        let flag = may_meet(three_at(z0, z1, z2, v), ys);
         flags[v] = flag;
         any = any | flag;
         v += 1;

@@ -8,10 +8,11 @@ ghost use Prim.Native.Nat.{_*_, _≤_};
 ghost use lib.ListN.{length};
 ghost use Rattle.grid.specs.Index.{total};
 ghost use Rattle.grid.specs.Bounds.{inBounds};
+ghost use Rattle.run.specs.Grazed.{grazedOn};
 ghost use Rattle.slices.specs.Counts.{Room};
 ghost use Rattle.run_cross_lines.specs.Pass.{Grown, axisCrossed, castHit};
 
-// The rows of lines along the axis, against a triangle that is made ready for them.
+// The rows of lines along the axis, against a triangle that is made ready for them. Tells how many lines graze it.
 pub fn cross_rows(
     grid: Grid,
     axis: Axis,
@@ -21,7 +22,7 @@ pub fn cross_rows(
     z2: &[f32],
     flags: &mut [bool],
     crossings: &mut [u32],
-)
+) -> u64
     requires { ⌜ inBounds grid ≡ true ⌝ }
     requires { ⌜ (1024 ≤ length (now z0)) × (1024 ≤ length (now z1)) × (1024 ≤ length (now z2)) ×
         (1024 ≤ length (now flags)) ⌝ }
@@ -31,14 +32,19 @@ pub fn cross_rows(
         ⌜ Grown grid
         (axisCrossed grid axis (castHit grid axis cast (now (z0 .entry)) (now (z1 .entry)) (now (z2 .entry))))
         (now (crossings .entry)) (now (crossings .exit)) ⌝ }
+    ensures { λ r.
+        let hit = castHit grid axis cast (now (z0 .entry)) (now (z1 .entry)) (now (z2 .entry)) in
+        ⌜ r ≡ grazedOn grid axis hit ⌝ }
 {
     let xs = geo_ray::along_x(cast, run_cross_lines::centre(grid, axis, 0));
     let across = run_cross_lines::next(axis);
     let count = grid::parts::count_on(grid, across);
     let mut u: u32 = 0;
+    let mut grazed: u64 = 0;
     while u < count {
         let ys = geo_ray::across_y(cast, run_cross_lines::centre(grid, across, u));
-        run_cross_hits::cross_row(grid, axis, u, z0, z1, z2, ys, xs, flags, crossings);
+        grazed += run_cross_hits::cross_row(grid, axis, u, z0, z1, z2, ys, xs, flags, crossings);
         u += 1;
     }
+    grazed
 }

@@ -1,8 +1,8 @@
--- `run_cross_hits::cross_line`: a miss reaches no cell; a hit reaches those up to the cell of its quotient
+-- `run_cross_hits::cross_line`: a miss and a graze reach no cell; a hit reaches those up to the cell of its quotient
 -- (`crates/run_cross_lines/proofs/Hits.antt`). Assumes nothing.
 use borrow.Author.Needs.{needs}
 use Prim.Native.Nat.{ℕ}
-use mathlib.Core.Path.{_≡_, sym, ap, ap₂, _∙_}
+use mathlib.Core.Path.{_≡_, refl, sym, ap, ap₂, _∙_}
 use mathlib.Core.Bool.{true}
 use lib.IntN.{ℤ}
 use lib.Ieee.{Float}
@@ -12,7 +12,7 @@ use Rattle.float_floor.proofs.Floors.{cell-lt}
 use Rattle.grid.specs.Axes.{countOn, sizeOn}
 use Rattle.grid.proofs.Facts.{bounds-of, on-axis}
 use Rattle.run_cross_lines.specs.Pass.{ahead}
-use Rattle.run_cross_lines.proofs.Grown.{line-missed}
+use Rattle.run_cross_lines.proofs.Grown.{line-passed}
 use Rattle.run_cross_lines.proofs.Hits.{hit-grown}
 use Rattle.run_cross_hits.proofs.cross_line.Statement.{statement}
 use Rattle.run_cross_hits.proofs.cross_line.Tie as tie
@@ -54,21 +54,29 @@ returns : tie.Need-returns
 returns c =
     let s : tie.Start = search in
     let a = s .args in
-    line-missed (a .grid) (a .axis) (a .u) (a .v) (a .hit) (a .crossings .now) (c .enum-told .given .1)
+    (line-passed (a .grid) (a .axis) (a .u) (a .v) (a .hit) (a .crossings .now) (λ i. rw (c .enum-told .given .1)), rw (c .enum-told .given .1))
 
 returns-2 : tie.Need-returns-2
 returns-2 c =
+    let s : tie.Start = search in
+    let a = s .args in
+    (line-passed (a .grid) (a .axis) (a .u) (a .v) (a .hit) (a .crossings .now) (λ i. rw (c .enum-told2 .given .1)), rw (c .enum-told2 .given .1))
+
+returns-3 : tie.Need-returns-3
+returns-3 c =
     let added : tie.After-add-line = search in
     let found = added .before .before in
     let h = known found in
     let a = entry h .args in
-    rw (h .hit .given .1)
-    (hit-grown (a .grid) (a .axis) (a .u) (a .v) (found .cell .result .index) (h .hit .given .0 .0) (entry h .pre .0) (in-front h) (last-is found)
-    (added .add-line .ensures))
+    rw (h .hit .given .1) (
+      hit-grown (a .grid) (a .axis) (a .u) (a .v) (found .cell .result .index) (h .hit .given .0 .0) (entry h .pre .0) (in-front h) (last-is found)
+      (added .add-line .ensures),
+      refl,
+    )
 
 pub cross-line-spec : {M : Type 1} → statement M
 cross-line-spec =
     tie.close (tie.spec
-    (λ c. search needs) (λ c. search needs) (λ c κs. search needs) (λ c κs. search needs)
-    (λ c κs. search needs) add-line-requires returns
-    (λ c. search needs) returns-2)
+    (λ c. search needs) (λ c. search needs) (λ c. search needs) (λ c κs. search needs) (λ c κs. search needs)
+    (λ c κs. search needs) add-line-requires returns returns-2
+    (λ c. search needs) returns-3)

@@ -1,13 +1,15 @@
 -- `run_cross_hits::cross_row`: where no line is marked every line is missed, and nothing is to be added. Assumes nothing.
 use borrow.Author.Needs.{needs}
-use Prim.Native.Nat.{_≤_}
+use Prim.Native.Nat.{ℕ, _≤_, _<_}
 use native.Mathlib.Omega.{arith}
-use mathlib.Core.Path.{_≡_, ap, _∙_}
+use mathlib.Core.Path.{_≡_, sym, ap, _∙_}
 use Rattle.grid.specs.Axes.{countOn, next}
 use Rattle.grid.proofs.Facts.{bounds-of, on-axis}
+use Rattle.geo_ray.specs.declared.RayHit.the-variants.{Miss}
 use Rattle.run_cross_lines.specs.Pass.{partsAt, rowHit}
 use Rattle.run_cross_lines.proofs.Grown.{row-missed}
 use Rattle.run_cross_lines.proofs.Hits.{must-miss}
+use Rattle.run_cross_lines.proofs.Grazing.{row-grazed-none}
 use Rattle.run_cross_hits.proofs.cross_row.Statement.{statement}
 use Rattle.run_cross_hits.proofs.cross_row.Tie as tie
 
@@ -42,10 +44,13 @@ cross-marked-requires c κs =
 returns-2 : tie.Need-returns-2
 returns-2 c =
     let m = c .before .before .before in
-    let s = entry (m .before .before) in
-    let a = s .args in
-    row-missed (a .grid) (a .axis) (a .u) (rowHit (a .z0 .now) (a .z1 .now) (a .z2 .now) (a .ys) (a .xs)) (a .crossings .now)
-    (λ v h. must-miss (partsAt (a .z0 .now) (a .z1 .now) (a .z2 .now) v) (a .ys) (a .xs) (m .mark-row .ensures .1 (c .if1 .left) v (omega (arith, counted (m .before .before)))))
+    let a = entry (m .before .before) .args in
+    let hit = rowHit (a .z0 .now) (a .z1 .now) (a .z2 .now) (a .ys) (a .xs) in
+    let lines = countOn (next (next (a .axis))) (a .grid) in
+    let missed : (v : ℕ) → v < lines → hit v ≡ Miss =
+        λ v h. must-miss (partsAt (a .z0 .now) (a .z1 .now) (a .z2 .now) v) (a .ys) (a .xs)
+        (m .mark-row .ensures .1 (c .if1 .left) v (omega (arith, counted (m .before .before)))) in
+    (row-missed (a .grid) (a .axis) (a .u) hit (a .crossings .now) missed, sym (row-grazed-none hit lines missed))
 
 pub cross-row-spec : {M : Type 1} → statement M
 cross-row-spec =
