@@ -1,7 +1,7 @@
 // The crossing counts: for each cell and axis the number of triangles whose hit reaches the cell (document 01, "The
-// run", 4). The triangle is outside and the lines are inside, so that what depends on the triangle alone, or on the
+// run", 4); and how many rays graze a triangle, over all (document 02, §3). The triangle is outside and the lines are inside, so that what depends on the triangle alone, or on the
 // triangle and one of a line's two numbers, is worked out once. A part of the port: users call `sdf`. `run_cross_lines` says
-// which cells a line along an axis has, `run_cross_marks` which lines of a row may be hit, `run_cross_hits` counts them, and
+// which cells a line along an axis has, `run_cross_marks` which lines of a row may be hit or grazed, `run_cross_hits` counts them, and
 // `run_cross_rows` takes the rows one after the other.
 use grid::Grid;
 use mesh::Corners;
@@ -16,10 +16,11 @@ ghost use Rattle.grid.specs.Index.{total};
 ghost use Rattle.grid.specs.Bounds.{inBounds};
 ghost use Rattle.mesh.specs.Mesh.{meshOf, trianglesIn, Sound};
 ghost use Rattle.run.specs.Signs.{allCrossings};
+ghost use Rattle.run.specs.Grazed.{grazedOn, grazed};
 ghost use Rattle.slices.specs.Counts.{Room};
-ghost use Rattle.run_cross_lines.specs.Pass.{Grown, axisCrossed, hitOn, crossedBy};
+ghost use Rattle.run_cross_lines.specs.Pass.{Grown, axisCrossed, hitOn, crossedBy, grazedBy};
 
-// The lines along the axis, against a triangle.
+// The lines along the axis, against a triangle. Tells how many graze it.
 fn cross_along(
     grid: Grid,
     axis: Axis,
@@ -29,17 +30,18 @@ fn cross_along(
     z2: &mut [f32],
     flags: &mut [bool],
     crossings: &mut [u32],
-)
+) -> u64
     requires { ⌜ inBounds grid ≡ true ⌝ }
     requires { ⌜ (1024 ≤ length (now z0)) × (1024 ≤ length (now z1)) × (1024 ≤ length (now z2)) ×
         (1024 ≤ length (now flags)) ⌝ }
     requires { ⌜ length (now crossings) ≡ 3 * total grid ⌝ }
     requires { ⌜ Room 3 (now crossings) ⌝ }
     ensures { λ _. ⌜ Grown grid (axisCrossed grid axis (hitOn grid t axis)) (now (crossings .entry)) (now (crossings .exit)) ⌝ }
+    ensures { λ r. ⌜ r ≡ grazedOn grid axis (hitOn grid t axis) ⌝ }
 {
     let cast = geo_ray::cast_of(axis, t.a, t.b, t.c);
     run_cross_marks::fill_across(grid, run_cross_lines::second(axis), cast, z0, z1, z2);
-    run_cross_rows::cross_rows(grid, axis, cast, z0, z1, z2, flags, crossings);
+    run_cross_rows::cross_rows(grid, axis, cast, z0, z1, z2, flags, crossings)
 }
 
 // The lines along all three axes.
@@ -51,17 +53,19 @@ fn cross_triangle(
     z2: &mut [f32],
     flags: &mut [bool],
     crossings: &mut [u32],
-)
+) -> u64
     requires { ⌜ inBounds grid ≡ true ⌝ }
     requires { ⌜ (1024 ≤ length (now z0)) × (1024 ≤ length (now z1)) × (1024 ≤ length (now z2)) ×
         (1024 ≤ length (now flags)) ⌝ }
     requires { ⌜ length (now crossings) ≡ 3 * total grid ⌝ }
     requires { ⌜ Room 5 (now crossings) ⌝ }
     ensures { λ _. ⌜ Grown grid (crossedBy grid t) (now (crossings .entry)) (now (crossings .exit)) ⌝ }
+    ensures { λ r. ⌜ r ≡ grazedBy grid t ⌝ }
 {
-    cross_along(grid, Axis::X, t, z0, z1, z2, flags, crossings);
-    cross_along(grid, Axis::Y, t, z0, z1, z2, flags, crossings);
-    cross_along(grid, Axis::Z, t, z0, z1, z2, flags, crossings);
+    let x = cross_along(grid, Axis::X, t, z0, z1, z2, flags, crossings);
+    let y = cross_along(grid, Axis::Y, t, z0, z1, z2, flags, crossings);
+    let z = cross_along(grid, Axis::Z, t, z0, z1, z2, flags, crossings);
+    x + y + z
 }
 
 // All triangles, one after the other.
@@ -76,7 +80,7 @@ fn cross_all(
     z2: &mut [f32],
     flags: &mut [bool],
     crossings: &mut [u32],
-)
+) -> u64
     requires { ⌜ inBounds grid ≡ true ⌝ }
     requires { ⌜ Sound (meshOf (now vertices) topology given (now indices)) ⌝ }
     requires { ⌜ length (trianglesIn (meshOf (now vertices) topology given (now indices))) ≤ 131072 ⌝ }
@@ -86,17 +90,20 @@ fn cross_all(
     ensures { λ _.
         let m = meshOf (now (vertices .entry)) topology given (now (indices .entry)) in
         ⌜ now (crossings .exit) ≡ allCrossings grid m ⌝ }
+    ensures { λ r. ⌜ r ≡ grazed grid (meshOf (now (vertices .entry)) topology given (now (indices .entry))) ⌝ }
 {
     let n = mesh::triangle_count(vertices, topology, given, indices);
     let mut k = 0;
+    let mut total: u64 = 0;
     while k < n {
         let t = mesh::corners_at(vertices, topology, given, indices, k);
-        cross_triangle(grid, t, z0, z1, z2, flags, crossings);
+        total += cross_triangle(grid, t, z0, z1, z2, flags, crossings);
         k += 1;
     }
+    total
 }
 
-// The whole pass. The crossings may hold anything before. The room for a row of lines is made here, once,
+// The whole pass. Tells how many rays graze a triangle, over all. The crossings may hold anything before. The room for a row of lines is made here, once,
 // and lent down.
 pub fn cross(
     grid: Grid,
@@ -105,7 +112,7 @@ pub fn cross(
     given: Indices,
     indices: &[u32],
     crossings: &mut [u32],
-)
+) -> u64
     requires { ⌜ inBounds grid ≡ true ⌝ }
     requires { ⌜ Sound (meshOf (now vertices) topology given (now indices)) ⌝ }
     requires { ⌜ length (trianglesIn (meshOf (now vertices) topology given (now indices))) ≤ 131072 ⌝ }
@@ -113,6 +120,7 @@ pub fn cross(
     ensures { λ _.
         let m = meshOf (now (vertices .entry)) topology given (now (indices .entry)) in
         ⌜ now (crossings .exit) ≡ allCrossings grid m ⌝ }
+    ensures { λ r. ⌜ r ≡ grazed grid (meshOf (now (vertices .entry)) topology given (now (indices .entry))) ⌝ }
 {
     slices::fill_numbers(crossings, 0);
     let mut z0 = [0.0f32; 1024];
@@ -130,5 +138,5 @@ pub fn cross(
         &mut z2,
         &mut flags,
         crossings,
-    );
+    )
 }

@@ -82,8 +82,17 @@ pub triangle-grazed-le : (g : Grid) (t : Corners) → inBounds g ≡ true → gr
 unfolding grazedBy
 triangle-grazed-le g t b = omega (arith, axis-grazed-le g X (hitOn g t X) b, axis-grazed-le g Y (hitOn g t Y) b, axis-grazed-le g Z (hitOn g t Z) b)
 
--- the triangles before k
-pub triangles-grazed-le : (g : Grid) (m : Mesh) (k : ℕ) → inBounds g ≡ true → sumBelow (λ i. grazedBy g (cornersAt m i)) k ≤ k * 3145728
+-- those of the triangles before k
+abbrev pub grazedBefore : Grid → Mesh → ℕ → ℕ
+grazedBefore g m k = sumBelow (λ i. grazedBy g (cornersAt m i)) k
+
+pub triangles-grazed-first : (g : Grid) (m : Mesh) → 0 ≡ grazedBefore g m 0
+triangles-grazed-first g m = sym (sum-none (λ i. grazedBy g (cornersAt m i)))
+
+pub triangles-grazed-more : (g : Grid) (m : Mesh) (k : ℕ) → grazedBefore g m (k + 1) ≡ grazedBefore g m k + grazedBy g (cornersAt m k)
+triangles-grazed-more g m k = sum-more (λ i. grazedBy g (cornersAt m i)) k
+
+pub triangles-grazed-le : (g : Grid) (m : Mesh) (k : ℕ) → inBounds g ≡ true → grazedBefore g m k ≤ k * 3145728
 triangles-grazed-le g m k b = sum-le _ 3145728 k (λ i h. triangle-grazed-le g (cornersAt m i) b)
 
 -- the rays of the definition are those of the lines
@@ -93,7 +102,7 @@ along g m X k = refl
 along g m Y k = refl
 along g m Z k = refl
 
-pub grazed-all : (g : Grid) (m : Mesh) → sumBelow (λ k. grazedBy g (cornersAt m k)) (length (trianglesIn m)) ≡ grazed g m
+pub grazed-all : (g : Grid) (m : Mesh) → grazedBefore g m (length (trianglesIn m)) ≡ grazed g m
 unfolding grazed grazedBy
 grazed-all g m =
     sum-same _ _ (length (trianglesIn m))

@@ -1,10 +1,12 @@
 -- `run_cross::cross_along`: the parts that are worked out make up the ray test of document 01 (`crates/run_cross_lines/proofs/Hits.antt`). Assumes nothing.
 use borrow.Author.Needs.{needs}
 use native.Mathlib.Omega.{arith}
+use mathlib.Core.Path.{_∙_}
 use Rattle.geo_ray.specs.Ray.{castOf}
 use Rattle.run_cross_lines.specs.Pass.{hitOn, castHit}
 use Rattle.run_cross_lines.proofs.Grown.{axis-as}
 use Rattle.run_cross_lines.proofs.Hits.{cast-hits}
+use Rattle.run_cross_lines.proofs.Grazing.{axis-grazed-as}
 use Rattle.run_cross.proofs.cross_along.Statement.{statement}
 use Rattle.run_cross.proofs.cross_along.Tie as tie
 
@@ -37,9 +39,11 @@ returns c =
     let z0 = filled .fill-across .last .1 .1 .1 .0 in
     let z1 = filled .fill-across .last .1 .1 .1 .1 .0 in
     let z2 = filled .fill-across .last .1 .1 .1 .1 .1 .0 in
-    axis-as g axis (castHit g axis (castOf axis (t .a) (t .b) (t .c)) z0 z1 z2) (hitOn g t axis)
-    (cast-hits g t axis z0 z1 z2 (rw (second .second .ensures, cast) at (filled .fill-across .ensures)))
-    (rw cast at (crossed .cross-rows .ensures))
+    let same = cast-hits g t axis z0 z1 z2 (rw (second .second .ensures, cast) at (filled .fill-across .ensures)) in
+    let parts = castHit g axis (castOf axis (t .a) (t .b) (t .c)) z0 z1 z2 in (
+      axis-as g axis parts (hitOn g t axis) same (rw cast at (crossed .cross-rows .ensures .0)),
+      (rw cast at (crossed .cross-rows .ensures .1)) ∙ axis-grazed-as g axis parts (hitOn g t axis) same,
+    )
 
 pub cross-along-spec : {M : Type 1} → statement M
 cross-along-spec =
