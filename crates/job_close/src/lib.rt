@@ -10,10 +10,11 @@ ghost use mathlib.Core.Path.{_≡_};
 ghost use lib.ListN.{length};
 ghost use Rattle.grid.specs.Index.{total};
 ghost use Rattle.mesh.specs.Mesh.{meshOf};
+ghost use Rattle.run.specs.Grazed.{grazed};
 ghost use Rattle.run_state.specs.Told.{Fit};
 ghost use Rattle.job_outcome.specs.Finished.{Long, Finished, Closed};
 
-// What follows a run that is not refused: the crossings, the signs and the rows.
+// What follows a run that is not refused: the crossings, the signs and the rows. Tells how often a ray grazed a triangle.
 fn finish(
     grid: Grid,
     vertices: &[f32],
@@ -23,17 +24,19 @@ fn finish(
     field: &mut [f32],
     crossings: &mut [u32],
     rows: &mut [u32],
-)
+) -> u64
     requires { ⌜ Fit grid (meshOf (now vertices) topology given (now indices)) ⌝ }
     requires { ⌜ length (now field) ≡ total grid ⌝ }
     requires { ⌜ Long grid (now crossings) (now rows) ⌝ }
     ensures { λ _.
         let m = meshOf (now (vertices .entry)) topology given (now (indices .entry)) in
         ⌜ Finished grid m (now (field .entry)) (now (field .exit)) (now (crossings .exit)) (now (rows .exit)) ⌝ }
+    ensures { λ r. ⌜ r ≡ grazed grid (meshOf (now (vertices .entry)) topology given (now (indices .entry))) ⌝ }
 {
-    run_cross::cross(grid, vertices, topology, given, indices, crossings);
+    let grazed = run_cross::cross(grid, vertices, topology, given, indices, crossings);
     run_signs::sign(crossings, field);
     run_rows::count_rows(grid, field, rows);
+    grazed
 }
 
 // After the run, which came to `ran`: a refusal clears what it left, else the field is signed and counted. The queue
@@ -62,7 +65,7 @@ pub fn close(
         job_clear::clear_fields(field, names, crossings, rows);
         return Answer::Refused(ran.number);
     }
-    finish(
+    let grazed = finish(
         grid,
         vertices,
         topology,
@@ -75,5 +78,6 @@ pub fn close(
     Answer::Done(Tally {
         pops: ran.pops,
         peak: ran.peak,
+        grazed,
     })
 }

@@ -39,7 +39,7 @@ unfolding outcome unlessRefused ended
 replies j b = check (refusal j b) (check-given j b)
   where
     turn : (o : Turn State) → OnlyBy (λ n. List·Memᴰ n runNumbers) o → Replies j b (ended j b o)
-    turn (goes s) h = done (record { tally = tallyOf s; is = refl })
+    turn (goes s) h = done (record { tally = tallyOf j s; is = refl })
     turn (refuses n) h = inTheRun n h refl refl
 
     check : (n : ℕ) → (n ≡ 0) ⊎ List·Memᴰ n (checkNumbers j b) → Replies j b (unlessRefused n b (ended j b (runOf j b)))

@@ -22,12 +22,12 @@ use Rattle.job_clear.specs.Cleared.{cleared}
 use Rattle.job_clear.proofs.Lengths.{all-cleared, same-cleared, cleared-long}
 use Rattle.job_outcome.specs.declared.Answer.{Answer}
 use Rattle.job_outcome.specs.declared.Answer.the-variants.{Refused, Done}
-use Rattle.job_outcome.specs.Outcome.{Outcome, numberOf, popsOf, peakOf, Gives, filled, tallyOf, ended, runOf}
+use Rattle.job_outcome.specs.Outcome.{Outcome, numberOf, popsOf, peakOf, grazedOf, Gives, filled, tallyOf, ended, runOf}
 use Rattle.job_outcome.specs.Finished.{Closed}
 
--- equal answers have one number, pops and peak
+-- equal answers have one number, pops, peak and total of grazed rays
 pub gives : {o : Outcome} {answer : Answer} {left : Lent} → answer ≡ o .answer → left ≡ o .left → Gives o answer left
-gives e l = record { answers = e; number = ap numberOf e; pops = ap popsOf e; peak = ap peakOf e; leaves = l }
+gives e l = record { answers = e; number = ap numberOf e; pops = ap popsOf e; peak = ap peakOf e; grazed = ap grazedOf e; leaves = l }
 
 -- ---- what follows the run
 
@@ -63,7 +63,7 @@ unfolding ended
 same-ended j b c (goes s) e =
     let f = filled j s b in
     λ i. record {
-      answer = Done (tallyOf s);
+      answer = Done (tallyOf j s);
       left =
           lentOf (f .field) (f .names) (f .crossings) (f .rows) (replicate (e i .distances) 0) (replicate (e i .cells) 0) (replicate (e i .triangles) 0);
     }

@@ -9,6 +9,7 @@ use Rattle.grid.specs.Index.{total}
 use Rattle.grid.specs.Layers.{layers}
 use Rattle.mesh.specs.Mesh.{Mesh}
 use Rattle.run.specs.Signs.{signedField, allCrossings, rows}
+use Rattle.run.specs.Grazed.{grazed}
 use Rattle.run_state.specs.declared.Progress.{Progress}
 use Rattle.job_clear.specs.Cleared.{ClearedFields}
 use Rattle.job_outcome.specs.declared.Answer.{Answer}
@@ -26,7 +27,7 @@ pub record Finished (g : Grid) (m : Mesh) (old new : List Float) (counts layers 
   pub rows : layers ≡ rows g (signedField g m old)
 
 -- After a run that came to ran: field to layers, the rows, are then field′ to layers′. A refusal is answered by its number and clears
--- them; else the answer is what was taken and waited, and the names stay.
+-- them; else the answer is what was taken, waited and grazed, and the names stay.
 pub record Closed (g : Grid) (m : Mesh) (ran : Progress) (field : List Float) (names crossings layers : List ℕ) (field′ : List Float) (names′ crossings′ layers′ : List ℕ) (answer : Answer) : Type 0 where
   pub refused : (ran .number ≡ 0 → ⊥) → (answer ≡ Refused (ran .number)) × ClearedFields field field′ names crossings layers names′ crossings′ layers′
-  pub done : ran .number ≡ 0 → (answer ≡ Done (record { pops = ran .pops; peak = ran .peak })) × (names′ ≡ names) × Finished g m field field′ crossings′ layers′
+  pub done : ran .number ≡ 0 → (answer ≡ Done (record { pops = ran .pops; peak = ran .peak; grazed = grazed g m })) × (names′ ≡ names) × Finished g m field field′ crossings′ layers′

@@ -1,5 +1,5 @@
 -- "One call has one possible outcome: number, pops, peak and each cell of each buffer follow from the input" (document 01, "What the
--- contracts owe"). It is one function of the job and of the buffers as they are lent. Definitions only.
+-- contracts owe"); and the total of grazed rays (document 02, §3). It is one function of the job and of the buffers as they are lent. Definitions only.
 use Prim.Native.Nat.{ℕ, zero, suc}
 use mathlib.Core.Path.{_≡_}
 use lib.ListN.{length}
@@ -7,6 +7,7 @@ use Rattle.lists.specs.Turns.{Turn, goes, refuses}
 use Rattle.run.specs.Run.{State, run}
 use Rattle.run.specs.Input.{runInput}
 use Rattle.run.specs.Signs.{signedField, allCrossings, rows}
+use Rattle.run.specs.Grazed.{grazed}
 use Rattle.job_checks.specs.Job.{Job, Lent}
 use Rattle.job_checks.specs.Refusals.{refusal}
 use Rattle.job_clear.specs.Cleared.{zeros, cleared}
@@ -37,13 +38,13 @@ filled j s b =
       triangles = zeros (b .triangles);
     }
 
--- what is counted of a run: the entries taken, and the most that waited at once
-abbrev pub tallyOf : State → Tally
-tallyOf s = record { pops = s .pops; peak = s .peak }
+-- what is counted of a job: the entries taken in its run, the most that waited at once, and how often a ray grazed a triangle
+abbrev pub tallyOf : Job → State → Tally
+tallyOf j s = record { pops = s .pops; peak = s .peak; grazed = grazed (j .grid) (j .mesh) }
 
 -- what a run that has ended gives
 unfoldable pub ended : Job → Lent → Turn State → Outcome
-ended j b (goes s) = record { answer = Done (tallyOf s); left = filled j s b }
+ended j b (goes s) = record { answer = Done (tallyOf j s); left = filled j s b }
 ended j b (refuses n) = record { answer = Refused n; left = cleared b }
 
 -- the run of a job over the lent queue, whose room is its length
@@ -72,12 +73,18 @@ abbrev pub peakOf : Answer → ℕ
 peakOf (Refused n) = 0
 peakOf (Done t) = t .peak
 
+-- "Done carries the total over all rays and triangles .. on refusal it is 0" (document 02, §3)
+abbrev pub grazedOf : Answer → ℕ
+grazedOf (Refused n) = 0
+grazedOf (Done t) = t .grazed
+
 -- ---- what a call promises
 
--- its answer, by number, pops and peak, and what it leaves in each lent buffer are those of the outcome
+-- its answer, by number, pops, peak and grazed rays, and what it leaves in each lent buffer are those of the outcome
 pub record Gives (o : Outcome) (answer : Answer) (left : Lent) : Type 0 where
   pub answers : answer ≡ o .answer
   pub number : numberOf answer ≡ numberOf (o .answer)
   pub pops : popsOf answer ≡ popsOf (o .answer)
   pub peak : peakOf answer ≡ peakOf (o .answer)
+  pub grazed : grazedOf answer ≡ grazedOf (o .answer)
   pub leaves : left ≡ o .left

@@ -19,7 +19,7 @@ returns-2 : tie.Need-returns-2
 returns-2 c =
     let q = c .before .before .before .before .before .before in
     let e = q .before .before .before .before in
-    record { refused = λ z. absurd (z (e .if1 .left)); done = λ z. (refl, refl, q .finish .ensures) }
+    record { refused = λ z. absurd (z (e .if1 .left)); done = λ z. (rw (q .finish .ensures .1), refl, q .finish .ensures .0) }
 
 pub close-spec : {M : Type 1} → statement M
 close-spec =

@@ -25,18 +25,21 @@ signed : (c : tie.After-sign) →
 signed c =
     let s = entry (counted c) in
     c .sign .ensures
-    ∙ ap (λ (l : List ℕ). signedBy l (s .args .field .now)) (counted c .cross .ensures)
+    ∙ ap (λ (l : List ℕ). signedBy l (s .args .field .now)) (counted c .cross .ensures .0)
     ∙ signs-are _ _ (s .args .field .now) (s .pre .1 .0)
 
 returns : tie.Need-returns
 returns c =
     let r = c .before .before in
     let f = r .before .before .before .before .before in
-    record {
-      crossings = counted f .cross .ensures;
-      field = signed f;
-      rows = r .count-rows .ensures ∙ ap (λ (l : List Float). Signs.rows (entry (counted f) .args .grid) l) (signed f);
-    }
+    (
+      record {
+        crossings = counted f .cross .ensures .0;
+        field = signed f;
+        rows = r .count-rows .ensures ∙ ap (λ (l : List Float). Signs.rows (entry (counted f) .args .grid) l) (signed f);
+      },
+      counted f .cross .ensures .1,
+    )
 
 pub finish-spec : {M : Type 1} → statement M
 finish-spec =
