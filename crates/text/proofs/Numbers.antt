@@ -9,7 +9,7 @@ use mathlib.Core.Logic.{_⊎_, inl, inr, ⊎-elim}
 use mathlib.Core.List.{List, [], _∷_, _++_, append-assoc}
 use lib.Dec.{ltb, eqb}
 use borrow.Author.Tests.{ltb-true, ltb-false, lt-ltb, le-ltb, eqb-true, ne-eqb, eq-eqb}
-use Rattle.text.specs.Words.{digits, decimal, hexDigit, hex, hex8}
+use Rattle.text.specs.Words.{digits, decimal, decimalLong, hexDigit, hex, hex8}
 use Rattle.text.specs.TextJob.{Word}
 use Rattle.text.specs.Reader.{Got, took, nothing, hexValue, digitsAt, numberAt, endAt, hexAt, bitsAt}
 use Rattle.text.proofs.Formats.{Reads, never, passed, chosen}
@@ -28,15 +28,18 @@ last16 n = record { whole = div-add-mod n 16; small = mod-lt n (zero-lt-suc 15) 
 
 -- ---- decimal numbers
 
-step : (k n : ℕ) → digits k (n / 10) ≡ digits (suc k) (n / 10) → digits (suc k) n ≡ digits (suc (suc k)) n
-unfolding digits
-step k n e = ap (λ (l : List ℕ). cond (ltb n 10) ((48 + n) ∷ []) (l ++ (48 + n % 10) ∷ [])) e
-
 -- more room for digits does not change them
-grows : (k n : ℕ) → n < 10 ^ suc k → digits k n ≡ digits (suc k) n
+roomy : (k j n : ℕ) → k ≤ j → n < 10 ^ suc k → digits j n ≡ digits k n
 unfolding digits
-grows zero n h = sym (ap (λ (t : Bool). cond t ((48 + n) ∷ []) (((48 + n / 10) ∷ []) ++ (48 + n % 10) ∷ [])) (lt-ltb n 10 h))
-grows (suc k) n h = step k n (grows k (n / 10) (let l = last10 n in omega arith))
+roomy zero zero n l h = refl
+roomy zero (suc j) n l h = ap (λ (t : Bool). cond t ((48 + n) ∷ []) (digits j (n / 10) ++ (48 + n % 10) ∷ [])) (lt-ltb n 10 h)
+roomy (suc k) zero n l h = absurd (omega arith)
+roomy (suc k) (suc j) n l h =
+    ap (λ (s : List ℕ). cond (ltb n 10) ((48 + n) ∷ []) (s ++ (48 + n % 10) ∷ [])) (roomy k j (n / 10) (omega arith) (let d = last10 n in omega arith))
+
+-- so a count that fits 32 bits is written as every other number
+pub long-is-decimal : (n : ℕ) → n < 2 ^ 32 → decimalLong n ≡ decimal n
+long-is-decimal n h = roomy 9 19 n (omega arith) (omega arith)
 
 -- one more digit behind v
 pub behind : (v d : ℕ) → 0 < v → d < 10 → 10 * v + d < 2 ^ 32 → decimal (10 * v + d) ≡ decimal v ++ (48 + d) ∷ []
@@ -45,7 +48,7 @@ behind v d p h w =
     let l = last10 (10 * v + d) in
     let q : (10 * v + d) / 10 ≡ v = omega arith in
     let m : (10 * v + d) % 10 ≡ d = omega arith in
-    rw (le-ltb (10 * v + d) 10 (omega arith), q, m) (ap (λ (l : List ℕ). l ++ (48 + d) ∷ []) (grows 8 v (omega arith)))
+    rw (le-ltb (10 * v + d) 10 (omega arith), q, m) (ap (λ (l : List ℕ). l ++ (48 + d) ∷ []) (sym (roomy 8 9 v (omega arith) (omega arith))))
 
 pub single : (d : ℕ) → d < 10 → decimal d ≡ (48 + d) ∷ []
 unfolding digits

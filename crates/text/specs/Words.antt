@@ -30,6 +30,10 @@ digits (suc k) n = cond (ltb n 10) ((48 + n) ∷ []) (digits k (n / 10) ++ (48 +
 abbrev pub decimal : ℕ → List ℕ
 decimal n = digits 9 n
 
+-- The same of a count in a listing that may pass 32 bits: it is at most 18,446,744,073,709,551,615, which has twenty digits.
+abbrev pub decimalLong : ℕ → List ℕ
+decimalLong n = digits 19 n
+
 -- the lower-case hex digit of a number below 16: 0 to 9, then a to f
 abbrev pub hexDigit : ℕ → ℕ
 hexDigit n = cond (ltb n 10) (48 + n) (87 + n)

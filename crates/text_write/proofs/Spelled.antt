@@ -1,5 +1,5 @@
 -- Laws on the digits of a number, one digit at a time. Assumes nothing.
-use Prim.Native.Nat.{ℕ, zero, suc, _+_, _-_, _/_, _%_, _≤_, _<_}
+use Prim.Native.Nat.{ℕ, zero, suc, _+_, _-_, _/_, _%_, _^_, _≤_, _<_}
 use native.Mathlib.Omega.{arith}
 use native.Mathlib.Numerals.{add-one}
 use mathlib.Core.Path.{_≡_, refl, sym, ap, subst, _∙_}
@@ -46,9 +46,10 @@ unfolding FewDigits
 fewer zero n d f = absurd (omega arith)
 fewer (suc k) n d f = subst (λ (j : ℕ). FewDigits j (n / 10)) (sym (back k)) f
 
-pub all-few : (n : ℕ) → n < 4294967296 → FewDigits 9 n
+pub all-few : (k n : ℕ) → n < 10 ^ suc k → FewDigits k n
 unfolding FewDigits
-all-few n h = omega arith
+all-few zero n h = h
+all-few (suc k) n h = all-few k (n / 10) (omega arith)
 
 pub hex-long : (k b : ℕ) → length (hex k b) ≡ k
 unfolding hex

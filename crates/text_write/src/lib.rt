@@ -6,6 +6,7 @@ mod numbers;
 
 pub use bytes::put;
 pub use bytes::put_all;
+pub use lines::put_long_number;
 pub use lines::put_number;
 pub use lines::put_three;
 pub use numbers::put_value_then;

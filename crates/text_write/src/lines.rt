@@ -1,12 +1,14 @@
 // Lines: a key, values with one space between, and LF.
+use crate::bytes::put;
 use crate::bytes::put_all;
+use crate::numbers::put_long;
 use crate::numbers::put_value_then;
 use text::Form;
 use text::Three;
 ghost use Prim.Native.Nat.{_+_, _*_, _≤_};
 ghost use lib.ListN.{length};
 ghost use mathlib.Core.List.{[], _∷_, _++_};
-ghost use Rattle.text.specs.Words.{decimal, lf};
+ghost use Rattle.text.specs.Words.{decimal, decimalLong, lf};
 ghost use Rattle.text.specs.TextJob.{threeText};
 ghost use Rattle.lists.specs.Put.{Put};
 ghost use Rattle.text_write.specs.Digits.{width};
@@ -19,6 +21,17 @@ pub fn put_number(out: &mut [u8], at: usize, key: &[u8], n: u32) -> usize
 {
     let next = put_all(out, at, key);
     put_value_then(out, next, n, Form::Decimal, 10)
+}
+
+// One number that may pass 32 bits.
+pub fn put_long_number(out: &mut [u8], at: usize, key: &[u8], n: u64) -> usize
+    requires { ⌜ at + length (now key) + 21 ≤ length (now out) ⌝ }
+    ensures { λ r. ⌜ Put (now (out .entry)) at (now (key .entry) ++ decimalLong n ++ lf ∷ []) (now (out .exit)) r ⌝ }
+    ensures { λ r. ⌜ r ≤ at + length (now (key .entry)) + 21 ⌝ }
+{
+    let next = put_all(out, at, key);
+    let end = put_long(out, next, n);
+    put(out, end, 10)
 }
 
 // Three numbers, all in one form.

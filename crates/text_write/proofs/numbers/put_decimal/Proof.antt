@@ -6,7 +6,7 @@ use Rattle.text_write.proofs.numbers.put_decimal.Statement.{statement}
 use Rattle.text_write.proofs.numbers.put_decimal.Tie as tie
 
 put-digits-requires : tie.Need-put-digits-requires
-put-digits-requires c κs = (search needs, all-few (c .before .before .args .n) (search needs))
+put-digits-requires c κs = (search needs, all-few 9 (c .before .before .args .n) (omega arith))
 
 returns : tie.Need-returns
 returns c =
