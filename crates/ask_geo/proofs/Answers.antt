@@ -14,9 +14,9 @@ use Rattle.point.specs.Point.{turned}
 use Rattle.point.specs.declared.Point.{Point}
 use Rattle.point.specs.declared.Axis.{Axis}
 use Rattle.geo_box.specs.Box.{boxMargin, leastOf3, greatestOf3, paddedBox}
-use Rattle.geo_ray.specs.Ray.{weightsX, reachX, allBelow, allAbove, reply, rayX, rayAligned}
+use Rattle.geo_ray.specs.Ray.{weightsX, reachX, allBelow, allAbove, hits, grazes, reply, rayX, rayAligned}
 use Rattle.ask_geo.specs.Asked.{bound, within, pointNan, boxNan, rayNan, answered, refused, value}
-use Rattle.geo_ray.specs.declared.RayHit.the-variants.{Miss, Hit}
+use Rattle.geo_ray.specs.declared.RayHit.the-variants.{Miss, Grazed, Hit}
 
 -- ---- the three answers, by the checks that led there
 
@@ -39,12 +39,12 @@ above-no-nan (inf s) h = refl
 above-no-nan (fin s m e) h = refl
 
 reply-no-nan : (w0 w1 w2 t : Float) → rayNan (reply w0 w1 w2 t) ≡ false
-reply-no-nan w0 w1 w2 t = go (allBelow w0 w1 w2 || allAbove w0 w1 w2) (f0 ≺ t) refl
+reply-no-nan w0 w1 w2 t = go (hits w0 w1 w2 t) (grazes w0 w1 w2) (and-second (allBelow w0 w1 w2 || allAbove w0 w1 w2) (f0 ≺ t))
   where
-    go : (u v : Bool) → f0 ≺ t ≡ v → rayNan (if u then (if v then Hit t else Miss) else Miss) ≡ false
-    go true true e = above-no-nan t e
-    go true false e = refl
-    go false v e = refl
+    go : (u v : Bool) → (u ≡ true → f0 ≺ t ≡ true) → rayNan (if u then Hit t else if v then Grazed else Miss) ≡ false
+    go true v h = above-no-nan t (h refl)
+    go false true h = refl
+    go false false h = refl
 
 pub ray-no-nan : (o v0 v1 v2 : Point) (axis : Axis) → rayNan (rayAligned o v0 v1 v2 axis) ≡ false
 unfolding rayAligned rayX

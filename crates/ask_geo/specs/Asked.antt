@@ -13,7 +13,7 @@ use Rattle.geo_box.specs.Box.{paddedBox}
 use Rattle.geo_ray.specs.Ray.{rayAligned}
 use Rattle.geo_box.specs.declared.TriangleBox.{TriangleBox}
 use Rattle.geo_ray.specs.declared.RayHit.{RayHit}
-use Rattle.geo_ray.specs.declared.RayHit.the-variants.{Miss, Hit}
+use Rattle.geo_ray.specs.declared.RayHit.the-variants.{Miss, Grazed, Hit}
 use Rattle.ask_geo.specs.declared.asked.BoxAnswer.{BoxAnswer}
 use Rattle.ask_geo.specs.declared.asked.BoxAnswer.the-variants as Boxes
 use Rattle.ask_geo.specs.declared.asked.PointAnswer.{PointAnswer}
@@ -40,6 +40,7 @@ boxNan b = pointNan (b .low) || pointNan (b .high)
 
 abbrev pub rayNan : RayHit → Bool
 rayNan Miss = false
+rayNan Grazed = false
 rayNan (Hit t) = isNan t
 
 -- ---- what is answered: a number of the paper, or the value

@@ -77,17 +77,26 @@ pub fn ray_answer(a: RayAnswer) -> SdfRayAnswer
         RayAnswer::OutOfBounds => SdfRayAnswer {
             number: 2,
             hit: 0,
+            grazed: 0,
             t: 0.0,
         },
         RayAnswer::Is(h) => match h {
             RayHit::Miss => SdfRayAnswer {
                 number: 0,
                 hit: 0,
+                grazed: 0,
+                t: 0.0,
+            },
+            RayHit::Grazed => SdfRayAnswer {
+                number: 0,
+                hit: 0,
+                grazed: 1,
                 t: 0.0,
             },
             RayHit::Hit(t) => SdfRayAnswer {
                 number: 0,
                 hit: 1,
+                grazed: 0,
                 t: t,
             },
         },

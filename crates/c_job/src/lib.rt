@@ -6,13 +6,14 @@ use mesh_topology::Topology;
 ghost use mathlib.Core.Path.{_≡_};
 ghost use Rattle.c_job.specs.Job.{topologyIn, indicesIn, answerOut};
 
-// Document 01's number, 0 where the job is done, with the entries taken and the most that waited at once;
-// on a refusal both are 0.
+// Document 01's number, 0 where the job is done, with the entries taken, the most that waited at once and how often a ray
+// grazed a triangle; on a refusal all three are 0.
 #[repr(C)]
 pub struct SdfJobAnswer {
     pub number: u32,
     pub pops: u32,
     pub peak: usize,
+    pub grazed: u64,
 }
 
 pub fn topology_in(topology: u32) -> Topology
@@ -41,11 +42,13 @@ pub fn answer_out(a: Answer) -> SdfJobAnswer
             number: n,
             pops: 0,
             peak: 0,
+            grazed: 0,
         },
         Answer::Done(t) => SdfJobAnswer {
             number: 0,
             pops: t.pops,
             peak: t.peak,
+            grazed: t.grazed,
         },
     }
 }

@@ -26,7 +26,7 @@ use Rattle.grid.specs.Reply.{Reply, refused, given}
 use Rattle.terms.specs.declared.Terms.{Terms}
 use Rattle.geo_box.specs.declared.TriangleBox.{TriangleBox}
 use Rattle.geo_ray.specs.declared.RayHit.{RayHit}
-use Rattle.geo_ray.specs.declared.RayHit.the-variants.{Miss, Hit}
+use Rattle.geo_ray.specs.declared.RayHit.the-variants.{Miss, Grazed, Hit}
 use Rattle.ask_geo.specs.Asked as Asked
 use Rattle.ask_geo.specs.Asked.{Answer, value}
 use Rattle.c_records.specs.declared.SdfPoint.{SdfPoint}
@@ -148,11 +148,12 @@ unfoldable pub distanceForC : Answer Float → SdfDistanceAnswer
 distanceForC (Asked.refused n) = record { number = n; distance = f0 }
 distanceForC (value d) = record { number = 0; distance = d }
 
--- hit is 1 with its t, and 0 for a miss
+-- hit is 1 with its t, grazed is 1 where the ray grazed, and both are 0 for a miss
 unfoldable pub rayForC : Answer RayHit → SdfRayAnswer
-rayForC (Asked.refused n) = record { number = n; hit = 0; t = f0 }
-rayForC (value Miss) = record { number = 0; hit = 0; t = f0 }
-rayForC (value (Hit t)) = record { number = 0; hit = 1; t = t }
+rayForC (Asked.refused n) = record { number = n; hit = 0; grazed = 0; t = f0 }
+rayForC (value Miss) = record { number = 0; hit = 0; grazed = 0; t = f0 }
+rayForC (value Grazed) = record { number = 0; hit = 0; grazed = 1; t = f0 }
+rayForC (value (Hit t)) = record { number = 0; hit = 1; grazed = 0; t = t }
 
 -- ---- the answer of the comparison
 

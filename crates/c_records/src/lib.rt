@@ -83,11 +83,12 @@ pub struct SdfDistanceAnswer {
     pub distance: f32,
 }
 
-// `hit` is 1 for a hit at t, and 0 for a miss.
+// `hit` is 1 for a hit at t. `grazed` is 1 for a ray that grazed, which is no hit. Both are 0 for a miss.
 #[repr(C)]
 pub struct SdfRayAnswer {
     pub number: u32,
     pub hit: u32,
+    pub grazed: u32,
     pub t: f32,
 }
 

@@ -20,7 +20,7 @@ use Rattle.job_outcome.specs.Outcome.{Outcome, outcome}
 use Rattle.text.specs.declared.Three.{Three}
 use Rattle.text.specs.declared.Head.{Head}
 use Rattle.text.specs.declared.Tail.{Tail}
-use Rattle.text.specs.Words.{space, decimal, hex8, spaced, line}
+use Rattle.text.specs.Words.{space, decimal, decimalLong, hex8, spaced, line}
 use Rattle.lists.specs.Joined.{joined}
 use Rattle.float_bits.specs.Patterns.{floatsOf}
 use Rattle.text.specs.TextJob.{TextJob, Readable, jobText, indexList, givenOf, flat}
@@ -84,13 +84,15 @@ cellLine b i = line "cell=" (spaced (decimal i) (hex8 (toBits binary32 (getD (b 
 abbrev pub rowLine : Lent → ℕ → List ℕ
 rowLine b z = line "row=" (decimal z ++ space ∷ decimal (getD (b .rows) z 0))
 
--- a job that is done: a line for each cell and for each layer; a refusal: "Other refusals print one line too."
+-- a job that is done: its counts, of which the grazed rays are "printed as `grazed=` after `peak=`" (document 02, §3), and a line for
+-- each cell and for each layer; a refusal: "Other refusals print one line too."
 unfoldable pub listed : Answer → Lent → List ℕ
 listed (Refused n) b = answerLine n
 listed (Done t) b =
     answerLine 0
     ++ line "pops=" (decimal (t .pops))
     ++ line "peak=" (decimal (t .peak))
+    ++ line "grazed=" (decimalLong (t .grazed))
     ++ joined (cellLine b) (length (b .field))
     ++ joined (rowLine b) (length (b .rows))
 

@@ -5,11 +5,13 @@ use listing::put_cells;
 use listing::put_rows;
 use text::BYTE_ROOM;
 use text::MOST_CELLS;
+use text_write::put_long_number;
 use text_write::put_number;
 ghost use Prim.Native.Nat.{_≤_, _<_};
 ghost use lib.ListN.{length};
 ghost use mathlib.Core.Path.{_≡_};
 ghost use Rattle.job_outcome.specs.declared.Answer.the-variants.{Done};
+ghost use Rattle.job_outcome.specs.declared.Tally.{Tally};
 ghost use Rattle.lists.specs.Put.{Put};
 ghost use Rattle.listing.specs.Listing.{listed};
 ghost use Rattle.listing.specs.Written.{shown, RoomToList, WritesListing};
@@ -19,6 +21,7 @@ fn put_done(
     out: &mut [u8],
     pops: u32,
     peak: u32,
+    grazed: u64,
     field: &[f32],
     names: &[u32],
     rows: &[u32],
@@ -26,13 +29,15 @@ fn put_done(
     requires { ⌜ RoomToList (now field) (now names) (now rows) (now out) ⌝ }
     ensures { λ r.
         let left = shown (now (field .entry)) (now (names .entry)) (now (rows .entry)) in
-        ⌜ Put (now (out .entry)) 0 (listed (Done (record { pops = pops; peak = peak })) left) (now (out .exit)) r ⌝ }
+        let tally : Tally = record { pops = pops; peak = peak; grazed = grazed } in
+        ⌜ Put (now (out .entry)) 0 (listed (Done tally) left) (now (out .exit)) r ⌝ }
 {
     let a = put_number(out, 0, b"answer=", 0);
     let b = put_number(out, a, b"pops=", pops);
     let c = put_number(out, b, b"peak=", peak);
-    let d = put_cells(out, c, field, names);
-    put_rows(out, d, rows)
+    let d = put_long_number(out, c, b"grazed=", grazed);
+    let e = put_cells(out, d, field, names);
+    put_rows(out, e, rows)
 }
 
 // Writes the listing of an answer and of what its job left, where it has no more cells and layers than the program
@@ -70,7 +75,7 @@ pub fn write_listing(
             if 4294967295 < peak {
                 return Written::Nothing;
             }
-            let n = put_done(out, t.pops, peak as u32, field, names, rows);
+            let n = put_done(out, t.pops, peak as u32, t.grazed, field, names, rows);
             Written::Bytes(n)
         }
     }

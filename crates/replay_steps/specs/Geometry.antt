@@ -27,7 +27,11 @@ abbrev pub isDistanceAnswer : List ℕ → ℕ → ℕ → SdfDistanceAnswer →
 isDistanceAnswer text base k r = isSampleWord text base k (r .number) && isSampleReal text base (k + 1) (r .distance)
 
 abbrev pub isRayAnswer : List ℕ → ℕ → ℕ → SdfRayAnswer → Bool
-isRayAnswer text base k r = isSampleWord text base k (r .number) && isSampleWord text base (k + 1) (r .hit) && isSampleReal text base (k + 2) (r .t)
+isRayAnswer text base k r =
+    isSampleWord text base k (r .number)
+    && isSampleWord text base (k + 1) (r .hit)
+    && isSampleWord text base (k + 2) (r .grazed)
+    && isSampleReal text base (k + 3) (r .t)
 
 -- -1, 0 or 1 in 32 bits
 abbrev pub orderWord : ℤ → ℕ

@@ -102,5 +102,6 @@ pub fn ray(text: &[u8], base: usize) -> bool
     let r = c_geometry::sdf_ray_triangle_intersection_aligned(o, a, b, c, axis);
     is_word(text, base, 14, r.number)
         & is_word(text, base, 15, r.hit)
-        & is_real(text, base, 16, r.t)
+        & is_word(text, base, 16, r.grazed)
+        & is_real(text, base, 17, r.t)
 }

@@ -8,6 +8,7 @@ pub ray-answer-spec : {M : Type 1} → statement M
 unfolding rayForC
 ray-answer-spec =
     tie.close (tie.spec
-    (λ c. search needs) (λ c. search needs) (λ c. search needs) (λ c. search needs) (λ c. cc)
+    (λ c. search needs) (λ c. search needs) (λ c. search needs) (λ c. search needs) (λ c. search needs) (λ c. cc)
     (λ c. rw (c .before .before .before .a .given .1, c .enum-told2 .given .1))
+    (λ c. rw (c .before .before .before .a .given .1, c .enum-told3 .given .1))
     (λ c. cc))
