@@ -40,7 +40,7 @@ extern "C" {
 #endif
 
 /* Raised whenever a function, a record or a number below is no longer what it was. */
-#define SDF_VERSION 4
+#define SDF_VERSION 5
 
 /* The numbers of the whole job [4.1], in the order in which they are checked; the first that applies is given. A
  * question asked by itself [4.4] gives 1 for the grid, 2 for a coordinate that is not finite or above 2,097,152 in
@@ -125,9 +125,9 @@ typedef struct {
     float distance;
 } sdf_distance_answer;
 
-/* hit: 1 with its t, or 0 and t is 0. */
+/* hit: 1 with its t, or 0 and t is 0. grazed: 1 for a ray that only touches the triangle, which is no hit; else 0. */
 typedef struct {
-    uint32_t number, hit;
+    uint32_t number, hit, grazed;
     float t;
 } sdf_ray_answer;
 
@@ -137,10 +137,12 @@ typedef struct {
     int32_t order;
 } sdf_order_answer;
 
-/* pops: the entries taken. peak: the most entries that waited at once. Both are 0 on a refusal. */
+/* pops: the entries taken. peak: the most entries that waited at once. grazed: how often a ray of the job grazed a triangle, over
+ * all rays and triangles; it may pass 32 bits (137,707,388,928 at most). All three are 0 on a refusal. */
 typedef struct {
     uint32_t number, pops;
     size_t peak;
+    uint64_t grazed;
 } sdf_job_answer;
 
 /* facets: how many a scanner's file has, or how many were read or written. 0 on a refusal. */
@@ -173,7 +175,8 @@ enum { SDF_NO_INDICES = 0, SDF_INDICES = 1 };
  *                Negative is inside: where at least two of the cell's three counts of crossings are odd. A centre on
  *                the surface has 0 or, where two are odd, -0
  *   names        n numbers: the triangle, counted from 0, that the distance is to; SDF_NONE with none
- *   crossings    3 n numbers: the rays' hits along x, y, z of each cell in turn
+ *   crossings    3 n numbers: the rays' hits along x, y, z of each cell in turn. A ray that grazes adds none: the answer's
+ *                `grazed` says how often one did. Where it is large, shift the grid by a hair and ask again
  *   rows         as many as the z count: how many cells of each layer are inside, that is, have their sign bit set
  *                (signbit of <math.h>). -0 counts, and +0 does not: `field[i] < 0` would leave out a centre on the surface
  *   distances, cells, triangles
@@ -255,7 +258,9 @@ sdf_point_answer sdf_closest_point_triangle(sdf_point p, sdf_point a, sdf_point 
 /* The distance of p from the triangle: what the field's magnitudes are made of. Refuses by 2, then 6. */
 sdf_distance_answer sdf_point_triangle_distance(sdf_point p, sdf_point a, sdf_point b, sdf_point c);
 /* Whether a ray from o along +x, +y or +z meets the triangle, and how far away: what the crossings count [6.6]. It is a hit
- * only with t > 0, and only through the triangle's inside: a ray through an edge or a corner misses. Refuses by 2. */
+ * only with t > 0, and only through the triangle's inside. A ray whose line meets an edge or a corner, ahead of o or behind
+ * it, or lies in the triangle's plane, grazes: at least one of its three weights is 0, and none is above 0 with another below.
+ * Refuses by 2. */
 sdf_ray_answer sdf_ray_triangle_intersection_aligned(sdf_point o, sdf_point v0, sdf_point v1, sdf_point v2,
                                                      uint32_t axis);
 

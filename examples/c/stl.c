@@ -144,7 +144,7 @@ int main(int words, char **word) {
         refuse(answer.number, name);
 
     printf("answer=%u\nfacets=%u\n", (unsigned)answer.number, (unsigned)scan.facets);
-    printf("pops=%u\npeak=%zu\n", (unsigned)answer.pops, answer.peak);
+    printf("pops=%u\npeak=%zu\ngrazed=%llu\n", (unsigned)answer.pops, answer.peak, (unsigned long long)answer.grazed);
     double inside = 0;
     for (size_t z = 0; z < layers; z++) {
         printf("row=%zu %u\n", z, (unsigned)rows[z]);

@@ -75,7 +75,7 @@ int main(void) {
     printf("answer=%u\n", (unsigned)answer.number);
     if (answer.number != SDF_DONE)
         return EXIT_FAILURE;
-    printf("pops=%u\npeak=%zu\n", (unsigned)answer.pops, answer.peak);
+    printf("pops=%u\npeak=%zu\ngrazed=%llu\n", (unsigned)answer.pops, answer.peak, (unsigned long long)answer.grazed);
     double inside = 0;
     for (uint32_t z = 0; z < EDGE; z++) {
         printf("row=%u %u\n", (unsigned)z, (unsigned)rows[z]);
