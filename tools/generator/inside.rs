@@ -130,7 +130,7 @@ pub fn at_max(r: &mut Random) -> Job {
         job.vertices = corners.map(|v| [0, 1, 2].map(|axis| v[(axis + turned) % 3] * scale)).to_vec();
         let corners = [job.vertices[0], job.vertices[1], job.vertices[2]];
         let centre = job.grid.centre([0; 3]);
-        let hit = (0..3).all(|axis| model::geometry::ray(centre, corners, axis).is_some());
+        let hit = (0..3).all(|axis| model::geometry::ray(centre, corners, axis).hit().is_some());
         if hit && model::geometry::distance(centre, corners).is_infinite() {
             return job;
         }
