@@ -131,7 +131,7 @@ fn main() {
         }
         // Least times of the call that ends before the crossings and of the whole, of each side.
         let mut least = [[f64::MAX; 2]; 2];
-        for round in 0..rounds * (100 / edge).pow(2) {
+        for round in 0..rounds * (10_000 / (edge * edge)) {
             for part in 0..2 {
                 for turn in 0..2 {
                     // Each goes first half the time.
