@@ -179,6 +179,9 @@ fn small(index: u64, r: &mut Random, seen: &mut Seen) -> (String, Result<(), Str
     let all = kinds::of_set(None);
     let turns = all.len() as u64;
     let kind = match index % 100 {
+        // Those that came after the sets.
+        96 => "inside-at-max",
+        97 => "inside-grazing-zeros",
         // Beyond the program's limits, for the two bounds that they keep out of sight.
         98 => "large-too-many-triangles",
         99 => "large-too-many-vertices",
