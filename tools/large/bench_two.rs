@@ -4,7 +4,9 @@
 //! (100) are left out. Ends with 1 if the two leave another field, other names or crossings, or count other pops or peak.
 //!
 //! The crossings are the difference of two calls: the whole, and one with one pop less than the job takes, which ends before
-//! them. What a refusal clears again stands in the second.
+//! them. What a refusal clears again stands in the second. The least of each is taken, so one call that was disturbed in every
+//! round spoils the difference. Therefore the last column: after by before of the middle times, for the crossings of the middle
+//! difference within a round. Where the two columns are far apart, something else was running.
 
 #![allow(dead_code)] // Each module serves others too.
 
@@ -119,7 +121,8 @@ fn main() {
     let number = |at: usize| std::env::args().nth(at).and_then(|a| a.parse().ok());
     let (rounds, largest) = (number(1).unwrap_or(5), number(2).unwrap_or(100));
     println!("load before: {}", load());
-    println!("{:<14}{:>5}  {:<10}{:>12}{:>12}{:>8}", "workload", "edge", "part", "before, ms", "after, ms", "ratio");
+    let words = ["workload", "edge", "part", "before, ms", "after, ms", "ratio", "of middles"];
+    println!("{:<14}{:>5}  {:<10}{:>12}{:>12}{:>8}{:>12}", words[0], words[1], words[2], words[3], words[4], words[5], words[6]);
     let (mut ratios, mut differences) = ([const { Vec::new() }; 2], 0);
     for (workload, edge, job) in workloads::jobs(largest) {
         // Twice as many entries as cells are enough for these jobs.
@@ -129,35 +132,47 @@ fn main() {
             differences += 1;
             println!("{workload} {edge}: DIFFERENT, {:?} before and {:?} after", before.0, after.0);
         }
-        // Least times of the call that ends before the crossings and of the whole, of each side.
-        let mut least = [[f64::MAX; 2]; 2];
+        // The times of the call that ends before the crossings and of the whole, of each side.
+        let mut times = [const { [const { Vec::new() }; 2] }; 2];
         for round in 0..rounds * (10_000 / (edge * edge)) {
             for part in 0..2 {
                 for turn in 0..2 {
                     // Each goes first half the time.
                     let side = (round as usize + turn) % 2;
                     let limit = [[before.0.pops, after.0.pops][side].saturating_sub(1), u32::MAX][part];
-                    let (_, time) = buffers.ask(SIDES[side], &job, limit);
-                    least[side][part] = least[side][part].min(time);
+                    times[side][part].push(buffers.ask(SIDES[side], &job, limit).1);
                 }
             }
         }
-        let crossings = least.map(|[spread, whole]| whole - spread);
-        let whole = least.map(|[_, whole]| whole);
-        for (part, [a, b]) in [crossings, whole].into_iter().enumerate() {
-            let name = ["crossings", "whole"][part];
-            println!("{workload:<14}{edge:>5}  {name:<10}{a:>12.3}{b:>12.3}{:>8.3}", b / a);
+        let of = times.map(|[spread, whole]| {
+            let pairs = whole.iter().zip(&spread).map(|(whole, spread)| whole - spread).collect();
+            let (spread, whole) = (sorted(spread), sorted(whole));
+            [[whole[0] - spread[0], middle(&sorted(pairs))], [whole[0], middle(&whole)]]
+        });
+        for (part, name) in ["crossings", "whole"].into_iter().enumerate() {
+            let [[a, middle_a], [b, middle_b]] = of.map(|side| side[part]);
+            let of_middles = middle_b / middle_a;
+            println!("{workload:<14}{edge:>5}  {name:<10}{a:>12.3}{b:>12.3}{:>8.3}{of_middles:>12.3}", b / a);
             ratios[part].push(b / a);
         }
     }
-    for (part, ratios) in ["crossings", "whole"].into_iter().zip(&mut ratios) {
-        ratios.sort_by(f64::total_cmp);
-        let (least, middle, most) = (ratios[0], ratios[ratios.len() / 2], ratios[ratios.len() - 1]);
-        println!("{part}: after by before {least:.3} to {most:.3}, the middle one {middle:.3}");
+    for (part, ratios) in ["crossings", "whole"].into_iter().zip(ratios) {
+        let ratios = sorted(ratios);
+        let (least, most) = (ratios[0], ratios[ratios.len() - 1]);
+        println!("{part}: after by before {least:.3} to {most:.3}, the middle one {:.3}", middle(&ratios));
     }
     println!("load after: {}", load());
     println!("{differences} differences");
     std::process::exit(i32::from(differences > 0));
+}
+
+fn sorted(mut times: Vec<f64>) -> Vec<f64> {
+    times.sort_by(f64::total_cmp);
+    times
+}
+
+fn middle(sorted: &[f64]) -> f64 {
+    sorted[sorted.len() / 2]
 }
 
 fn load() -> String {
