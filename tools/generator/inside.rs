@@ -208,8 +208,8 @@ fn grazing_corners(r: &mut Random) -> Job {
 
 /// What the other kinds have seldom or never: along each axis in turn, a ray over an edge whose weight is -0; one through a corner
 /// with two weights of -0; a needle along the axis, which all rays along it graze; a point, which all rays graze; and an edge that
-/// two triangles share, so that a ray over it counts twice. No centre is -0, so a ray that grazes has a weight of -0 beside others
-/// that are not 0 only where an edge runs from +0 to -0, or where a product underflows.
+/// two triangles share, so that a ray over it counts twice. No centre is -0, so where a ray grazes a facet that is not edge-on, its
+/// zero weights are all -0 only if an edge runs from +0 to -0, or if a product underflows.
 pub fn grazing_zeros(r: &mut Random) -> Job {
     let ways = [0, 1, 2, 3, 4].map(|way| [0, 1, 2].map(|axis| (way, axis)));
     let (way, axis) = r.turn(ways.as_flattened());
