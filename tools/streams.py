@@ -46,7 +46,8 @@ def values(listing):
 
 def owed(jobs):
     """The listings that the jobs are owed: the unmodified Rust's field and pops, rows counted off that field, and the model's
-    number, peak and names. Where two speak they must agree. Builds the oracle and the model."""
+    number, peak, grazed and names (the Rust says nothing of a ray that grazes; tools/grazed-check counts them once more). Where two
+    speak they must agree. Builds the oracle and the model."""
     build("tools/oracle/build")
     build("tools/model/build")
     model = batch(["build/model/model", "--batch"], jobs)
@@ -62,7 +63,7 @@ def joined(model, rust):
     assert ours["pops"] == theirs["steps"]
     names = [cell.rsplit(" ", 1) for cell in ours["cell"]]
     assert [cell for cell, _ in names] == theirs["cell"]
-    lines = ["answer=0", "pops=" + theirs["steps"][0], "peak=" + ours["peak"][0]]
+    lines = ["answer=0", "pops=" + theirs["steps"][0], "peak=" + ours["peak"][0], "grazed=" + ours["grazed"][0]]
     lines += [f"cell={cell} {name}" for cell, (_, name) in zip(theirs["cell"], names)]
     rows = set_signs(theirs["cell"], len(ours["row"]))
     assert ours["row"] == rows

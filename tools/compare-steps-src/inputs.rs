@@ -20,10 +20,12 @@ pub fn kinds(step: &str) -> &'static [Kind] {
     match step {
         "sqrt" | "sqrt_bits" => &ROOT,
         "compare" => &PAIR,
+        "ray" => &TRIANGLE,
         "grid_from_box" => &BOX,
         "grid_snap" => &SNAP,
         _ if step.starts_with("grid") => &GRID,
-        _ => &TRIANGLE,
+        // The last are a ray's alone.
+        _ => &TRIANGLE[..TRIANGLE.len() - GRAZING],
     }
 }
 
@@ -174,7 +176,26 @@ fn flip_zeros(r: &mut Random, w: &mut [u32; IN]) {
     }
 }
 
-static TRIANGLE: [Kind; 17] = [
+/// How many kinds, the last, are made for rays that graze (document 02, §3).
+pub const GRAZING: usize = 5;
+
+/// The three corners and the origin on a lattice of three by three by three, so that a weight is 0 more often than not.
+fn coarse(r: &mut Random, w: &mut [u32; IN]) {
+    let step = f32::from_bits(r.pick(&[bits(1.0), bits(0.1), bits(1.0 / 1024.0), bits(1_048_576.0), 0x80_0000]));
+    for word in &mut w[..12] {
+        *word = bits((r.below(3) as f32 - 1.0) * step);
+    }
+    w[12] = r.below(3) as u32;
+    flip_zeros(r, w);
+}
+
+/// The two axes across the ray's.
+fn across(w: &[u32; IN]) -> [usize; 2] {
+    let axis = w[12] as usize;
+    [(axis + 1) % 3, (axis + 2) % 3]
+}
+
+static TRIANGLE: [Kind; 22] = [
     kind("bits", |r, w| points(r, w, |r| r.next() as u32)),
     kind("within", |r, w| points(r, w, |r| within(r, REACH))),
     kind("bounds", |r, w| {
@@ -274,6 +295,60 @@ static TRIANGLE: [Kind; 17] = [
         });
         if r.once_in(4) {
             equal_corners(r, w);
+        }
+    }),
+    // From here on for rays alone: `GRAZING` says how many.
+    kind("graze-lattice", coarse),
+    kind("graze-along-an-edge", |r, w| {
+        // Over an edge that runs along an axis, or beyond its ends; the plane of the edge at 0 of either sign half the time.
+        coarse(r, w);
+        let across = across(w);
+        let turn = r.below(2) as usize;
+        let (fixed, free) = (across[turn], across[1 - turn]);
+        let at = if r.once_in(2) { r.unit() * 4.0 } else { 0.0 };
+        for k in [fixed, 3 + fixed, 6 + fixed] {
+            w[k] = bits(at);
+        }
+        for k in [free, 3 + free, 6 + free] {
+            w[k] = if r.once_in(2) { whole(r) } else { fine(r) };
+        }
+        flip_zeros(r, w);
+    }),
+    kind("graze-a-corner", |r, w| {
+        // Through a corner, which may lie on the edge across from it; at times a float beside it.
+        plain_points(r, w);
+        w[12] = r.below(3) as u32;
+        let (corner, beside) = (3 * (1 + r.below(3) as usize), r.once_in(4));
+        for k in across(w) {
+            w[k] = if beside { near(r, w[corner + k], 1) } else { w[corner + k] };
+        }
+        flip_zeros(r, w);
+    }),
+    kind("graze-edge-on", |r, w| {
+        // A facet that has no area across the ray: along one axis it has one place, or it is a needle or a point.
+        plain_points(r, w);
+        w[12] = r.below(3) as u32;
+        let axes = across(w);
+        for &k in &axes[..r.between(1, 2) as usize] {
+            (w[6 + k], w[9 + k]) = (w[3 + k], w[3 + k]);
+            if r.once_in(2) {
+                w[k] = w[3 + k];
+            }
+        }
+        if r.once_in(4) {
+            equal_corners(r, w);
+        }
+        flip_zeros(r, w);
+    }),
+    kind("graze-underflow", |r, w| {
+        // So small that a product is lost: a weight is 0 though the ray is off the edge.
+        plain_points(r, w);
+        w[12] = r.below(3) as u32;
+        let tiny = 2f32.powi(-(r.between(50, 130) as i32));
+        for word in &mut w[..12] {
+            if !r.once_in(6) {
+                *word = bits(f32::from_bits(*word) * tiny);
+            }
         }
     }),
 ];

@@ -1,6 +1,6 @@
-//! compare-steps N SEED: each step of the port held to the unmodified Rust, bit for bit, on N inputs of each kind.
-//! Prints what was met and the first difference of each step and kind; ends with 1 if there was any. Then the time of
-//! a distance and of a ray test, the port's and the Rust's.
+//! compare-steps N SEED: each step of the port held to the unmodified Rust, bit for bit, on N inputs of each kind; whether a ray
+//! grazes, to the model. Prints what was met and the first difference of each step and kind; ends with 1 if there was any. Then the
+//! time of a distance and of a ray test, the port's and the Rust's.
 
 mod inputs;
 mod port;
@@ -14,7 +14,7 @@ use port::PORT;
 use random::Random;
 use std::hint::black_box;
 use std::time::Instant;
-use steps::{bare_distance, bare_ray, number, Step, IN, OUT, STEPS};
+use steps::{bare_distance, bare_ray, number, rust_ray, Step, IN, OUT, STEPS};
 
 /// The answers met, by document 01's number.
 #[derive(Default)]
@@ -22,6 +22,8 @@ struct Met {
     given: u64,
     /// Of these, the hits of a ray and the points inside a grid.
     hits: u64,
+    /// The rays that graze.
+    grazed: u64,
     refused: [u64; 7],
     differences: u64,
 }
@@ -30,6 +32,7 @@ impl Met {
     fn add(&mut self, other: &Met) {
         self.given += other.given;
         self.hits += other.hits;
+        self.grazed += other.grazed;
         self.differences += other.differences;
         for (sum, x) in self.refused.iter_mut().zip(other.refused) {
             *sum += x;
@@ -73,18 +76,19 @@ fn hold(step: &Step, kind: &Kind, n: u64, r: &mut Random) -> Met {
             _ => met.given += 1,
         }
         met.hits += u64::from(owed[1] == 1 && ["ray", "grid_snap"].contains(&step.name));
+        met.grazed += u64::from(owed[2] == 1 && step.name == "ray");
     }
     met
 }
 
 fn line(step: &str, kind: &str, n: u64, met: &Met) {
     let [a, b, c, d] = [1, 2, 4, 6].map(|k| met.refused[k]);
-    let (given, hits, differ) = (met.given, met.hits, met.differences);
-    println!("{step:16} {kind:20} {n:>10} {given:>10} {hits:>9} {a:>9} {b:>9} {c:>9} {d:>9} {differ:>6}");
+    let (given, hits, grazed, differ) = (met.given, met.hits, met.grazed, met.differences);
+    println!("{step:16} {kind:20} {n:>10} {given:>10} {hits:>9} {grazed:>9} {a:>9} {b:>9} {c:>9} {d:>9} {differ:>6}");
 }
 
 fn compare(n: u64, seed: u64) -> u64 {
-    println!("step             kind                     inputs      given  hit/in. refused 1         2         4         6 differ");
+    println!("step             kind                     inputs      given  hit/in.    grazed refused 1         2         4         6 differ");
     let mut differences = 0;
     for (s, step) in STEPS.iter().enumerate() {
         let mut all = Met::default();
@@ -135,7 +139,7 @@ fn measure(seed: u64) {
                     black_box(bare_ray(words));
                 }),
             };
-            let owed = STEPS[number(step)].owed;
+            let owed = if step == "ray" { rust_ray } else { STEPS[number(step)].owed };
             let tested = time(&inputs, |words| {
                 let mut out = [0; OUT];
                 owed(words, &mut out);

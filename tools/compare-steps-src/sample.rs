@@ -1,5 +1,6 @@
 //! steps-sample SEED: prints the stored sample of steps: a line of 32-bit words for each case, in lower-case hex: the
-//! number of the step, what goes in, and what the unmodified Rust answers (or the refusal that document 01 owes).
+//! number of the step, what goes in, and what the unmodified Rust answers (or the refusal that document 01 owes); whether a ray
+//! grazes is the model's answer.
 
 #[allow(dead_code)]
 mod inputs;
@@ -9,9 +10,10 @@ mod random;
 #[allow(dead_code)]
 mod steps;
 
-use inputs::kinds;
+use inputs::{kinds, GRAZING};
+use model::geometry::Reply;
 use random::Random;
-use steps::{number, IN, OUT, STEPS};
+use steps::{number, plain_ray, point, IN, OUT, STEPS};
 
 /// How many cases of each step, in the order of the steps.
 const CASES: [usize; STEPS.len()] = [20, 20, 42, 17, 34, 51, 51, 51, 5, 10, 5, 5, 5, 10, 15, 15, 15, 48, 16];
@@ -76,6 +78,8 @@ fn main() {
     }
     for (s, n) in CASES.into_iter().enumerate() {
         let of = kinds(STEPS[s].name);
+        // Those made for rays that graze come last, with random numbers of their own: the cases before them stay as they were.
+        let of = &of[..of.len() - if STEPS[s].name == "ray" { GRAZING } else { 0 }];
         for case in 0..n {
             // Two of three are to be telling, where their kind has such cases; the others are as they come.
             let mut words = [0; IN];
@@ -88,4 +92,54 @@ fn main() {
             print(s, &words);
         }
     }
+    grazing(&mut Random::new(seed + 3, 0));
+}
+
+/// Twice of each kind that is made for rays that graze, along the axes in turn: a ray that grazes; one whose zero weights are all
+/// -0; and a miss with a weight of 0. Every kind has all three.
+fn grazing(r: &mut Random) {
+    let of = kinds("ray");
+    for round in 0..2 {
+        for (k, kind) in of[of.len() - GRAZING..].iter().enumerate() {
+            for (n, wanted) in [Wanted::Grazed, Wanted::GrazedMinusZero, Wanted::Missed].into_iter().enumerate() {
+                let axis = (round + k + n) as u32 % 3;
+                let mut words = [0; IN];
+                while words[12] != axis || !wanted.is(&words) {
+                    (kind.fill)(r, &mut words);
+                }
+                print(number("ray"), &words);
+            }
+        }
+    }
+}
+
+#[derive(Clone, Copy, PartialEq)]
+enum Wanted {
+    Grazed,
+    GrazedMinusZero,
+    Missed,
+}
+
+impl Wanted {
+    fn is(self, words: &[u32; IN]) -> bool {
+        let zeros: Vec<f32> = weights(words).into_iter().filter(|w| *w == 0.0).collect();
+        let reply = plain_ray(words);
+        match self {
+            Wanted::Grazed => reply == Reply::Grazed,
+            Wanted::GrazedMinusZero => reply == Reply::Grazed && zeros.iter().all(|w| w.is_sign_negative()),
+            Wanted::Missed => reply == Reply::Miss && !zeros.is_empty(),
+        }
+    }
+}
+
+/// The weights of a ray, for choosing cases by them.
+fn weights(words: &[u32; IN]) -> [f32; 3] {
+    let axis = words[12] as usize;
+    let (y, z) = ((axis + 1) % 3, (axis + 2) % 3);
+    let p = point(words);
+    let corners = [3, 6, 9].map(|k| point(&words[k..]));
+    [(1, 2), (2, 0), (0, 1)].map(|(from, to)| {
+        let (a, b) = (corners[from], corners[to]);
+        (p[z] - a[z]) * (b[y] - a[y]) - (p[y] - a[y]) * (b[z] - a[z])
+    })
 }

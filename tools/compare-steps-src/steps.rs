@@ -1,7 +1,9 @@
 //! The steps: each on 32-bit words, floats by their bits. What is owed for an input is the unmodified Rust's answer
-//! where the question is within bounds, and else the refusal that a plain test of document 01's bounds gives.
+//! where the question is within bounds, and else the refusal that a plain test of document 01's bounds gives. Whether a ray
+//! grazes, for which the Rust has no reply, is the model's answer.
 
 use mesh_to_sdf::{probe, Grid, SnapResult};
+use model::geometry::Reply;
 
 pub type P = [f32; 3];
 
@@ -32,7 +34,7 @@ pub const STEPS: [Step; 19] = [
     step("segment", 9, 4, segment),
     step("triangle", 12, 4, triangle),
     step("distance", 12, 2, distance),
-    step("ray", 13, 3, ray),
+    step("ray", 13, 4, ray),
     step("grid_first", 9, 4, |i, o| of_grid(i, o, |g, o| put(o, &g.get_first_cell()))),
     step("grid_last", 9, 4, |i, o| of_grid(i, o, |g, o| put(o, &g.get_last_cell()))),
     step("grid_size", 9, 4, |i, o| of_grid(i, o, |g, o| put(o, &g.get_cell_size()))),
@@ -164,14 +166,31 @@ fn distance(i: &[u32], o: &mut [u32]) {
 }
 
 fn ray(i: &[u32], o: &mut [u32]) {
+    rust_ray(i, o);
+    if o[0] == 0 {
+        let model = plain_ray(i);
+        let hit = (o[1] == 1).then_some(o[3]);
+        assert_eq!(hit, model.hit().map(f32::to_bits), "the Rust's ray and the model's: {i:x?}");
+        o[2] = u32::from(model == Reply::Grazed);
+    }
+}
+
+/// Number, hit, grazed, t, as far as the Rust can tell: never grazed.
+pub fn rust_ray(i: &[u32], o: &mut [u32]) {
     if out_of_reach(i, 12) {
         o[0] = 2;
         return;
     }
     if let Some(t) = bare_ray(i) {
         o[1] = 1;
-        o[2] = t.to_bits();
+        o[3] = t.to_bits();
     }
+}
+
+/// The model's ray: any axis above y is z.
+pub fn plain_ray(i: &[u32]) -> Reply {
+    let corners = [point(&i[3..]), point(&i[6..]), point(&i[9..])];
+    model::geometry::ray(point(i), corners, i[12].min(2) as usize)
 }
 
 /// The Rust alone, with no test of bounds.

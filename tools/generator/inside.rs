@@ -130,7 +130,7 @@ pub fn at_max(r: &mut Random) -> Job {
         job.vertices = corners.map(|v| [0, 1, 2].map(|axis| v[(axis + turned) % 3] * scale)).to_vec();
         let corners = [job.vertices[0], job.vertices[1], job.vertices[2]];
         let centre = job.grid.centre([0; 3]);
-        let hit = (0..3).all(|axis| model::geometry::ray(centre, corners, axis).is_some());
+        let hit = (0..3).all(|axis| model::geometry::ray(centre, corners, axis).hit().is_some());
         if hit && model::geometry::distance(centre, corners).is_infinite() {
             return job;
         }
@@ -204,6 +204,47 @@ fn grazing_corners(r: &mut Random) -> Job {
         triangle(&mut mesh, corners);
     }
     job(grid, &mesh, r)
+}
+
+/// What the other kinds have seldom or never: along each axis in turn, a ray over an edge whose weight is -0; one through a corner
+/// with two weights of -0; a needle along the axis, which all rays along it graze; a point, which all rays graze; and an edge that
+/// two triangles share, so that a ray over it counts twice. No centre is -0, so where a ray grazes a facet that is not edge-on, its
+/// zero weights are all -0 only if an edge runs from +0 to -0, or if a product underflows.
+pub fn grazing_zeros(r: &mut Random) -> Job {
+    let ways = [0, 1, 2, 3, 4].map(|way| [0, 1, 2].map(|axis| (way, axis)));
+    let (way, axis) = r.turn(ways.as_flattened());
+    let (y, z) = ((axis + 1) % 3, (axis + 2) % 3);
+    loop {
+        // The middle cell of three on each axis, or the second of four, has its centre at 0.
+        let size = [0; 3].map(|_| r.pick(&[0.25, 0.5, 1.0, 2.0]));
+        let grid = Grid { first: size.map(|s: f32| -s), size, count: [0; 3].map(|_| r.between(3, 4)) };
+        // In cells from there, across the axis; along it, anywhere in halves.
+        let mut along = || f64::from(r.between(0, 4)) * 0.5;
+        let mut corner = |at_y: i32, at_z: i32| {
+            let mut at = [0.0; 3];
+            (at[axis], at[y], at[z]) = (along(), 1.0 + f64::from(at_y), 1.0 + f64::from(at_z));
+            at
+        };
+        let mut mesh = Mesh::default();
+        match way {
+            0 => triangle(&mut mesh, [corner(0, -1), corner(0, 1), corner(1, 0)]),
+            1 => triangle(&mut mesh, [corner(0, -1), corner(0, 0), corner(-1, 1)]),
+            2 => triangle(&mut mesh, [corner(0, 1), corner(0, 1), corner(0, 1)]),
+            3 => {
+                triangle(&mut mesh, [corner(0, 1); 3]);
+                triangle(&mut mesh, [corner(-1, -1), corner(1, -1), corner(0, 1)]);
+            }
+            _ => {
+                mesh.vertices = vec![corner(-1, -1), corner(1, 1), corner(1, -1), corner(-1, 1)];
+                mesh.triangles = vec![[0, 1, 2], [0, 1, 3]];
+            }
+        }
+        let mut job = job(grid, &mesh, r);
+        job.vertices[1][y] = if job.vertices[1][y] == 0.0 { -0.0 } else { job.vertices[1][y] };
+        if model::answer(&job).is_ok() {
+            return job;
+        }
+    }
 }
 
 fn triangle(mesh: &mut Mesh, corners: [[f64; 3]; 3]) {

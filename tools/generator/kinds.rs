@@ -18,8 +18,8 @@ const MOST_ENTRIES: u32 = 2_048;
 
 pub type Make = fn(&mut Random) -> Job;
 
-/// Kinds that are asked for by name alone: five that lie beyond the job program's limits, and one that came after the sets.
-pub const ALONE: [(&str, Make); 6] = [
+/// Kinds that are asked for by name alone: five that lie beyond the job program's limits, and two that came after the sets.
+pub const ALONE: [(&str, Make); 7] = [
     ("large-sphere", large_sphere),
     ("large-tank", large_tank),
     ("large-soup", large_soup),
@@ -27,6 +27,8 @@ pub const ALONE: [(&str, Make); 6] = [
     ("large-too-many-vertices", too_many_vertices),
     // A set sign bit without a distance: §2.
     ("inside-at-max", inside::at_max),
+    // Weights of -0, and facets that all rays along an axis graze: §3.
+    ("inside-grazing-zeros", inside::grazing_zeros),
 ];
 
 /// The kinds that the base was built with.

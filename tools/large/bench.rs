@@ -17,27 +17,13 @@ mod random;
 mod rust;
 #[path = "../generator/shapes.rs"]
 mod shapes;
+mod workloads;
 
-use model::grid::Grid;
 use model::topology::triangles;
 use model::Job;
 use port::{ask, ask_records, ask_with_room, Lent};
-use random::Random;
-use shapes::Mesh;
 use web_time::Instant;
 
-/// A closed tank, its scan with vertices off by up to half a cell, that without its roof, and triangles anywhere: to
-/// two cells across; to sixteen, of which there are an eighth as many; and as many to twenty.
-const WORKLOADS: [(&str, fn(&Grid, u32, &mut Random) -> Mesh); 6] = [
-    ("closed-tank", |grid, n, r| meshes::tank(grid, n, 0.9, r)),
-    ("noisy-scan", |grid, n, r| meshes::scan(grid, n, 0.5, r)),
-    ("open-tank", |grid, n, r| meshes::without_roof(meshes::scan(grid, n, 0.5, r))),
-    ("soup", |grid, n, r| meshes::soup_of(grid, n, 1.0, r)),
-    ("large-facets", |grid, n, r| meshes::soup_of(grid, n / 8, 8.0, r)),
-    ("dense-facets", |grid, n, r| meshes::soup_of(grid, n, 10.0, r)),
-];
-/// Cells along each axis, and triangles.
-const SIZES: [(u32, u32); 4] = [(16, 625), (32, 2_500), (64, 10_000), (100, 20_000)];
 const PARTS: [&str; 4] = ["seeding", "spreading", "crossings", "whole"];
 
 /// Milliseconds of the three parts and the whole.
@@ -79,45 +65,41 @@ fn main() {
     mesh_oracle::begin();
     println!("load before: {}", load());
     let (mut slowest, mut slowest_records) = ([f64::MAX; 4], f64::MAX);
-    for (workload, mesh) in WORKLOADS {
-        for (edge, number) in SIZES.into_iter().filter(|(edge, _)| *edge <= largest) {
-            let grid = Grid { first: [0.05; 3], size: [0.1; 3], count: [edge; 3] };
-            let mut lent = Lent::fitting(&grid, 2 * grid.cells() as usize);
-            let mesh = mesh(&grid, number, &mut Random::new(7, 0));
-            let job = meshes::plain(grid, mesh);
-            let answer = ask_with_room(&job, &mut lent);
-            let (mut a, mut b, mut records) = ([f64::MAX; 4], [f64::MAX; 4], f64::MAX);
-            for _ in 0..if edge == 100 { rounds.min(3) } else { rounds } {
-                least(&mut a, ours(&job, &mut lent, answer.pops));
-                least(&mut b, theirs(&job));
-                records = records.min(over_records(&job, &mut lent));
-            }
-            // Out of the three calls, the three parts.
-            a = [a[0], a[1] - a[0], a[2] - a[1], a[3]];
-            let cells = f64::from(job.grid.cells());
-            println!(
-                "{workload}, {edge} x {edge} x {edge} cells, {} triangles: pops {} ({:.2} a cell), peak {} ({:.2} a cell)",
-                triangles(&job).len(),
-                answer.pops,
-                f64::from(answer.pops) / cells,
-                answer.peak,
-                answer.peak as f64 / cells
-            );
-            for part in 0..4 {
-                let ratio = b[part] / a[part];
-                slowest[part] = slowest[part].min(ratio);
-                println!(
-                    "    {:<10} {:>10.2} ms the library ({:>3.0}%) {:>10.2} ms the Rust   {ratio:.2} times as fast",
-                    PARTS[part],
-                    a[part],
-                    100.0 * a[part] / a[3],
-                    b[part]
-                );
-            }
-            let ratio = b[3] / records;
-            slowest_records = slowest_records.min(ratio);
-            println!("    {:<10} {records:>10.2} ms over a row of records {:>25} {ratio:.2} times as fast", "whole", "");
+    for (workload, edge, job) in workloads::jobs(largest) {
+        let mut lent = Lent::fitting(&job.grid, 2 * job.grid.cells() as usize);
+        let answer = ask_with_room(&job, &mut lent);
+        let (mut a, mut b, mut records) = ([f64::MAX; 4], [f64::MAX; 4], f64::MAX);
+        for _ in 0..if edge == 100 { rounds.min(3) } else { rounds } {
+            least(&mut a, ours(&job, &mut lent, answer.pops));
+            least(&mut b, theirs(&job));
+            records = records.min(over_records(&job, &mut lent));
         }
+        // Out of the three calls, the three parts.
+        a = [a[0], a[1] - a[0], a[2] - a[1], a[3]];
+        let cells = f64::from(job.grid.cells());
+        println!(
+            "{workload}, {edge} x {edge} x {edge} cells, {} triangles: pops {} ({:.2} a cell), peak {} ({:.2} a cell), grazed {}",
+            triangles(&job).len(),
+            answer.pops,
+            f64::from(answer.pops) / cells,
+            answer.peak,
+            answer.peak as f64 / cells,
+            answer.grazed
+        );
+        for part in 0..4 {
+            let ratio = b[part] / a[part];
+            slowest[part] = slowest[part].min(ratio);
+            println!(
+                "    {:<10} {:>10.2} ms the library ({:>3.0}%) {:>10.2} ms the Rust   {ratio:.2} times as fast",
+                PARTS[part],
+                a[part],
+                100.0 * a[part] / a[3],
+                b[part]
+            );
+        }
+        let ratio = b[3] / records;
+        slowest_records = slowest_records.min(ratio);
+        println!("    {:<10} {records:>10.2} ms over a row of records {:>25} {ratio:.2} times as fast", "whole", "");
     }
     println!("whole over a row of records: at least {slowest_records:.2} times as fast");
     for part in 0..4 {

@@ -7,8 +7,12 @@
 //!   middle   to 64 x 64 x 64 cells and 6,000 triangles
 //!   large    to 100 x 100 x 100 cells and 20,000 triangles (the default); the crossing counts of every second
 //!            job, since the Rust works them out again for it
-//!   bounds   one job at each bound of document 01; with N = 0 the library alone, which takes seconds where the Rust
-//!            takes minutes; SEED does not matter
+//!   bounds   one job at each bound of document 01, and one whose rays that graze pass 32 bits; with N = 0 the library alone,
+//!            which takes seconds where the Rust takes minutes; SEED does not matter
+//!
+//! The Rust has no reply for a ray that grazes (document 02, §3). The total of `small` is the model's; that of the others is
+//! counted here, every ray with every triangle, by the model's ray test; in `large` where the crossings are held too. In `bounds`
+//! only the last job's is held, since it is known: all its facets are points, which every ray grazes.
 
 #[path = "../generator/damage.rs"]
 mod damage;
@@ -24,6 +28,8 @@ mod rust;
 #[path = "../generator/shapes.rs"]
 mod shapes;
 
+use model::geometry::{ray, Reply};
+use model::grid::AXES;
 use model::{bounds, text, topology, Done, Job};
 use port::{Answer, Lent};
 use random::Random;
@@ -38,6 +44,11 @@ struct Seen {
     answers: BTreeMap<u32, u64>,
     to_rust: u64,
     records: u64,
+    /// Jobs whose rays that graze were counted here; those with any, how many in all, the most.
+    counted: u64,
+    with_grazed: u64,
+    grazed: u64,
+    most_grazed: u64,
     nans: u64,
     cells: u64,
     triangles: u64,
@@ -56,6 +67,9 @@ impl Seen {
         let coordinates = job.vertices.as_flattened();
         self.records += u64::from(port::hold_records(job, coordinates, before, u32::MAX, held.answer, lent)?);
         let (cells, triangles) = (u64::from(job.grid.cells()), topology::triangles(job).len() as u64);
+        if with_crossings {
+            self.count_grazed(job, held.answer)?;
+        }
         self.to_rust += 1;
         self.nans += u64::from(held.answer.number == 6);
         self.cells += cells;
@@ -65,6 +79,19 @@ impl Seen {
         self.ours += held.ours;
         self.theirs += held.theirs;
         Ok(held)
+    }
+
+    /// The rays that graze, against every ray with every triangle. A refusal has none.
+    fn count_grazed(&mut self, job: &Job, answer: Answer) -> Result<(), String> {
+        let counted = if answer.number == 0 { grazed(job) } else { 0 };
+        if answer.grazed != counted {
+            return Err(format!("grazed {}, and {counted} were counted", answer.grazed));
+        }
+        self.counted += 1;
+        self.with_grazed += u64::from(counted > 0);
+        self.grazed += counted;
+        self.most_grazed = self.most_grazed.max(counted);
+        Ok(())
     }
 
     fn print(&self) {
@@ -78,6 +105,10 @@ impl Seen {
             "held to the Rust: {} jobs ({} of them end at a NaN), {} cells, {} triangles, {} pops; \
              the largest {} cells, the most {} triangles",
             self.to_rust, self.nans, self.cells, self.triangles, self.pops, self.most[0], self.most[1]
+        );
+        println!(
+            "rays that graze, counted one by one: {} jobs, {} of them with any, {} in all, the most {}",
+            self.counted, self.with_grazed, self.grazed, self.most_grazed
         );
         println!("over records, the same answer and buffers: {} jobs", self.records);
         println!("seconds: {:.1} the library, {:.1} the Rust", self.ours, self.theirs);
@@ -127,6 +158,19 @@ fn main() {
     std::process::exit(i32::from(seen.differences > 0));
 }
 
+/// How many rays and triangles, taken together, graze: a ray from each starting cell of the three faces, along its axis.
+fn grazed(job: &Job) -> u64 {
+    let corners: Vec<_> = topology::triangles(job).iter().map(|t| t.map(|v| job.vertices[v as usize])).collect();
+    let mut count = 0;
+    for axis in AXES {
+        let starts = (0..job.grid.cells()).map(|index| job.grid.coordinates(index)).filter(|cell| cell[axis] == 0);
+        for origin in starts.map(|cell| job.grid.centre(cell)) {
+            count += corners.iter().filter(|c| ray(origin, **c, axis) == Reply::Grazed).count() as u64;
+        }
+    }
+    count
+}
+
 // Jobs as the job program may be given.
 
 /// One job over buffers that hold noise, some of them of a wrong length: answer and buffers are the model's. Then the
@@ -135,6 +179,9 @@ fn small(index: u64, r: &mut Random, seen: &mut Seen) -> (String, Result<(), Str
     let all = kinds::of_set(None);
     let turns = all.len() as u64;
     let kind = match index % 100 {
+        // Those that came after the sets.
+        96 => "inside-at-max",
+        97 => "inside-grazing-zeros",
         // Beyond the program's limits, for the two bounds that they keep out of sight.
         98 => "large-too-many-triangles",
         99 => "large-too-many-vertices",
@@ -169,14 +216,18 @@ fn hold_to_model(job: &Job, r: &mut Random, seen: &mut Seen) -> Result<u32, Stri
     let coordinates = &coordinates[..coordinates.len() - usize::from(uneven)];
     let answer = port::ask_with(job, coordinates, &mut lent, job.pops);
     *seen.answers.entry(answer.number).or_default() += 1;
-    let (number, pops, peak, left) = match owed {
-        Ok(done) => (0, done.pops, done.peak as usize, filled(done, kept)),
-        Err(number) if number < 6 => (number, 0, 0, kept),
-        Err(number) => (number, 0, 0, cleared(kept)),
+    let refused = |number: u32| Answer { number, ..Answer::default() };
+    let (model, left) = match owed {
+        Ok(done) => {
+            let tally = Answer { number: 0, pops: done.pops, peak: done.peak as usize, grazed: done.grazed };
+            (tally, filled(done, kept))
+        }
+        Err(number) if number < 6 => (refused(number), kept),
+        Err(number) => (refused(number), cleared(kept)),
     };
-    if (answer.number, answer.pops, answer.peak) != (number, pops, peak) {
-        let Answer { number: n, pops: p, peak: k } = answer;
-        return Err(format!("answer {n} with pops {p}, peak {k}; the model gives {number}, {pops}, {peak}"));
+    let number = model.number;
+    if answer != model {
+        return Err(format!("{answer:?}; the model gives {model:?}"));
     }
     if lent.bits() != left.bits() {
         return Err(format!("answer {number}, and a buffer is not as the model leaves it"));
@@ -275,25 +326,33 @@ fn large(
 
 fn at_bounds(with_rust: bool, seen: &mut Seen) {
     // Soups with as many corners as there may be vertices; with 131,072 triangles these are 393,216.
-    let jobs: [([u32; 3], u32); 5] = [
-        ([1_024, 1_024, 1], 2_000),
-        ([1, 1_024, 1_024], 2_000),
-        ([102, 102, 100], 20_000),
-        ([32, 32, 32], 131_072),
-        ([102, 102, 100], 131_072),
+    // The last has facets of no extent, every one of which every ray grazes: 1,050,624 rays and 4,096 facets pass 32 bits.
+    let jobs: [([u32; 3], u32, f64); 6] = [
+        ([1_024, 1_024, 1], 2_000, 1.0),
+        ([1, 1_024, 1_024], 2_000, 1.0),
+        ([102, 102, 100], 20_000, 1.0),
+        ([32, 32, 32], 131_072, 1.0),
+        ([102, 102, 100], 131_072, 1.0),
+        ([1_024, 1_024, 1], 4_096, 0.0),
     ];
-    println!("counts | triangles | answer | pops | peak | seconds, the library | the Rust | lent MB, room for the peak");
-    for (count, triangles) in jobs {
+    println!("counts | triangles | answer | pops | peak | grazed | seconds, the library | the Rust | lent MB, room for the peak");
+    for (count, triangles, reach) in jobs {
         let mut r = Random::new(1, 0);
         let grid = meshes::grid(count, &mut r);
         let mut lent = Lent::fitting(&grid, 2 * grid.cells() as usize);
-        let mesh = meshes::soup_of(&grid, triangles, 1.0, &mut r);
+        let mesh = meshes::soup_of(&grid, triangles, reach, &mut r);
         let job = meshes::plain(grid, mesh);
         seen.jobs += 1;
         let verdict = if with_rust { seen.hold(&job, &mut lent, false) } else { Ok(rust::alone(&job, &mut lent)) };
+        let [x, y, z] = count.map(u64::from);
+        let points = (y * z + x * z + x * y) * u64::from(triangles);
+        let verdict = verdict.and_then(|held| match held.answer.grazed {
+            grazed if reach == 0.0 && grazed != points => Err(format!("grazed {grazed}, and {points} do")),
+            _ => Ok(held),
+        });
         match verdict {
             Ok(held) => {
-                let Answer { number, pops, peak } = held.answer;
+                let Answer { number, pops, peak, grazed } = held.answer;
                 *seen.answers.entry(number).or_default() += 1;
                 let words = job.vertices.len() * 3
                     + job.indices.map_or(0, |list| list.len())
@@ -301,7 +360,7 @@ fn at_bounds(with_rust: bool, seen: &mut Seen) {
                     + lent.rows.len()
                     + 3 * peak;
                 println!(
-                    "{count:?} | {triangles} | {number} | {pops} | {peak} | {:.2} | {:.2} | {:.1}",
+                    "{count:?} | {triangles} | {number} | {pops} | {peak} | {grazed} | {:.2} | {:.2} | {:.1}",
                     held.ours,
                     held.theirs,
                     (4 * words) as f64 / 1e6

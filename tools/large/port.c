@@ -8,7 +8,7 @@ void port_job(const uint32_t *grid, const float *vertices, size_t coordinate_cou
               size_t names_length, uint32_t *crossings, size_t crossings_length, uint32_t *rows, size_t rows_length,
               uint32_t *distances, size_t distances_length, uint32_t *cells, size_t cells_length, uint32_t *triangles,
               size_t triangles_length, uint32_t *row, size_t row_length, uint32_t limit, uint32_t *number,
-              uint32_t *pops, size_t *peak) {
+              uint32_t *pops, size_t *peak, uint64_t *grazed) {
     sdf_grid on = *(const sdf_grid *)grid;
     sdf_terms terms = {.limit = limit};
     sdf_job_answer answer =
@@ -22,4 +22,5 @@ void port_job(const uint32_t *grid, const float *vertices, size_t coordinate_cou
     *number = answer.number;
     *pops = answer.pops;
     *peak = answer.peak;
+    *grazed = answer.grazed;
 }

@@ -33,6 +33,7 @@ extern "C" {
         number: *mut u32,
         pops: *mut u32,
         peak: *mut usize,
+        grazed: *mut u64,
     );
 }
 
@@ -41,6 +42,7 @@ pub struct Answer {
     pub number: u32,
     pub pops: u32,
     pub peak: usize,
+    pub grazed: u64,
 }
 
 /// The lent buffers.
@@ -140,6 +142,7 @@ fn call(job: &Job, coordinates: &[f32], lent: &mut Lent, row: Option<&mut [[u32;
             &mut answer.number,
             &mut answer.pops,
             &mut answer.peak,
+            &mut answer.grazed,
         );
     }
     answer

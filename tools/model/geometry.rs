@@ -108,8 +108,27 @@ pub fn distance(p: Point, triangle: [Point; 3]) -> f32 {
     length(sub(p, closest_point(p, triangle)))
 }
 
-/// Aligned ray from `origin` along `axis`: a miss, or a hit with its distance t.
-pub fn ray(origin: Point, [v0, v1, v2]: [Point; 3], axis: usize) -> Option<f32> {
+/// What a ray test answers. Grazed is document 02's, §3: document 01 had it among the misses.
+#[derive(Clone, Copy, PartialEq, Debug)]
+pub enum Reply {
+    Miss,
+    Grazed,
+    /// With its distance t.
+    Hit(f32),
+}
+
+impl Reply {
+    /// The hit's t, which is all that document 01 knew.
+    pub fn hit(self) -> Option<f32> {
+        match self {
+            Reply::Hit(t) => Some(t),
+            Reply::Miss | Reply::Grazed => None,
+        }
+    }
+}
+
+/// Aligned ray from `origin` along `axis`.
+pub fn ray(origin: Point, [v0, v1, v2]: [Point; 3], axis: usize) -> Reply {
     // The ray's axis is called x here, and the two that follow it in the circle x, y, z are y and z.
     let x = |v: Point| v[axis];
     let y = |v: Point| v[(axis + 1) % 3];
@@ -127,5 +146,17 @@ pub fn ray(origin: Point, [v0, v1, v2]: [Point; 3], axis: usize) -> Option<f32> 
     let all_above = weights.iter().all(|&w| w > 0.0);
     // The products summed w0, w2, w1.
     let t = -((w0 * x(p0) + w2 * x(p2)) + w1 * x(p1)) / ((w0 + w1) + w2);
-    ((all_below || all_above) && t > 0.0).then_some(t)
+    let hit = (all_below || all_above) && t > 0.0;
+    // Document 02, §3: not a hit, at least one weight is 0, and not one above 0 with another below 0, wherever t lies. As a number
+    // -0 is 0.
+    let some_zero = weights.iter().any(|&w| w == 0.0);
+    let some_above = weights.iter().any(|&w| w > 0.0);
+    let some_below = weights.iter().any(|&w| w < 0.0);
+    if hit {
+        Reply::Hit(t)
+    } else if some_zero && !(some_above && some_below) {
+        Reply::Grazed
+    } else {
+        Reply::Miss
+    }
 }

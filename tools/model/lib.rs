@@ -69,6 +69,8 @@ pub const NONE: u32 = 4_294_967_295;
 pub struct Done {
     pub pops: u32,
     pub peak: u32,
+    /// How many rays and triangles, taken together, graze.
+    pub grazed: u64,
     /// Distance and named triangle of each cell.
     pub field: Vec<f32>,
     pub names: Vec<u32>,

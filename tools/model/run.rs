@@ -1,6 +1,6 @@
 //! "The run, from document 000", with reply numbers 6 to 8 in the order in which the run meets them.
 
-use crate::geometry::{self, Point};
+use crate::geometry::{self, Point, Reply};
 use crate::grid::{floor, Grid, AXES};
 use crate::{order, topology, Done, Job, Refusal, NONE};
 use std::cmp::Ordering;
@@ -26,10 +26,10 @@ pub fn run(job: &Job) -> Result<Done, Refusal> {
     run.seeding()?;
     run.queueing()?;
     run.spreading()?;
-    let crossings = run.crossings();
+    let (crossings, grazed) = run.rays();
     run.signs(&crossings);
     let rows = run.rows();
-    Ok(Done { pops: run.pops, peak: run.peak, field: run.field, names: run.names, crossings, rows })
+    Ok(Done { pops: run.pops, peak: run.peak, grazed, field: run.field, names: run.names, crossings, rows })
 }
 
 /// A waiting entry: its cell held this triangle at this distance when it was queued.
@@ -182,9 +182,11 @@ impl<'a> Run<'a> {
     }
 
     /// 4. Signs: the crossing counts. For each starting cell of the faces x=0, y=0, z=0 a ray runs along that axis
-    /// against all triangles; a hit at t adds one at each cell of the line up to number floor(t / size).
-    fn crossings(&self) -> Vec<[u32; 3]> {
+    /// against all triangles; a hit at t adds one at each cell of the line up to number floor(t / size). Beside them the total
+    /// of document 02, §3: how many rays and triangles, taken together, graze. It adds no crossing.
+    fn rays(&self) -> (Vec<[u32; 3]>, u64) {
         let mut counts = vec![[0; 3]; self.field.len()];
+        let mut grazed = 0;
         for axis in AXES {
             for index in 0..self.grid.cells() {
                 let start = self.grid.coordinates(index);
@@ -192,18 +194,22 @@ impl<'a> Run<'a> {
                     continue;
                 }
                 for corners in &self.corners {
-                    if let Some(t) = geometry::ray(self.grid.centre(start), *corners, axis) {
-                        let reach = floor(t / self.grid.size[axis]);
-                        for number in (0..self.grid.count[axis]).filter(|&n| i64::from(n) <= reach) {
-                            let mut cell = start;
-                            cell[axis] = number;
-                            counts[self.grid.index(cell) as usize][axis] += 1;
+                    match geometry::ray(self.grid.centre(start), *corners, axis) {
+                        Reply::Miss => {}
+                        Reply::Grazed => grazed += 1,
+                        Reply::Hit(t) => {
+                            let reach = floor(t / self.grid.size[axis]);
+                            for number in (0..self.grid.count[axis]).filter(|&n| i64::from(n) <= reach) {
+                                let mut cell = start;
+                                cell[axis] = number;
+                                counts[self.grid.index(cell) as usize][axis] += 1;
+                            }
                         }
                     }
                 }
             }
         }
-        counts
+        (counts, grazed)
     }
 
     /// A cell with two or three odd counts has its distance negated; 0 becomes −0.

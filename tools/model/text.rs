@@ -17,7 +17,7 @@ pub fn listing(text: &[u8], large: bool, crossings: bool, requests: Requests) ->
         Ok(done) => done,
         Err(number) => return format!("answer={number}\n"),
     };
-    let mut out = format!("answer=0\npops={}\npeak={}\n", done.pops, done.peak);
+    let mut out = format!("answer=0\npops={}\npeak={}\ngrazed={}\n", done.pops, done.peak, done.grazed);
     for (index, (distance, name)) in done.field.iter().zip(&done.names).enumerate() {
         writeln!(out, "cell={index} {} {name}", bits(*distance)).unwrap();
     }

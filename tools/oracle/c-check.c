@@ -40,7 +40,8 @@ int main(void) {
     expect("box to 4.0001", oracle_triangle_bounding_box(a, b, c, low, high) == 0 && high[0] == 4.0001f && low[2] == -0.0001f);
     expect("ray from (1,1,-1): hit at 1.0",
            oracle_ray_triangle_intersection_aligned(under, a, b, c, 2, &hit, &d) == 0 && hit == 1 && d == 1);
-    expect("ray from (0,1,-1): miss", oracle_ray_triangle_intersection_aligned(edge, a, b, c, 2, &hit, &d) == 0 && hit == 0);
+    expect("ray from (0,1,-1): no hit (the Rust has no word for grazed)",
+           oracle_ray_triangle_intersection_aligned(edge, a, b, c, 2, &hit, &d) == 0 && hit == 0);
     expect("ray from (1,1,0): miss", oracle_ray_triangle_intersection_aligned(on, a, b, c, 2, &hit, &d) == 0 && hit == 0);
     expect("compare(+1, -1) is less", oracle_compare_distances(1, -1, &order) == 0 && order < 0);
     expect("compare(-1, +1) is greater", oracle_compare_distances(-1, 1, &order) == 0 && order > 0);
