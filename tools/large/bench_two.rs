@@ -3,15 +3,13 @@
 //! where a call is short), in milliseconds of the processor's time, before and after, and after by before. Sizes above EDGE
 //! (100) are left out. Ends with 1 if the two leave another field, other names or crossings, or count other pops or peak.
 //!
-//! The crossings are the difference of two calls: the whole, and one with one pop less than the job takes, which ends before
-//! them. What a refusal clears again stands in the second. The least of each is taken, so one call that was disturbed in every
-//! round spoils the difference. Therefore the last column: after by before of the middle times, for the crossings of the middle
-//! difference within a round. Where the two columns are far apart, something else was running.
+//! The crossings are timed from when their counts are cleared (bench_two_clock.c) to the end of the call, so the signs and the
+//! rows stand in them, a few thousandths. As the difference of two calls, one of which ends before them, they were uncertain by a
+//! hundredth of the whole, which is more than a tenth of some. The last column is after by before of the middle times: where it is
+//! far from that of the least, something else was running.
 
 #![allow(dead_code)] // Each module serves others too.
 
-#[path = "../oracle/stand-ins/web-time/src/lib.rs"]
-mod clock;
 mod meshes;
 #[path = "../generator/random.rs"]
 mod random;
@@ -19,7 +17,6 @@ mod random;
 mod shapes;
 mod workloads;
 
-use clock::Instant;
 use model::Job;
 
 /// What is lent to a call, as bench_two.c reads it.
@@ -49,6 +46,9 @@ type Call = unsafe extern "C" fn(lent: *const Lent, limit: u32, number: *mut u32
 extern "C" {
     fn job_before(lent: *const Lent, limit: u32, number: *mut u32, pops: *mut u32, peak: *mut usize);
     fn job_after(lent: *const Lent, limit: u32, number: *mut u32, pops: *mut u32, peak: *mut usize);
+    fn time_now() -> f64;
+    fn watch(buffer: *const u32);
+    fn last_cleared() -> f64;
 }
 
 const SIDES: [Call; 2] = [job_before, job_after];
@@ -81,7 +81,8 @@ impl Buffers {
         }
     }
 
-    fn ask(&mut self, side: Call, job: &Job, limit: u32) -> (Answer, f64) {
+    /// The answer, and the milliseconds of the crossings and of the whole call.
+    fn ask(&mut self, side: Call, job: &Job) -> (Answer, [f64; 2]) {
         let indices = job.indices.as_deref().unwrap_or(&[]);
         let coordinates = job.vertices.as_flattened();
         let [distances, queued, triangles] = &mut self.queue;
@@ -105,10 +106,16 @@ impl Buffers {
             triangles: triangles.as_mut_ptr(),
         };
         let mut answer = Answer::default();
-        let begin = Instant::now();
         // SAFETY: every pointer is that of a slice or a number, with the slice's own length; none are shared.
-        unsafe { side(&lent, limit, &mut answer.number, &mut answer.pops, &mut answer.peak) };
-        (answer, begin.elapsed().as_secs_f64() * 1e3)
+        let (begin, crossings, end) = unsafe {
+            watch(lent.crossings);
+            let begin = time_now();
+            side(&lent, u32::MAX, &mut answer.number, &mut answer.pops, &mut answer.peak);
+            (begin, last_cleared(), time_now())
+        };
+        assert_eq!(answer.number, 0, "the job is done");
+        assert!(begin <= crossings && crossings <= end, "the crossings were seen to begin");
+        (answer, [end - crossings, end - begin])
     }
 
     /// What must be the same of the two.
@@ -127,27 +134,27 @@ fn main() {
     for (workload, edge, job) in workloads::jobs(largest) {
         // Twice as many entries as cells are enough for these jobs.
         let mut buffers = Buffers::fitting(&job, 2 * job.grid.cells() as usize);
-        let [before, after] = SIDES.map(|side| (buffers.ask(side, &job, u32::MAX).0, buffers.left()));
+        let [before, after] = SIDES.map(|side| (buffers.ask(side, &job).0, buffers.left()));
         if before != after {
             differences += 1;
             println!("{workload} {edge}: DIFFERENT, {:?} before and {:?} after", before.0, after.0);
         }
-        // The times of the call that ends before the crossings and of the whole, of each side.
+        // The times of the crossings and of the whole, of each side.
         let mut times = [const { [const { Vec::new() }; 2] }; 2];
         for round in 0..rounds * (10_000 / (edge * edge)) {
-            for part in 0..2 {
-                for turn in 0..2 {
-                    // Each goes first half the time.
-                    let side = (round as usize + turn) % 2;
-                    let limit = [[before.0.pops, after.0.pops][side].saturating_sub(1), u32::MAX][part];
-                    times[side][part].push(buffers.ask(SIDES[side], &job, limit).1);
+            for turn in 0..2 {
+                // Each goes first half the time.
+                let side = (round as usize + turn) % 2;
+                for (times, time) in times[side].iter_mut().zip(buffers.ask(SIDES[side], &job).1) {
+                    times.push(time);
                 }
             }
         }
-        let of = times.map(|[spread, whole]| {
-            let pairs = whole.iter().zip(&spread).map(|(whole, spread)| whole - spread).collect();
-            let (spread, whole) = (sorted(spread), sorted(whole));
-            [[whole[0] - spread[0], middle(&sorted(pairs))], [whole[0], middle(&whole)]]
+        let of = times.map(|parts| {
+            parts.map(|times| {
+                let times = sorted(times);
+                [times[0], middle(&times)]
+            })
         });
         for (part, name) in ["crossings", "whole"].into_iter().enumerate() {
             let [[a, middle_a], [b, middle_b]] = of.map(|side| side[part]);
