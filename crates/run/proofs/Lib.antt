@@ -10,3 +10,4 @@ pub mod Steps
 pub mod Ways
 pub mod Inputs
 pub mod Numbers
+pub mod NoCrossing

@@ -1,6 +1,7 @@
 -- `job_close::close`: a refusal leaves what `clear_fields` leaves, else what `finish` does. Assumes nothing.
 use borrow.Author.Needs.{needs}
 use mathlib.Core.Path.{refl}
+use Rattle.job_outcome.specs.declared.Answer.the-variants.{Done}
 use Rattle.job_close.proofs.close.Statement.{statement}
 use Rattle.job_close.proofs.close.Tie as tie
 
@@ -19,7 +20,12 @@ returns-2 : tie.Need-returns-2
 returns-2 c =
     let q = c .before .before .before .before .before .before in
     let e = q .before .before .before .before in
-    record { refused = λ z. absurd (z (e .if1 .left)); done = λ z. (rw (q .finish .ensures .1), refl, q .finish .ensures .0) }
+    let s : tie.Start = search in
+    let ran = s .args .ran in
+    record {
+      refused = λ z. absurd (z (e .if1 .left));
+      done = λ z. ((λ i. Done (record { pops = ran .pops; peak = ran .peak; grazed = q .finish .ensures .1 i })), refl, q .finish .ensures .0);
+    }
 
 pub close-spec : {M : Type 1} → statement M
 close-spec =
