@@ -31,8 +31,7 @@ signed c =
 returns : tie.Need-returns
 returns c =
     let r = c .before .before in
-    let f = r .before .before .before .before .before in
-    (
+    let f = r .before .before .before .before .before in (
       record {
         crossings = counted f .cross .ensures .0;
         field = signed f;

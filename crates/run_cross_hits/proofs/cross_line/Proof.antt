@@ -70,7 +70,7 @@ returns-3 c =
     let a = entry h .args in
     rw (h .hit .given .1) (
       hit-grown (a .grid) (a .axis) (a .u) (a .v) (found .cell .result .index) (h .hit .given .0 .0) (entry h .pre .0) (in-front h) (last-is found)
-      (added .add-line .ensures),
+          (added .add-line .ensures),
       refl,
     )
 
