@@ -16,16 +16,6 @@ use Rattle.geo_ray.specs.Ray.{allBelow, allAbove, hits, someZero, onBoth
 
 -- ---- one weight
 
--- below 0: neither above it nor 0
-pub record Below (w : Float) : Type 0 where
-  pub not-above : (f0 ≺ w) ≡ false
-  pub not-zero : (w ≐ f0) ≡ false
-
--- above 0: neither below it nor 0
-pub record Above (w : Float) : Type 0 where
-  pub not-below : (w ≺ f0) ≡ false
-  pub not-zero : (w ≐ f0) ≡ false
-
 below : (w : Float) → lt w (fin false 0 (pos 0)) ≡ true → (lt (fin false 0 (pos 0)) w ≡ false) × (eq w (fin false 0 (pos 0)) ≡ false)
 unfolding lt eq
 below nan h = absurd (true≢false (sym h))
@@ -51,49 +41,40 @@ above (fin false m e) h = apart (m * up e * 1) (down e) (ltb-true (0 * 1 * down 
     apart : (a d : ℕ) → 0 * 1 * d < a → (ltb a (0 * 1 * d) ≡ false) × ((eqb a (0 * 1 * d) && (true || eqb a 0)) ≡ false)
     apart a d k = (le-ltb a (0 * 1 * d) (omega arith), ap (λ (t : Bool). t && (true || eqb a 0)) (ne-eqb a (0 * 1 * d) (λ q. omega arith)))
 
-pub is-below : (w : Float) → (w ≺ f0) ≡ true → Below w
-is-below w h =
-    let t = below w (ap (lt w) (sym zero-is) ∙ h) in
-    record { not-above = ap (λ (z : Float). lt z w) zero-is ∙ t .0; not-zero = ap (eq w) zero-is ∙ t .1 }
+-- below 0: neither above it nor 0
+is-below : (w : Float) → (w ≺ f0) ≡ true → ((f0 ≺ w) ≡ false) × ((w ≐ f0) ≡ false)
+is-below w h = let t = below w (ap (lt w) (sym zero-is) ∙ h) in (ap (λ (z : Float). lt z w) zero-is ∙ t .0, ap (eq w) zero-is ∙ t .1)
 
-pub is-above : (w : Float) → (f0 ≺ w) ≡ true → Above w
-is-above w h =
-    let t = above w (ap (λ (z : Float). lt z w) (sym zero-is) ∙ h) in
-    record { not-below = ap (lt w) zero-is ∙ t .0; not-zero = ap (eq w) zero-is ∙ t .1 }
+-- above 0: neither below it nor 0
+is-above : (w : Float) → (f0 ≺ w) ≡ true → ((w ≺ f0) ≡ false) × ((w ≐ f0) ≡ false)
+is-above w h = let t = above w (ap (λ (z : Float). lt z w) (sym zero-is) ∙ h) in (ap (lt w) zero-is ∙ t .0, ap (eq w) zero-is ∙ t .1)
 
 -- ---- three weights
 
-three : (p q r : Bool) → (p && q && r) ≡ true → (p ≡ true) × (q ≡ true) × (r ≡ true)
-three p q r h = (and-first p q (and-first (p && q) r h), and-second p q (and-first (p && q) r h), and-second (p && q) r h)
-
-none : {p q r : Bool} → p ≡ false → q ≡ false → r ≡ false → (p || q || r) ≡ false
-none a b c = rw (a, b, c)
+-- where a weight on one side is neither on the other nor 0, and all are on the one, none is on the other, and none is 0
+all-apart : {on off zero : Float → Bool} (w0 w1 w2 : Float)
+    → ((w : Float) → on w ≡ true → (off w ≡ false) × (zero w ≡ false))
+    → (on w0 && on w1 && on w2) ≡ true
+    → ((off w0 || off w1 || off w2) ≡ false) × ((zero w0 || zero w1 || zero w2) ≡ false)
+all-apart {on} {off} {zero} w0 w1 w2 apart h =
+    let two = and-first (on w0 && on w1) (on w2) h in
+    let p0 = apart w0 (and-first (on w0) (on w1) two) in
+    let p1 = apart w1 (and-second (on w0) (on w1) two) in
+    let p2 = apart w2 (and-second (on w0 && on w1) (on w2) h) in
+    (rw (p0 .0, p1 .0, p2 .0), rw (p0 .1, p1 .1, p2 .1))
 
 module _ (w0 w1 w2 : Float) where
-  -- all below 0: none is 0, and none above
-  below-all : allBelow w0 w1 w2 ≡ true → (someZero w0 w1 w2 ≡ false) × (onBothSides w0 w1 w2 ≡ false)
-  below-all h =
-      let p = three (w0 ≺ f0) (w1 ≺ f0) (w2 ≺ f0) h in
-      let a = is-below w0 (p .0) in
-      let b = is-below w1 (p .1) in
-      let c = is-below w2 (p .2) in
-      (none (a .not-zero) (b .not-zero) (c .not-zero), rw (none (a .not-above) (b .not-above) (c .not-above)))
-
-  above-all : allAbove w0 w1 w2 ≡ true → (someZero w0 w1 w2 ≡ false) × (onBothSides w0 w1 w2 ≡ false)
-  above-all h =
-      let p = three (f0 ≺ w0) (f0 ≺ w1) (f0 ≺ w2) h in
-      let a = is-above w0 (p .0) in
-      let b = is-above w1 (p .1) in
-      let c = is-above w2 (p .2) in
-      (none (a .not-zero) (b .not-zero) (c .not-zero), rw (none (a .not-below) (b .not-below) (c .not-below), and-false))
-
   -- all on one side of 0: none is 0, and none on the other
   one-side : (allBelow w0 w1 w2 || allAbove w0 w1 w2) ≡ true → (someZero w0 w1 w2 ≡ false) × (onBothSides w0 w1 w2 ≡ false)
   one-side h = go (allBelow w0 w1 w2) refl h
     where
       go : (b : Bool) → allBelow w0 w1 w2 ≡ b → (b || allAbove w0 w1 w2) ≡ true → (someZero w0 w1 w2 ≡ false) × (onBothSides w0 w1 w2 ≡ false)
-      go true e k = below-all e
-      go false e k = above-all k
+      go true e k =
+          let p = all-apart {on = λ w. w ≺ f0} {off = λ w. f0 ≺ w} {zero = λ w. w ≐ f0} w0 w1 w2 is-below e in
+          (p .1, rw (p .0))
+      go false e k =
+          let p = all-apart {on = λ w. f0 ≺ w} {off = λ w. w ≺ f0} {zero = λ w. w ≐ f0} w0 w1 w2 is-above k in
+          (p .1, rw (p .0, and-false))
 
   -- "not a hit": of a ray that may hit none is 0, so it does not graze
   pub no-graze : (allBelow w0 w1 w2 || allAbove w0 w1 w2) ≡ true → grazes w0 w1 w2 ≡ false

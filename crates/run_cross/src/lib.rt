@@ -1,8 +1,9 @@
 // The crossing counts: for each cell and axis the number of triangles whose hit reaches the cell (document 01, "The
-// run", 4); and how many rays graze a triangle, over all (document 02, §3). The triangle is outside and the lines are inside, so that what depends on the triangle alone, or on the
-// triangle and one of a line's two numbers, is worked out once. A part of the port: users call `sdf`. `run_cross_lines` says
-// which cells a line along an axis has, `run_cross_marks` which lines of a row may be hit or grazed, `run_cross_hits` counts them, and
-// `run_cross_rows` takes the rows one after the other.
+// run", 4); and how many rays graze a triangle, over all (document 02, §3). The triangle is outside and the lines are
+// inside, so that what depends on the triangle alone, or on the triangle and one of a line's two numbers, is worked out
+// once. A part of the port: users call `sdf`. `run_cross_lines` says which cells a line along an axis has,
+// `run_cross_marks` which lines of a row may be hit or grazed, `run_cross_hits` counts them, and `run_cross_rows` takes the
+// rows one after the other.
 use grid::Grid;
 use mesh::Corners;
 use mesh_topology::Indices;
@@ -103,8 +104,8 @@ fn cross_all(
     total
 }
 
-// The whole pass. Tells how many rays graze a triangle, over all. The crossings may hold anything before. The room for a row of lines is made here, once,
-// and lent down.
+// The whole pass. Tells how many rays graze a triangle, over all. The crossings may hold anything before. The room for a
+// row of lines is made here, once, and lent down.
 pub fn cross(
     grid: Grid,
     vertices: &[f32],

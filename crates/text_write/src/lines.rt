@@ -1,7 +1,7 @@
 // Lines: a key, values with one space between, and LF.
 use crate::bytes::put;
 use crate::bytes::put_all;
-use crate::numbers::put_long;
+use crate::numbers::put_digits;
 use crate::numbers::put_value_then;
 use text::Form;
 use text::Three;
@@ -30,7 +30,7 @@ pub fn put_long_number(out: &mut [u8], at: usize, key: &[u8], n: u64) -> usize
     ensures { λ r. ⌜ r ≤ at + length (now (key .entry)) + 21 ⌝ }
 {
     let next = put_all(out, at, key);
-    let end = put_long(out, next, n);
+    let end = put_digits(out, next, n, 19);
     put(out, end, 10)
 }
 

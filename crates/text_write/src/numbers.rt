@@ -5,13 +5,13 @@ ghost use Prim.Native.Nat.{_+_, _<_, _≤_};
 ghost use lib.ListN.{length};
 ghost use mathlib.Core.Path.{_≡_};
 ghost use mathlib.Core.List.{[], _∷_, _++_};
-ghost use Rattle.text.specs.Words.{digits, decimal, decimalLong, hexDigit, hex, hex8};
+ghost use Rattle.text.specs.Words.{digits, decimal, hexDigit, hex, hex8};
 ghost use Rattle.text.specs.TextJob.{spelled};
 ghost use Rattle.lists.specs.Put.{Put};
 ghost use Rattle.text_write.specs.Digits.{FewDigits, width};
 
 // The digits of n, of which at most k stand before the last.
-fn put_digits(out: &mut [u8], at: usize, n: u64, k: usize) -> usize
+pub fn put_digits(out: &mut [u8], at: usize, n: u64, k: usize) -> usize
     requires { ⌜ at + k < length (now out) ⌝ }
     requires { ⌜ FewDigits k n ⌝ }
     ensures { λ r. ⌜ Put (now (out .entry)) at (digits k n) (now (out .exit)) r ⌝ }
@@ -29,15 +29,6 @@ fn put_decimal(out: &mut [u8], at: usize, n: u32) -> usize
     ensures { λ r. ⌜ r ≤ at + 10 ⌝ }
 {
     put_digits(out, at, n as u64, 9)
-}
-
-// A number that may pass 32 bits.
-pub fn put_long(out: &mut [u8], at: usize, n: u64) -> usize
-    requires { ⌜ at + 20 ≤ length (now out) ⌝ }
-    ensures { λ r. ⌜ Put (now (out .entry)) at (decimalLong n) (now (out .exit)) r ⌝ }
-    ensures { λ r. ⌜ r ≤ at + 20 ⌝ }
-{
-    put_digits(out, at, n, 19)
 }
 
 fn hex_digit(n: u32) -> u8
