@@ -18,7 +18,7 @@
  * Build: `rt staticlib sdf_c` leaves target/staticlib/libsdf_c.a, for x86-64 Linux. Of the C library it needs memcpy and
  * memset alone. No function keeps anything between calls, allocates, prints, calls back, or needs another call before it.
  * Two calls may run at the same time on two threads if no buffer that one of them writes is lent to the other. Stack: the
- * whole job takes about 16 KB (15,544 bytes were measured; 13 KB are four local arrays), a question less than 1 KB. No
+ * whole job takes about 16 KB (15,551 bytes below its caller's were measured; 13 KB are four local arrays), a question less than 1 KB. No
  * function calls itself, so no input takes more.
  *
  * What C owes to every function is the floating-point environment in which IEEE 754 holds: rounding to nearest, no
@@ -259,8 +259,8 @@ sdf_point_answer sdf_closest_point_triangle(sdf_point p, sdf_point a, sdf_point 
 sdf_distance_answer sdf_point_triangle_distance(sdf_point p, sdf_point a, sdf_point b, sdf_point c);
 /* Whether a ray from o along +x, +y or +z meets the triangle, and how far away: what the crossings count [6.6]. It is a hit
  * only with t > 0, and only through the triangle's inside. A ray whose line meets an edge or a corner, ahead of o or behind
- * it, or lies in the triangle's plane, grazes: at least one of its three weights is 0, and none is above 0 with another below.
- * Refuses by 2. */
+ * it, or lies in the triangle's plane, grazes: at least one of its three weights, as rounded, is 0, and none is above 0 with
+ * another below. Refuses by 2. */
 sdf_ray_answer sdf_ray_triangle_intersection_aligned(sdf_point o, sdf_point v0, sdf_point v1, sdf_point v2,
                                                      uint32_t axis);
 
