@@ -10,13 +10,13 @@ use Rattle.point.specs.declared.Axis.{Axis}
 use Rattle.point.specs.declared.Axis.the-variants.{X, Y, Z}
 use Rattle.grid.specs.declared.Grid.{Grid}
 use Rattle.grid.specs.declared.Cell.{Cell}
-use Rattle.grid.specs.Axes.{countOn, firstOn, sizeOn, cellOn, onEvery}
+use Rattle.grid.specs.Axes.{countOn, firstOn, sizeOn, cellOn, put, onEvery}
 use Rattle.grid.specs.Index.{Inside, index, coordinates, cellAt, strideOn, total, isCell}
 use Rattle.grid_axis.specs.AxisBounds.{isCount, isCoordinate, isSize, axisInBounds}
 use Rattle.grid_index.specs.ByCounts.{isTotal}
 use Rattle.grid_index.proofs.Fits.{counts-fit}
 use Rattle.grid.specs.Bounds.{isAxis, inBounds}
-use Rattle.grid.proofs.Laws.{index-below, cell-within}
+use Rattle.grid.proofs.Laws.{index-below, cell-within, put-within}
 
 both : (a b : Bool) → (a && b) ≡ true → (a ≡ true) × (b ≡ true)
 both true b h = (refl, h)
@@ -88,6 +88,16 @@ inside-of g c h = record { x-below = below X; y-below = below Y; z-below = below
 
 pub inside-test : (g : Grid) (c : Cell) → Inside g c → isCell g c ≡ true
 inside-test g c w = rw (lt-ltb (c .x) (countOn X g) (w .x-below), lt-ltb (c .y) (countOn Y g) (w .y-below), lt-ltb (c .z) (countOn Z g) (w .z-below))
+
+pub inside-on : (g : Grid) {c : Cell} → Inside g c → (a : Axis) → cellOn a c < countOn a g
+inside-on g w X = w .x-below
+inside-on g w Y = w .y-below
+inside-on g w Z = w .z-below
+
+pub inside-put : (g : Grid) (a : Axis) {k : ℕ} {c : Cell} → Inside g c → k < countOn a g → Inside g (put a k c)
+inside-put g X w h = put-within X w h
+inside-put g Y w h = put-within Y w h
+inside-put g Z w h = put-within Z w h
 
 -- ---- the number of a cell along an axis, off its index
 pub number-on : (g : Grid) (a : Axis) {i : ℕ} → i < total g → cellOn a (cellAt g i) ≡ i / strideOn g a % countOn a g

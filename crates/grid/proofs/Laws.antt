@@ -123,3 +123,8 @@ pub put-same : (a : Axis) (c : Cell) → put a (cellOn a c) c ≡ c
 put-same X c = refl
 put-same Y c = refl
 put-same Z c = refl
+
+pub put-again : (a : Axis) (i k : ℕ) (c : Cell) → put a i (put a k c) ≡ put a i c
+put-again X i k c = refl
+put-again Y i k c = refl
+put-again Z i k c = refl

@@ -24,6 +24,7 @@ fn finish(
     field: &mut [f32],
     crossings: &mut [u32],
     rows: &mut [u32],
+    terms: Terms,
 ) -> u64
     requires { ⌜ Fit grid (meshOf (now vertices) topology given (now indices)) ⌝ }
     requires { ⌜ length (now field) ≡ total grid ⌝ }
@@ -33,7 +34,8 @@ fn finish(
         ⌜ Finished grid m (now (field .entry)) (now (field .exit)) (now (crossings .exit)) (now (rows .exit)) ⌝ }
     ensures { λ r. ⌜ r ≡ grazed grid (meshOf (now (vertices .entry)) topology given (now (indices .entry))) ⌝ }
 {
-    let grazed = run_cross::cross(grid, vertices, topology, given, indices, crossings);
+    let pass = terms.pass;
+    let grazed = run_cross::cross(grid, vertices, topology, given, indices, crossings, pass);
     run_signs::sign(crossings, field);
     run_rows::count_rows(grid, field, rows);
     grazed
@@ -74,6 +76,7 @@ pub fn close(
         field,
         crossings,
         rows,
+        terms,
     );
     Answer::Done(Tally {
         pops: ran.pops,

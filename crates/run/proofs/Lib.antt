@@ -11,3 +11,4 @@ pub mod Ways
 pub mod Inputs
 pub mod Numbers
 pub mod NoCrossing
+pub mod Ends

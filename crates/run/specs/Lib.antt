@@ -4,3 +4,4 @@ pub mod Input
 pub mod Signs
 pub mod Good
 pub mod Grazed
+pub mod Ends

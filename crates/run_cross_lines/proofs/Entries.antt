@@ -49,11 +49,6 @@ inside-line g X n u v hn hu hv = record { x-below = hn; y-below = hu; z-below = 
 inside-line g Y n u v hn hu hv = record { x-below = hv; y-below = hn; z-below = hu }
 inside-line g Z n u v hn hu hv = record { x-below = hu; y-below = hv; z-below = hn }
 
-pub inside-on : (g : Grid) {c : Cell} → Inside g c → (a : Axis) → cellOn a c < countOn a g
-inside-on g w X = w .x-below
-inside-on g w Y = w .y-below
-inside-on g w Z = w .z-below
-
 -- ---- a cell and its entries
 
 pub place-below : (a : Axis) → axisNumber a < 3
@@ -96,9 +91,10 @@ index-on-line g X n u v = index-along X (countOn Y g) (countOn Z g) n (cellNumbe
 index-on-line g Y n u v = index-along Y (countOn Y g) (countOn Z g) n (cellNumbered v 0 u)
 index-on-line g Z n u v = index-along Z (countOn Y g) (countOn Z g) n (cellNumbered u v 0)
 
-pub entry-along : (g : Grid) (axis : Axis) (n u v : ℕ) → entryOf g axis (cellFrom axis n u v) ≡ entryOf g axis (cellFrom axis 0 u v) + n * (3 * strideOn g axis)
+pub entry-along : (g : Grid) (axis : Axis) (first j u v : ℕ)
+    → entryOf g axis (cellFrom axis (first + j) u v) ≡ entryOf g axis (cellFrom axis first u v) + j * (3 * strideOn g axis)
 unfolding entryOf
-entry-along g axis n u v = omega (arith, index-on-line g axis n u v)
+entry-along g axis first j u v = omega (arith, index-on-line g axis (first + j) u v, index-on-line g axis first u v)
 
 -- ---- the entry of a number
 

@@ -16,7 +16,7 @@ use Rattle.geo_ray.specs.declared.RayHit.{RayHit}
 use Rattle.geo_ray.specs.declared.RayHit.the-variants.{Miss, Grazed, Hit}
 use Rattle.geo_ray.specs.Ray.{isGrazed}
 use Rattle.lists.specs.Range.{sumBelow}
-use Rattle.lists.proofs.Range.{count-none, count-more, count-le, count-failed, count-same, sum-none, sum-more, sum-le, sum-same}
+use Rattle.lists.proofs.Range.{count-none, count-more, count-le, count-failed, count-nowhere, count-same, sum-none, sum-more, sum-le, sum-same}
 use Rattle.mesh.specs.declared.Corners.{Corners}
 use Rattle.mesh.specs.Mesh.{Mesh, trianglesIn, cornersAt}
 use Rattle.run.specs.Signs.{rayFrom}
@@ -43,11 +43,7 @@ row-grazed-missed hit v e = count-failed (λ i. isGrazed (hit i)) v (ap isGrazed
 
 -- lines that are all missed
 pub row-grazed-none : (hit : ℕ → RayHit) (count : ℕ) → ((v : ℕ) → v < count → hit v ≡ Miss) → grazedInRow count hit ≡ 0
-row-grazed-none hit zero h = sym (row-grazed-first hit)
-row-grazed-none hit (suc k) h =
-    ap (λ (n : ℕ). grazedInRow n hit) (sym (add-one k))
-    ∙ row-grazed-missed hit k (h k (omega arith))
-    ∙ row-grazed-none hit k (λ v l. h v (omega arith))
+row-grazed-none hit count h = count-nowhere (λ i. isGrazed (hit i)) count (λ v l. ap isGrazed (h v l))
 
 pub row-grazed-le : (hit : ℕ → RayHit) (count : ℕ) → grazedInRow count hit ≤ count
 row-grazed-le hit count = count-le (λ i. isGrazed (hit i)) count

@@ -20,7 +20,9 @@ use Rattle.grid.specs.Axes.{countOn, sizeOn, cellOn, next, cellFrom}
 use Rattle.grid.specs.Index.{Inside, cellAt, total}
 use Rattle.grid.specs.Bounds.{inBounds}
 use Rattle.grid.specs.Place.{centreOf}
-use Rattle.grid.proofs.Facts.{bounds-of, on-axis}
+use Rattle.grid.proofs.Facts.{bounds-of, on-axis, inside-on}
+use Rattle.terms.specs.declared.Pass.{Pass}
+use Rattle.terms.specs.declared.Pass.the-variants.{Plain, Quick}
 use Rattle.geo_ray.specs.declared.Three.{Three}
 use Rattle.geo_ray.specs.declared.RayHit.the-variants.{Miss, Grazed, Hit}
 use Rattle.geo_ray.specs.Ray.{allBelow, allAbove, hits, grazes, reach, castOf, acrossZ, acrossY, alongX, rayOf}
@@ -32,12 +34,13 @@ use Rattle.lists.proofs.Table.{is-table}
 use Rattle.mesh.specs.declared.Corners.{Corners}
 use Rattle.mesh.specs.Mesh.{Mesh, trianglesIn, cornersAt}
 use Rattle.run.specs.Signs.{axisAt, rayFrom, crosses, crossings, crossingsAt, allCrossings}
+use Rattle.run.specs.Ends.{ends}
 use Rattle.slices.specs.Counts.{Room}
 use Rattle.run_cross_lines.specs.Lines.{uOf, vOf, centreAlong, entryOf}
-use Rattle.run_cross_lines.specs.Pass.{Grown, same, onLine, lineCrossed, hitOn, crossedBy, mayMeet, ahead, Across, castHit}
-use Rattle.run_cross_lines.proofs.Entries.{inside-on, entry-below, inside-at, entry-at}
+use Rattle.run_cross_lines.specs.Pass.{Grown, same, onLine, firstAdded, addsOn, lineCrossed, hitOn, crossedBy, addsFor, Counted, mayMeet, ahead, Across, castHit}
+use Rattle.run_cross_lines.proofs.Entries.{entry-below, inside-at, entry-at}
 use Rattle.run_cross_lines.proofs.Grown.{grown-as}
-use Rattle.run_cross_lines.proofs.Reach.{reached}
+use Rattle.run_cross_lines.proofs.Reach.{added}
 
 -- ---- the answer
 
@@ -59,13 +62,14 @@ hit-ahead zs ys xs =
     go t false true h = refl
     go t false false h = refl
 
--- a hit reaches the cells of its line up to the cell of the quotient
-pub hit-grown : (g : Grid) (axis : Axis) (u v last : ℕ) (t : Float) {l m : List ℕ} → inBounds g ≡ true → f0 ≺ t ≡ true
-    → last ≡ cellOf (countOn axis g) (floorOf (t ⊘ sizeOn axis g)) → Grown g (onLine axis u v last) l m → Grown g (lineCrossed g axis u v (Hit t)) l m
-hit-grown g axis u v last t b h e s =
+-- a hit adds one from the first cell that the pass has for it to the cell of the quotient
+pub hit-grown : (pass : Pass) (g : Grid) (axis : Axis) (u v first last : ℕ) (t : Float) {l m : List ℕ} → inBounds g ≡ true → f0 ≺ t ≡ true
+    → last ≡ cellOf (countOn axis g) (floorOf (t ⊘ sizeOn axis g)) → first ≡ firstAdded pass last → Grown g (onLine axis u v first last) l m
+    → Grown g (lineCrossed pass g axis u v (Hit t)) l m
+hit-grown pass g axis u v first last t b h e f s =
     grown-as
     (λ a c w. ap (λ (r : Bool). (same a axis && eqb (uOf axis c) u) && (eqb (vOf axis c) v && r))
-    (ap (leb (cellOn axis c)) e ∙ reached t (sizeOn axis g) (cellOn axis c) (countOn axis g) h (on-axis (bounds-of g b) axis .sized) (inside-on g w axis)))
+    (rw (f, e) (added pass t (sizeOn axis g) (cellOn axis c) (countOn axis g) h (on-axis (bounds-of g b) axis .sized) (inside-on g w axis))))
     s
 
 -- ---- the line's ray, in parts
@@ -87,46 +91,53 @@ cast-hits g t axis z0 z1 z2 p u v h =
 
 -- ---- the counts of the run
 
-pub crosses-by : (g : Grid) (m : Mesh) (axis : Axis) (c : Cell) (k : ℕ) → crosses g m axis c k ≡ crossedBy g (cornersAt m k) axis c
-unfolding crosses rayFrom crossedBy hitOn
-crosses-by g m X c k = refl
-crosses-by g m Y c k = refl
-crosses-by g m Z c k = refl
+by-triangle : (pass : Pass) (g : Grid) (m : Mesh) (axis : Axis) (c : Cell) (k : ℕ) → addsOn pass g axis c (rayFrom g m axis c k) ≡ crossedBy pass g (cornersAt m k) axis c
+unfolding rayFrom crossedBy hitOn
+by-triangle pass g m X c k = refl
+by-triangle pass g m Y c k = refl
+by-triangle pass g m Z c k = refl
 
--- after k triangles each entry is the number of those that cross there
-pub record Counted (g : Grid) (m : Mesh) (k : ℕ) (l : List ℕ) : Type 0 where
-  pub long : length l ≡ 3 * total g
-  pub each : (a : Axis) (c : Cell) → Inside g c → getD l (entryOf g a c) 0 ≡ countBelow (crosses g m a c) k
-
-pub counted-none : (g : Grid) (m : Mesh) (l : List ℕ) → l ≡ replicate (3 * total g) 0 → Counted g m 0 l
-counted-none g m l e =
+pub counted-none : (pass : Pass) (g : Grid) (m : Mesh) (l : List ℕ) → l ≡ replicate (3 * total g) 0 → Counted pass g m 0 l
+counted-none pass g m l e =
     record {
       long = ap length e ∙ length-replicate (3 * total g) 0;
-      each = λ a c w. ap (λ (s : List ℕ). getD s (entryOf g a c) 0) e ∙ getD-replicate (3 * total g) (entryOf g a c) 0 0 (entry-below g a c w) ∙ sym (count-none (crosses g m a c));
+      each = λ a c w. ap (λ (s : List ℕ). getD s (entryOf g a c) 0) e ∙ getD-replicate (3 * total g) (entryOf g a c) 0 0 (entry-below g a c w) ∙ sym (count-none (addsFor pass g m a c));
     }
 
 -- no count is above the number of triangles, so no sum wraps
-pub counted-room : (g : Grid) (m : Mesh) (k : ℕ) (l : List ℕ) → k ≤ 131072 → Counted g m k l → Room 5 l
-counted-room g m k l h s i = go (decLt i (3 * total g))
+pub counted-room : (pass : Pass) (g : Grid) (m : Mesh) (k : ℕ) (l : List ℕ) → k ≤ 131072 → Counted pass g m k l → Room 5 l
+counted-room pass g m k l h s i = go (decLt i (3 * total g))
   where
     go : Dec (i < 3 * total g) → getD l i 0 + 5 < 2 ^ 32
     go (yes w) =
         subst (λ (j : ℕ). getD l j 0 + 5 < 2 ^ 32) (entry-at g i)
-        (omega (arith, s .each (axisAt i) (cellAt g (i / 3)) (inside-at g i w), count-le (crosses g m (axisAt i) (cellAt g (i / 3))) k))
+        (omega (arith, s .each (axisAt i) (cellAt g (i / 3)) (inside-at g i w), count-le (addsFor pass g m (axisAt i) (cellAt g (i / 3))) k))
     go (no w) =
         let past : length l ≤ i = omega (arith, s .long) in
         let none : getD l i 0 ≡ 0 = List·getD-eq-default l 0 past in
         omega arith
 
-pub counted-more : (g : Grid) (m : Mesh) (k : ℕ) {l n : List ℕ} → Counted g m k l → Grown g (crossedBy g (cornersAt m k)) l n → Counted g m (k + 1) n
-counted-more g m k s t =
+pub counted-more : (pass : Pass) (g : Grid) (m : Mesh) (k : ℕ) {l n : List ℕ} → Counted pass g m k l → Grown g (crossedBy pass g (cornersAt m k)) l n → Counted pass g m (k + 1) n
+counted-more pass g m k s t =
     record {
       long = t .long ∙ s .long;
-      each = λ a c w. t .each a c w ∙ ap (λ (i : ℕ). i + cond (crossedBy g (cornersAt m k) a c) 1 0) (s .each a c w) ∙ sym (count-more (crosses g m a c) k ∙ ap (λ (b : Bool). countBelow (crosses g m a c) k + cond b 1 0) (crosses-by g m a c k));
+      each = λ a c w. t .each a c w ∙ ap (λ (i : ℕ). i + cond (crossedBy pass g (cornersAt m k) a c) 1 0) (s .each a c w) ∙ sym (count-more (addsFor pass g m a c) k ∙ ap (λ (b : Bool). countBelow (addsFor pass g m a c) k + cond b 1 0) (by-triangle pass g m a c k));
     }
 
-pub counted-all : (g : Grid) (m : Mesh) (k : ℕ) (l : List ℕ) → k ≡ length (trianglesIn m) → Counted g m k l → l ≡ allCrossings g m
-unfolding allCrossings crossingsAt crossings
-counted-all g m k l e s =
-    is-table 0 (crossingsAt g m) (3 * total g) l (s .long)
-    (λ i h. ap (λ (j : ℕ). getD l j 0) (sym (entry-at g i)) ∙ s .each (axisAt i) (cellAt g (i / 3)) (inside-at g i h) ∙ ap (countBelow (crosses g m (axisAt i) (cellAt g (i / 3)))) e)
+-- entries that are all the crossing counts are the crossings
+pub all-crossings : (g : Grid) (m : Mesh) (l : List ℕ) → length l ≡ 3 * total g
+    → ((a : Axis) (c : Cell) → Inside g c → getD l (entryOf g a c) 0 ≡ crossings g m a c) → l ≡ allCrossings g m
+unfolding allCrossings crossingsAt
+all-crossings g m l long each =
+    is-table 0 (crossingsAt g m) (3 * total g) l long
+    (λ i h. ap (λ (j : ℕ). getD l j 0) (sym (entry-at g i)) ∙ each (axisAt i) (cellAt g (i / 3)) (inside-at g i h))
+
+-- which is what the plain pass adds up, and of the quick pass the marks
+pub counted-plain : (g : Grid) (m : Mesh) (l : List ℕ) → Counted Plain g m (length (trianglesIn m)) l → l ≡ allCrossings g m
+unfolding crossings crosses
+counted-plain g m l s = all-crossings g m l (s .long) (s .each)
+
+pub counted-quick : (g : Grid) (m : Mesh) (l : List ℕ) → Counted Quick g m (length (trianglesIn m)) l
+    → (a : Axis) (c : Cell) → Inside g c → getD l (entryOf g a c) 0 ≡ ends g m a c
+unfolding ends
+counted-quick g m l s = s .each

@@ -1,20 +1,27 @@
 -- How far a hit reaches. A hit lies ahead and a cell has a size, so the quotient is no NaN and has no sign, and its floor is a number
--- from 0 on. On a line of `count` cells the cell of the quotient is then the last that is at most the floor. Assumes nothing.
-use Prim.Native.Nat.{ℕ, zero, suc, _+_, _-_, _*_, _^_, _<_, min}
+-- from 0 on. On a line of `count` cells the cell of the quotient is then the last that is at most the floor: the last one reached, which is where
+-- the quick pass adds one, and the plain pass there and at all before it. Assumes nothing.
+use Prim.Native.Nat.{ℕ, zero, suc, _+_, _-_, _*_, _^_, _≤_, _<_, min}
+use native.Mathlib.Decide.{decLt}
 use native.Mathlib.Omega.{arith}
 use mathlib.Core.Path.{_≡_, refl, sym, ap, _∙_, subst}
-use mathlib.Core.Bool.{Bool, true, false, cond, _&&_, true≢false}
+use mathlib.Core.Bool.{Bool, true, false, cond, not, _&&_, true≢false}
 use lib.Dec.{T, leb, ltb, eqb, ltb→lt}
 use lib.IntN.{pos}
 use lib.Ieee.{Float, nan, inf, fin, binary32, ofBits, up, down, lt, le, div, round}
 use lib.Ieee.Positive.{positive, between}
-use borrow.Author.Tests.{eqb-true, leb-true, leb-false, le-leb, lt-leb}
+use borrow.Author.Tests.{eqb-true, leb-true, leb-false, le-leb, lt-leb, lt-ltb, le-ltb}
 use Rattle.float.specs.Arith.{_⊘_, _≺_, f0}
 use Rattle.float_floor.specs.Cell.{floorOf, cellOf}
+use Rattle.float_floor.proofs.Floors.{cell-lt}
 use Rattle.float.specs.Distance.{unsigned}
 use Rattle.float.proofs.NoSign.{round-unsigned}
 use Rattle.grid_axis.specs.AxisBounds.{isSize, f2¹⁰, f2⁻¹⁰}
+use Rattle.terms.specs.declared.Pass.{Pass}
+use Rattle.terms.specs.declared.Pass.the-variants.{Plain, Quick}
+use Rattle.geo_ray.specs.declared.RayHit.the-variants.{Hit}
 use Rattle.run.specs.Signs.{atMost}
+use Rattle.run_cross_lines.specs.Pass.{firstAdded, addsAt}
 
 -- ---- the quotient has no sign
 
@@ -70,9 +77,37 @@ at-last i k count h = go (leb i k) refl
     go true e = let l = leb-true i k e in le-leb i (min k (count - 1)) (omega arith) ∙ sym e
     go false e = let l = leb-false i k e in lt-leb i (min k (count - 1)) (omega arith) ∙ sym e
 
-pub reached : (t size : Float) (i count : ℕ) → f0 ≺ t ≡ true → isSize size ≡ true → i < count
+reached : (t size : Float) (i count : ℕ) → f0 ≺ t ≡ true → isSize size ≡ true → i < count
     → leb i (cellOf count (floorOf (t ⊘ size))) ≡ atMost i (floorOf (t ⊘ size))
 unfolding cellOf
 reached t size i count h s l =
     let q = floor-up (t ⊘ size) (quotient t size (ap (λ (z : Float). lt z t) (sym zero-is) ∙ h) (size-positive size s)) in
     rw (q .1) (at-last i (q .0) count l)
+
+-- ---- where a pass adds one
+
+-- from the last cell to the last cell: where it is reached, and the next, if there is one, is not
+only-last : (i last count : ℕ) (here next : Bool) → i < count → last < count → leb i last ≡ here → (i + 1 < count → leb (i + 1) last ≡ next)
+    → (leb last i && leb i last) ≡ (here && not (ltb (i + 1) count && next))
+only-last i last count here next h l e f = go (decLt i last) (decLt last i)
+  where
+    go : Dec (i < last) → Dec (last < i) → (leb last i && leb i last) ≡ (here && not (ltb (i + 1) count && next))
+    go (yes b) d =
+        rw (lt-leb last i b, ← e, le-leb i last (omega arith), lt-ltb (i + 1) count (omega arith), ← f (omega arith), le-leb (i + 1) last (omega arith))
+    go (no b) (yes d) = rw (le-leb last i (omega arith), ← e, lt-leb i last d)
+    go (no b) (no d) = rw (le-leb last i (omega arith), ← e, le-leb i last (omega arith)) (alone (decLt (i + 1) count))
+      where
+        alone : Dec (i + 1 < count) → true ≡ not (ltb (i + 1) count && next)
+        alone (yes m) = rw (lt-ltb (i + 1) count m, ← f m, lt-leb (i + 1) last (omega arith))
+        alone (no m) = rw (le-ltb (i + 1) count (omega arith))
+
+pub first-le : (pass : Pass) (last : ℕ) → firstAdded pass last ≤ last
+first-le Plain last = omega arith
+first-le Quick last = omega arith
+
+pub added : (pass : Pass) (t size : Float) (i count : ℕ) → f0 ≺ t ≡ true → isSize size ≡ true → i < count
+    → (let last = cellOf count (floorOf (t ⊘ size)) in (leb (firstAdded pass last) i && leb i last) ≡ addsAt pass size count i (Hit t))
+added Plain t size i count h s l = rw (le-leb 0 i (omega arith)) (reached t size i count h s l)
+added Quick t size i count h s l =
+    only-last i (cellOf count (floorOf (t ⊘ size))) count _ _ l (cell-lt count (floorOf (t ⊘ size)) (omega arith)) (reached t size i count h s l)
+    (λ m. reached t size (i + 1) count h s m)

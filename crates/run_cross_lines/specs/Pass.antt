@@ -1,5 +1,5 @@
 -- What the parts of the crossing pass leave behind: each entry as it was, or one more. Definitions only.
-use Prim.Native.Nat.{ℕ, _+_, _<_}
+use Prim.Native.Nat.{ℕ, _+_, _*_, _<_}
 use mathlib.Core.Path.{_≡_}
 use mathlib.Core.Bool.{Bool, true, false, cond, not, _&&_}
 use mathlib.Core.List.{List}
@@ -7,20 +7,25 @@ use lib.Dec.{leb, eqb}
 use lib.ListN.{length, getD}
 use lib.Ieee.{Float, nan}
 use Rattle.float.specs.Arith.{_⊖_, _≺_, f0}
+use Rattle.lists.specs.Range.{countBelow}
 use Rattle.point.specs.declared.Axis.{Axis}
 use Rattle.point.specs.declared.Axis.the-variants.{X, Y, Z}
 use Rattle.grid.specs.declared.Grid.{Grid}
 use Rattle.grid.specs.declared.Cell.{Cell}
-use Rattle.grid.specs.Axes.{sizeOn, cellOn, next, cellFrom}
-use Rattle.grid.specs.Index.{Inside}
+use Rattle.grid.specs.Axes.{countOn, sizeOn, cellOn, next, cellFrom}
+use Rattle.grid.specs.Index.{Inside, total}
 use Rattle.grid.specs.Place.{centreOf}
 use Rattle.geo_ray.specs.declared.Three.{Three}
 use Rattle.geo_ray.specs.declared.Cast.{Cast}
 use Rattle.geo_ray.specs.declared.RayHit.{RayHit}
 use Rattle.geo_ray.specs.declared.RayHit.the-variants.{Miss, Grazed, Hit}
 use Rattle.geo_ray.specs.Ray.{onBothSides, acrossZ, acrossY, alongX, rayOf, rayAligned}
+use Rattle.terms.specs.declared.Pass.{Pass}
+use Rattle.terms.specs.declared.Pass.the-variants.{Plain, Quick}
 use Rattle.mesh.specs.declared.Corners.{Corners}
-use Rattle.run.specs.Signs.{reaches}
+use Rattle.mesh.specs.Mesh.{Mesh}
+use Rattle.run.specs.Signs.{reaches, rayFrom}
+use Rattle.run.specs.Ends.{endsAt}
 use Rattle.run.specs.Grazed.{grazedOn}
 use Rattle.run_cross_lines.specs.Lines.{uOf, vOf, centreAlong, axisNumber, entryOf}
 
@@ -34,29 +39,52 @@ pub record Grown (g : Grid) (test : Axis → Cell → Bool) (old new : List ℕ)
 abbrev pub same : Axis → Axis → Bool
 same a b = eqb (axisNumber a) (axisNumber b)
 
--- the cells of line (u, v) up to number `last`
-abbrev pub onLine : Axis → ℕ → ℕ → ℕ → Axis → Cell → Bool
-onLine axis u v last a c = (same a axis && eqb (uOf axis c) u) && (eqb (vOf axis c) v && leb (cellOn axis c) last)
+-- the cells of line (u, v) from number `first` to number `last`
+abbrev pub onLine : Axis → ℕ → ℕ → ℕ → ℕ → Axis → Cell → Bool
+onLine axis u v first last a c = (same a axis && eqb (uOf axis c) u) && (eqb (vOf axis c) v && (leb first (cellOn axis c) && leb (cellOn axis c) last))
 
--- the cells of line (u, v) that the ray's answer reaches
-abbrev pub lineCrossed : Grid → Axis → ℕ → ℕ → RayHit → Axis → Cell → Bool
-lineCrossed g axis u v hit a c = (same a axis && eqb (uOf axis c) u) && (eqb (vOf axis c) v && reaches (sizeOn axis g) (cellOn axis c) hit)
+-- whether the pass adds one at cell number i of a line, for what its ray is answered: at each cell that is reached, or at the last of them
+abbrev pub addsAt : Pass → Float → ℕ → ℕ → RayHit → Bool
+addsAt Plain size count i hit = reaches size i hit
+addsAt Quick size count i hit = endsAt size count i hit
 
--- the cells of the lines with u, where `hit v` is the answer on line (u, v)
-abbrev pub rowCrossed : Grid → Axis → ℕ → (ℕ → RayHit) → Axis → Cell → Bool
-rowCrossed g axis u hit a c = (same a axis && eqb (uOf axis c) u) && reaches (sizeOn axis g) (cellOn axis c) (hit (vOf axis c))
+-- the first cell of the line that it adds one at, where `last` is the last one
+abbrev pub firstAdded : Pass → ℕ → ℕ
+firstAdded Plain last = 0
+firstAdded Quick last = last
 
--- the cells of all lines along the axis
-abbrev pub axisCrossed : Grid → Axis → (ℕ → ℕ → RayHit) → Axis → Cell → Bool
-axisCrossed g axis hit a c = same a axis && reaches (sizeOn axis g) (cellOn axis c) (hit (uOf axis c) (vOf axis c))
+-- the same of a cell and the line along the axis that it is on
+abbrev pub addsOn : Pass → Grid → Axis → Cell → RayHit → Bool
+addsOn pass g axis c hit = addsAt pass (sizeOn axis g) (countOn axis g) (cellOn axis c) hit
+
+-- the cells of line (u, v) where the ray's answer adds one
+abbrev pub lineCrossed : Pass → Grid → Axis → ℕ → ℕ → RayHit → Axis → Cell → Bool
+lineCrossed pass g axis u v hit a c = (same a axis && eqb (uOf axis c) u) && (eqb (vOf axis c) v && addsOn pass g axis c hit)
+
+-- those of the lines with u, where `hit v` is the answer on line (u, v)
+abbrev pub rowCrossed : Pass → Grid → Axis → ℕ → (ℕ → RayHit) → Axis → Cell → Bool
+rowCrossed pass g axis u hit a c = (same a axis && eqb (uOf axis c) u) && addsOn pass g axis c (hit (vOf axis c))
+
+-- those of all lines along the axis
+abbrev pub axisCrossed : Pass → Grid → Axis → (ℕ → ℕ → RayHit) → Axis → Cell → Bool
+axisCrossed pass g axis hit a c = same a axis && addsOn pass g axis c (hit (uOf axis c) (vOf axis c))
 
 -- the ray from the first cell of line (u, v) against a triangle
 unfoldable pub hitOn : Grid → Corners → Axis → ℕ → ℕ → RayHit
 hitOn g t axis u v = rayAligned (centreOf g (cellFrom axis 0 u v)) (t .a) (t .b) (t .c) axis
 
--- the cells that a triangle crosses, along the axis
-unfoldable pub crossedBy : Grid → Corners → Axis → Cell → Bool
-crossedBy g t axis c = reaches (sizeOn axis g) (cellOn axis c) (hitOn g t axis (uOf axis c) (vOf axis c))
+-- the cells where a triangle adds one, along the axis
+unfoldable pub crossedBy : Pass → Grid → Corners → Axis → Cell → Bool
+crossedBy pass g t axis c = addsOn pass g axis c (hitOn g t axis (uOf axis c) (vOf axis c))
+
+-- whether triangle k adds one at cell c, along the axis
+abbrev pub addsFor : Pass → Grid → Mesh → Axis → Cell → ℕ → Bool
+addsFor pass g m axis c k = addsOn pass g axis c (rayFrom g m axis c k)
+
+-- after k triangles each entry is the number of those that add one there
+pub record Counted (pass : Pass) (g : Grid) (m : Mesh) (k : ℕ) (l : List ℕ) : Type 0 where
+  pub long : length l ≡ 3 * total g
+  pub each : (a : Axis) (c : Cell) → Inside g c → getD l (entryOf g a c) 0 ≡ countBelow (addsFor pass g m a c) k
 
 -- ---- the rays that graze
 

@@ -2,6 +2,7 @@
 use geo_ray::Cast;
 use grid::Grid;
 use point::Axis;
+use terms::Pass;
 ghost use mathlib.Core.Path.{_≡_};
 ghost use mathlib.Core.Bool.{true};
 ghost use Prim.Native.Nat.{_*_, _≤_};
@@ -22,6 +23,7 @@ pub fn cross_rows(
     z2: &[f32],
     flags: &mut [bool],
     crossings: &mut [u32],
+    pass: Pass,
 ) -> u64
     requires { ⌜ inBounds grid ≡ true ⌝ }
     requires { ⌜ (1024 ≤ length (now z0)) × (1024 ≤ length (now z1)) × (1024 ≤ length (now z2)) ×
@@ -30,7 +32,7 @@ pub fn cross_rows(
     requires { ⌜ Room 3 (now crossings) ⌝ }
     ensures { λ _.
         ⌜ Grown grid
-        (axisCrossed grid axis (castHit grid axis cast (now (z0 .entry)) (now (z1 .entry)) (now (z2 .entry))))
+        (axisCrossed pass grid axis (castHit grid axis cast (now (z0 .entry)) (now (z1 .entry)) (now (z2 .entry))))
         (now (crossings .entry)) (now (crossings .exit)) ⌝ }
     ensures { λ r.
         let hit = castHit grid axis cast (now (z0 .entry)) (now (z1 .entry)) (now (z2 .entry)) in
@@ -43,7 +45,19 @@ pub fn cross_rows(
     let mut grazed: u64 = 0;
     while u < count {
         let ys = geo_ray::across_y(cast, run_cross_lines::centre(grid, across, u));
-        grazed += run_cross_hits::cross_row(grid, axis, u, z0, z1, z2, ys, xs, flags, crossings);
+        grazed += run_cross_hits::cross_row(
+            grid,
+            axis,
+            u,
+            z0,
+            z1,
+            z2,
+            ys,
+            xs,
+            flags,
+            crossings,
+            pass,
+        );
         u += 1;
     }
     grazed

@@ -1,31 +1,31 @@
 -- `run_cross::cross_all`: after k triangles each entry is the number of those that cross there (`crates/run_cross_lines/proofs/Hits.antt`), and the total
 -- that of the rays that graze them (`crates/run_cross_lines/proofs/Grazing.antt`). Assumes nothing.
 use borrow.Author.Needs.{needs}
-use Prim.Native.Nat.{_+_, _*_, _-_, _≤_, _<_}
+use Prim.Native.Nat.{ℕ, _+_, _*_, _-_, _≤_, _<_}
 use native.Mathlib.Omega.{arith}
 use mathlib.Core.Path.{_≡_, refl, sym, ap, ap₂, _∙_, subst}
 use lib.ListN.{length, length-replicate}
 use Rattle.grid.specs.Index.{total}
 use Rattle.mesh.specs.declared.Corners.{Corners}
 use Rattle.mesh.specs.Mesh.{Mesh, meshOf, trianglesIn}
-use Rattle.run_cross_lines.specs.Pass.{Grown, crossedBy, grazedBy}
-use Rattle.run_cross_lines.proofs.Hits.{Counted, counted-none, counted-room, counted-more, counted-all}
+use Rattle.run_cross_lines.specs.Pass.{Grown, crossedBy, Counted, grazedBy}
+use Rattle.run_cross_lines.proofs.Hits.{counted-none, counted-room, counted-more}
 use Rattle.run_cross_lines.proofs.Grazing.{grazedBefore, triangles-grazed-first, triangles-grazed-more, triangles-grazed-le, grazed-all}
 use Rattle.run_cross.proofs.cross_all.Statement.{statement}
 use Rattle.run_cross.proofs.cross_all.Tie as tie
 
 abbrev Inv-loop : tie.InvT-loop
-Inv-loop grid vertices topology given indices z0₀ z1₀ z2₀ flags₀ crossings₀ n k₀ total₀ z0 z1 z2 flags crossings k total =
+Inv-loop grid vertices topology given indices z0₀ z1₀ z2₀ flags₀ crossings₀ pass n k₀ total₀ z0 z1 z2 flags crossings k total =
     (k ≤ n)
     × (total ≡ grazedBefore grid (meshOf vertices topology given indices) k)
     × (length z0 ≡ length z0₀)
     × (length z1 ≡ length z1₀)
     × (length z2 ≡ length z2₀)
     × (length flags ≡ length flags₀)
-    × Counted grid (meshOf vertices topology given indices) k crossings
+    × Counted pass grid (meshOf vertices topology given indices) k crossings
 
 abbrev μ-loop : tie.MeasureT-loop
-μ-loop grid vertices topology given indices z0₀ z1₀ z2₀ flags₀ crossings₀ n k₀ total₀ z0 z1 z2 flags crossings k total = n - k
+μ-loop grid vertices topology given indices z0₀ z1₀ z2₀ flags₀ crossings₀ pass n k₀ total₀ z0 z1 z2 flags crossings k total = n - k
 
 -- the function's entry, from behind the count; the loop's head, from behind the call; and the mesh
 abbrev entry : tie.After-triangle-count Inv-loop μ-loop → tie.Start Inv-loop μ-loop
@@ -47,7 +47,7 @@ known c =
 loop-holds : tie.Need-loop-holds Inv-loop μ-loop
 loop-holds c =
     let s = entry c in
-    (omega arith, triangles-grazed-first (s .args .grid) (mesh c), refl, refl, refl, refl, counted-none (s .args .grid) (mesh c) (s .args .crossings .now) (s .pre .1 .1 .1 .1))
+    (omega arith, triangles-grazed-first (s .args .grid) (mesh c), refl, refl, refl, refl, counted-none (s .args .pass) (s .args .grid) (mesh c) (s .args .crossings .now) (s .pre .1 .1 .1 .1))
 
 cross-triangle-requires : tie.Need-cross-triangle-requires Inv-loop μ-loop
 cross-triangle-requires c κs =
@@ -59,20 +59,21 @@ cross-triangle-requires c κs =
       s .pre .0,
       (
         (omega (arith, l .inv .2), omega (arith, l .inv .3), omega (arith, l .inv .4), omega (arith, l .inv .5)),
-        (l .inv .6 .long, counted-room (s .args .grid) (mesh begin) (l .k) (l .crossings) (omega (arith, known turn .1)) (l .inv .6)),
+        (l .inv .6 .long, counted-room (s .args .pass) (s .args .grid) (mesh begin) (l .k) (l .crossings) (omega (arith, known turn .1)) (l .inv .6)),
       ),
     )
 
 -- triangle k is counted
 crossed : (c : tie.After-cross-triangle Inv-loop μ-loop) → let p = head c in
-    Counted (entry (p .before) .args .grid) (mesh (p .before)) (p .loop .k + 1) (c .cross-triangle .last .1 .1 .1 .1 .1 .1 .0)
+    Counted (entry (p .before) .args .pass) (entry (p .before) .args .grid) (mesh (p .before)) (p .loop .k + 1) (c .cross-triangle .last .1 .1 .1 .1 .1 .1 .0)
 crossed c =
     let t : tie.After-corners-at Inv-loop μ-loop = search in
     let begin = head c .before in
     let g = entry begin .args .grid in
+    let pass = entry begin .args .pass in
     let l = head c .loop in
-    counted-more g (mesh begin) (l .k) (l .inv .6)
-    (subst (λ (x : Corners). Grown g (crossedBy g x) (l .crossings) (c .cross-triangle .last .1 .1 .1 .1 .1 .1 .0)) (t .corners-at .ensures)
+    counted-more pass g (mesh begin) (l .k) (l .inv .6)
+    (subst (λ (x : Corners). Grown g (crossedBy pass g x) (l .crossings) (c .cross-triangle .last .1 .1 .1 .1 .1 .1 .0)) (t .corners-at .ensures)
     (c .cross-triangle .ensures .0))
 
 -- and the rays that graze it
@@ -118,7 +119,7 @@ returns c =
     let begin = c .before .before in
     let g = entry begin .args .grid in
     let all : l .k ≡ length (trianglesIn (mesh begin)) = omega (arith, begin .triangle-count .ensures, c .loop-test .left, l .inv .0) in (
-      counted-all g (mesh begin) (l .k) (l .crossings) all (l .inv .6),
+      subst (λ (k : ℕ). Counted (entry begin .args .pass) g (mesh begin) k (l .crossings)) all (l .inv .6),
       l .inv .1 ∙ ap (grazedBefore g (mesh begin)) all ∙ grazed-all g (mesh begin),
     )
 

@@ -41,7 +41,7 @@ returns c =
     let z2 = filled .fill-across .last .1 .1 .1 .1 .1 .0 in
     let same = cast-hits g t axis z0 z1 z2 (rw (second .second .ensures, cast) at (filled .fill-across .ensures)) in
     let parts = castHit g axis (castOf axis (t .a) (t .b) (t .c)) z0 z1 z2 in (
-      axis-as g axis parts (hitOn g t axis) same (rw cast at (crossed .cross-rows .ensures .0)),
+      axis-as (a .pass) g axis parts (hitOn g t axis) same (rw cast at (crossed .cross-rows .ensures .0)),
       (rw cast at (crossed .cross-rows .ensures .1)) ∙ axis-grazed-as g axis parts (hitOn g t axis) same,
     )
 

@@ -79,11 +79,6 @@ add-result-2 c =
     let z : tie.After-cross-along3 = search in
     omega (arith, few-z z, few-y (along-y z), few-x (along-x (along-y z)))
 
-same-length : tie.Need-same-length
-same-length c =
-    let z : tie.After-cross-along3 = search in
-    omega (arith, z .cross-along3 .kept, along-y z .cross-along2 .kept, along-x (along-y z) .cross-along .kept)
-
 -- the three growths, and the three sums
 returns : tie.Need-returns
 unfolding grazedBy
@@ -92,12 +87,17 @@ returns c =
     let y = along-y z in
     let x = along-x y in
     let s = entry x in (
-      triangle-grown (s .args .grid) (s .args .t) (x .cross-along .ensures .0) (y .cross-along2 .ensures .0) (z .cross-along3 .ensures .0),
+      triangle-grown (s .args .pass) (s .args .grid) (s .args .t) (x .cross-along .ensures .0) (y .cross-along2 .ensures .0) (z .cross-along3 .ensures .0),
       (λ i. x .cross-along .ensures .1 i + y .cross-along2 .ensures .1 i + z .cross-along3 .ensures .1 i),
     )
 
 pub cross-triangle-spec : {M : Type 1} → statement M
 cross-triangle-spec =
     tie.close (tie.spec
-    cross-along-requires cross-along-requires-2 cross-along-requires-3 add-result add-result-2 same-length
-    (λ c. search needs) (λ c. search needs) (λ c. search needs) (λ c. search needs) returns)
+    cross-along-requires cross-along-requires-2 cross-along-requires-3 add-result add-result-2
+    (λ c. let z : tie.After-cross-along3 = search in omega (arith, z .cross-along3 .kept, along-y z .cross-along2 .kept, along-x (along-y z) .cross-along .kept))
+    (λ c. let z : tie.After-cross-along3 = search in omega (arith, z .cross-along3 .kept, along-y z .cross-along2 .kept, along-x (along-y z) .cross-along .kept))
+    (λ c. let z : tie.After-cross-along3 = search in omega (arith, z .cross-along3 .kept, along-y z .cross-along2 .kept, along-x (along-y z) .cross-along .kept))
+    (λ c. let z : tie.After-cross-along3 = search in omega (arith, z .cross-along3 .kept, along-y z .cross-along2 .kept, along-x (along-y z) .cross-along .kept))
+    (λ c. let z : tie.After-cross-along3 = search in omega (arith, z .cross-along3 .kept, along-y z .cross-along2 .kept, along-x (along-y z) .cross-along .kept))
+    returns)

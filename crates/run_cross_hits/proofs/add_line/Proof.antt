@@ -14,41 +14,46 @@ use Rattle.run_cross_hits.proofs.add_line.Tie as tie
 -- where the line begins
 started : (c : tie.After-entry) →
     let a = c .before .before .before .args in
-    c .entry .result ≡ entryOf (a .grid) (a .axis) (cellFrom (a .axis) 0 (a .u) (a .v))
+    c .entry .result ≡ entryOf (a .grid) (a .axis) (cellFrom (a .axis) (a .first) (a .u) (a .v))
 started c =
     let a = c .before .before .before .args in
     c .entry .ensures ∙ ap (entryOf (a .grid) (a .axis)) (c .before .cell-on .ensures)
 
 entry-requires : tie.Need-entry-requires
 entry-requires c κs =
-    let s = c .before .before in
+    let s : tie.Start = search in
     let a = s .args in
-    (s .pre .0, rw (c .cell-on .ensures) (inside-line (a .grid) (a .axis) 0 (a .u) (a .v) (omega arith) (s .pre .1 .0 .0) (s .pre .1 .0 .1)))
+    let b = s .pre .1 .0 in
+    (s .pre .0, rw (c .cell-on .ensures) (inside-line (a .grid) (a .axis) (a .first) (a .u) (a .v) (omega arith) (b .0) (b .1)))
 
 add-each-requires : tie.Need-add-each-requires
 add-each-requires c κs =
-    let s = c .before .before .before .before .before in
+    let s : tie.Start = search in
+    let began : tie.After-entry = search in
+    let stepped : tie.After-step = search in
     let a = s .args in
     let b = s .pre .1 .0 in (
-      rw (started (c .before .before), c .before .step .ensures, s .pre .1 .1 .0) (line-within (a .grid) (a .axis) (a .u) (a .v) (a .last) (b .0) (b .1) (b .2)),
+      rw (started began, stepped .step .ensures, s .pre .1 .1 .0) (line-within (a .grid) (a .axis) (a .u) (a .v) (a .first) (a .last) (b .0) (b .1) (b .2) (b .3)),
       (
-        rw (c .before .step .ensures) (mul-pos (lit< tt) (stride-pos (a .grid) (s .pre .0) (a .axis))),
+        rw (stepped .step .ensures) (mul-pos (lit< tt) (stride-pos (a .grid) (s .pre .0) (a .axis))),
         s .pre .1 .1 .1,
       ),
     )
 
 returns : tie.Need-returns
 returns c =
-    let d = c .before .before in
-    let s = d .before .before .before .before .before .before in
+    let added : tie.After-add-each = search in
+    let s : tie.Start = search in
+    let began : tie.After-entry = search in
+    let stepped : tie.After-step = search in
     let a = s .args in
     let b = s .pre .1 .0 in
-    line-grown (a .grid) (a .axis) (a .u) (a .v) (a .last) (a .crossings .now) _ (b .0) (b .1) (b .2)
-    (rw (started (d .before .before .before), d .before .before .step .ensures) at (d .add-each .ensures))
+    line-grown (a .grid) (a .axis) (a .u) (a .v) (a .first) (a .last) (a .crossings .now) _ (b .0) (b .1) (b .2) (b .3)
+    (rw (started began, stepped .step .ensures) at (added .add-each .ensures))
 
 pub add-line-spec : {M : Type 1} → statement M
 add-line-spec =
     tie.close (tie.spec
     (λ c κs. search needs) entry-requires
-    (λ c κs. search needs) (λ c. search needs) add-each-requires
+    (λ c κs. search needs) (λ c. search needs) (λ c. search needs) (λ c. search needs) add-each-requires
     (λ c. search needs) returns)

@@ -1,5 +1,5 @@
 -- `run_cross_hits::cross_line`: a miss and a graze reach no cell; a hit reaches those up to the cell of its quotient
--- (`crates/run_cross_lines/proofs/Hits.antt`). Assumes nothing.
+-- (`crates/run_cross_lines/proofs/Hits.antt`), and one is added from where the pass begins. Assumes nothing.
 use borrow.Author.Needs.{needs}
 use Prim.Native.Nat.{ℕ}
 use mathlib.Core.Path.{_≡_, refl, sym, ap, ap₂, _∙_}
@@ -13,6 +13,7 @@ use Rattle.grid.specs.Axes.{countOn, sizeOn}
 use Rattle.grid.proofs.Facts.{bounds-of, on-axis}
 use Rattle.run_cross_lines.specs.Pass.{ahead}
 use Rattle.run_cross_lines.proofs.Grown.{line-passed}
+use Rattle.run_cross_lines.proofs.Reach.{first-le}
 use Rattle.run_cross_lines.proofs.Hits.{hit-grown}
 use Rattle.run_cross_hits.proofs.cross_line.Statement.{statement}
 use Rattle.run_cross_hits.proofs.cross_line.Tie as tie
@@ -39,13 +40,20 @@ last-is c =
 
 add-line-requires : tie.Need-add-line-requires
 add-line-requires c κs =
-    let h = known (c .before) in
+    let chosen : tie.After-first-added = search in
+    let found : tie.After-cell = search in
+    let h = known found in
     let s = entry h in
     let a = s .args in
     let some = on-axis (bounds-of (a .grid) (s .pre .0)) (a .axis) .some in (
       s .pre .0,
       (
-        (s .pre .1 .0 .0, s .pre .1 .0 .1, rw (last-is (c .before)) (cell-lt (countOn (a .axis) (a .grid)) (reached h) some)),
+        (
+          s .pre .1 .0 .0,
+          s .pre .1 .0 .1,
+          rw (chosen .first-added .ensures) (first-le (a .pass) (found .cell .result .index)),
+          rw (last-is found) (cell-lt (countOn (a .axis) (a .grid)) (reached h) some),
+        ),
         (s .pre .1 .1 .1 .0, s .pre .1 .1 .1 .1),
       ),
     )
@@ -54,23 +62,24 @@ returns : tie.Need-returns
 returns c =
     let s : tie.Start = search in
     let a = s .args in
-    (line-passed (a .grid) (a .axis) (a .u) (a .v) (a .hit) (a .crossings .now) (λ i. rw (c .enum-told .given .1)), rw (c .enum-told .given .1))
+    (line-passed (a .pass) (a .grid) (a .axis) (a .u) (a .v) (a .hit) (a .crossings .now) (λ i. rw (c .enum-told .given .1)), rw (c .enum-told .given .1))
 
 returns-2 : tie.Need-returns-2
 returns-2 c =
     let s : tie.Start = search in
     let a = s .args in
-    (line-passed (a .grid) (a .axis) (a .u) (a .v) (a .hit) (a .crossings .now) (λ i. rw (c .enum-told2 .given .1)), rw (c .enum-told2 .given .1))
+    (line-passed (a .pass) (a .grid) (a .axis) (a .u) (a .v) (a .hit) (a .crossings .now) (λ i. rw (c .enum-told2 .given .1)), rw (c .enum-told2 .given .1))
 
 returns-3 : tie.Need-returns-3
 returns-3 c =
     let added : tie.After-add-line = search in
-    let found = added .before .before in
+    let chosen : tie.After-first-added = search in
+    let found : tie.After-cell = search in
     let h = known found in
     let a = entry h .args in
     rw (h .hit .given .1) (
-      hit-grown (a .grid) (a .axis) (a .u) (a .v) (found .cell .result .index) (h .hit .given .0 .0) (entry h .pre .0) (in-front h) (last-is found)
-          (added .add-line .ensures),
+      hit-grown (a .pass) (a .grid) (a .axis) (a .u) (a .v) (chosen .first-added .result) (found .cell .result .index) (h .hit .given .0 .0) (entry h .pre .0)
+          (in-front h) (last-is found) (chosen .first-added .ensures) (added .add-line .ensures),
       refl,
     )
 
@@ -78,5 +87,5 @@ pub cross-line-spec : {M : Type 1} → statement M
 cross-line-spec =
     tie.close (tie.spec
     (λ c. search needs) (λ c. search needs) (λ c. search needs) (λ c κs. search needs) (λ c κs. search needs)
-    (λ c κs. search needs) add-line-requires returns returns-2
+    (λ c κs. search needs) (λ c κs. search needs) add-line-requires returns returns-2
     (λ c. search needs) returns-3)

@@ -23,14 +23,14 @@ use Rattle.run_cross_hits.proofs.cross_marked.Statement.{statement}
 use Rattle.run_cross_hits.proofs.cross_marked.Tie as tie
 
 abbrev Inv-loop : tie.InvT-loop
-Inv-loop grid axis u z0 z1 z2 ys xs flags crossings₀ count v₀ grazed₀ crossings v grazed =
+Inv-loop grid axis u z0 z1 z2 ys xs flags crossings₀ pass count v₀ grazed₀ crossings v grazed =
     (v ≤ count)
     × (grazed ≡ grazedInRow v (rowHit z0 z1 z2 ys xs))
     × (length crossings ≡ length crossings₀)
-    × Grown grid (λ a c. ltb (vOf axis c) v && rowCrossed grid axis u (rowHit z0 z1 z2 ys xs) a c) crossings₀ crossings
+    × Grown grid (λ a c. ltb (vOf axis c) v && rowCrossed pass grid axis u (rowHit z0 z1 z2 ys xs) a c) crossings₀ crossings
 
 abbrev μ-loop : tie.MeasureT-loop
-μ-loop grid axis u z0 z1 z2 ys xs flags crossings₀ count v₀ grazed₀ crossings v grazed = count - v
+μ-loop grid axis u z0 z1 z2 ys xs flags crossings₀ pass count v₀ grazed₀ crossings v grazed = count - v
 
 -- the function's entry, from behind the count; and the answer on each line of the row
 abbrev entry : tie.After-count-on Inv-loop μ-loop → tie.Start Inv-loop μ-loop
@@ -49,7 +49,7 @@ short c =
     omega (arith, counted (c .before .before), on-axis (bounds-of (s .args .grid) (s .pre .0)) (next (next (s .args .axis))) .few)
 
 loop-holds : tie.Need-loop-holds Inv-loop μ-loop
-loop-holds c = let a = entry c .args in (omega arith, row-grazed-first (hits c), refl, row-none (a .grid) (a .axis) (a .u) (hits c) (a .crossings .now))
+loop-holds c = let a = entry c .args in (omega arith, row-grazed-first (hits c), refl, row-none (a .pass) (a .grid) (a .axis) (a .u) (hits c) (a .crossings .now))
 
 cross-line-requires : tie.Need-cross-line-requires Inv-loop μ-loop
 cross-line-requires c κs =
@@ -77,7 +77,7 @@ add-grazed c =
 
 -- line v is crossed, and counted if it grazes, whether it was marked or not
 met : (c : tie.Joined1 Inv-loop μ-loop) → let p = c .before .before .before in let a = entry (p .before) .args in
-    Grown (a .grid) (lineCrossed (a .grid) (a .axis) (a .u) (p .loop .v) (hits (p .before) (p .loop .v))) (p .loop .crossings) (c .if1 .crossings)
+    Grown (a .grid) (lineCrossed (a .pass) (a .grid) (a .axis) (a .u) (p .loop .v) (hits (p .before) (p .loop .v))) (p .loop .crossings) (c .if1 .crossings)
     × (c .if1 .grazed ≡ grazedInRow (p .loop .v + 1) (hits (p .before)))
 met c =
     let p = c .before .before .before in
@@ -94,7 +94,7 @@ met c =
     ))
     (λ w.
     let missed = must-miss zs (a .ys) (a .xs) (sym (s .pre .1 .1 .0 .each (l .v) (omega (arith, counted begin))) ∙ w .0 .left) in (
-      rw (w .1) (line-passed (a .grid) (a .axis) (a .u) (l .v) (hits begin (l .v)) (l .crossings) (λ i. rw missed)),
+      rw (w .1) (line-passed (a .pass) (a .grid) (a .axis) (a .u) (l .v) (hits begin (l .v)) (l .crossings) (λ i. rw missed)),
       w .2 ∙ l .inv .1 ∙ sym (row-grazed-missed (hits begin) (l .v) missed),
     ))
     (c .if1 .came)
@@ -106,7 +106,7 @@ loop-again c =
     let begin = turn .before .before in
     let a = entry begin .args in
     let line = met c in
-    (omega arith, line .1, line .0 .long ∙ l .inv .2, row-more (a .grid) (a .axis) (a .u) (l .v) (hits begin) (l .inv .3) (line .0))
+    (omega arith, line .1, line .0 .long ∙ l .inv .2, row-more (a .pass) (a .grid) (a .axis) (a .u) (l .v) (hits begin) (l .inv .3) (line .0))
 
 returns : tie.Need-returns Inv-loop μ-loop
 returns c =
@@ -114,7 +114,7 @@ returns c =
     let begin = c .before .before in
     let a = entry begin .args in
     let all : l .v ≡ countOn (next (next (a .axis))) (a .grid) = omega (arith, counted begin, c .loop-test .left, l .inv .0) in
-    (row-all (a .grid) (a .axis) (a .u) (l .v) (hits begin) (omega arith) (l .inv .3), l .inv .1 ∙ ap (λ (n : ℕ). grazedInRow n (hits begin)) all)
+    (row-all (a .pass) (a .grid) (a .axis) (a .u) (l .v) (hits begin) (omega arith) (l .inv .3), l .inv .1 ∙ ap (λ (n : ℕ). grazedInRow n (hits begin)) all)
 
 pub cross-marked-spec : {M : Type 1} → statement M
 cross-marked-spec =

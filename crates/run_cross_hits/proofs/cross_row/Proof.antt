@@ -50,7 +50,7 @@ returns-2 c =
     let missed : (v : ℕ) → v < lines → hit v ≡ Miss =
     λ v h. must-miss (partsAt (a .z0 .now) (a .z1 .now) (a .z2 .now) v) (a .ys) (a .xs)
     (m .mark-row .ensures .1 (c .if1 .left) v (omega (arith, counted (m .before .before)))) in
-    (row-missed (a .grid) (a .axis) (a .u) hit (a .crossings .now) missed, sym (row-grazed-none hit lines missed))
+    (row-missed (a .pass) (a .grid) (a .axis) (a .u) hit (a .crossings .now) missed, sym (row-grazed-none hit lines missed))
 
 pub cross-row-spec : {M : Type 1} → statement M
 cross-row-spec =

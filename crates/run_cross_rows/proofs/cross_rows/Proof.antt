@@ -20,15 +20,15 @@ use Rattle.run_cross_rows.proofs.cross_rows.Statement.{statement}
 use Rattle.run_cross_rows.proofs.cross_rows.Tie as tie
 
 abbrev Inv-loop : tie.InvT-loop
-Inv-loop grid axis cast z0 z1 z2 flags₀ crossings₀ xs across count u₀ grazed₀ flags crossings u grazed =
+Inv-loop grid axis cast z0 z1 z2 flags₀ crossings₀ pass xs across count u₀ grazed₀ flags crossings u grazed =
     (u ≤ count)
     × (grazed ≡ grazedInRows grid axis u (castHit grid axis cast z0 z1 z2))
     × (length flags ≡ length flags₀)
     × (length crossings ≡ length crossings₀)
-    × Grown grid (λ a c. ltb (uOf axis c) u && axisCrossed grid axis (castHit grid axis cast z0 z1 z2) a c) crossings₀ crossings
+    × Grown grid (λ a c. ltb (uOf axis c) u && axisCrossed pass grid axis (castHit grid axis cast z0 z1 z2) a c) crossings₀ crossings
 
 abbrev μ-loop : tie.MeasureT-loop
-μ-loop grid axis cast z0 z1 z2 flags₀ crossings₀ xs across count u₀ grazed₀ flags crossings u grazed = count - u
+μ-loop grid axis cast z0 z1 z2 flags₀ crossings₀ pass xs across count u₀ grazed₀ flags crossings u grazed = count - u
 
 -- the function's entry, from behind the count; the loop's head, from behind the call; and the answer on each line
 abbrev entry : tie.After-count-on Inv-loop μ-loop → tie.Start Inv-loop μ-loop
@@ -50,7 +50,7 @@ short c =
     omega (arith, counted (c .before .before), on-axis (bounds-of (s .args .grid) (s .pre .0)) (next (s .args .axis)) .few)
 
 loop-holds : tie.Need-loop-holds Inv-loop μ-loop
-loop-holds c = let a = entry c .args in (omega arith, rows-grazed-first (a .grid) (a .axis) (hits c), refl, refl, axis-none (a .grid) (a .axis) (hits c) (a .crossings .now))
+loop-holds c = let a = entry c .args in (omega arith, rows-grazed-first (a .grid) (a .axis) (hits c), refl, refl, axis-none (a .pass) (a .grid) (a .axis) (hits c) (a .crossings .now))
 
 cross-row-requires : tie.Need-cross-row-requires Inv-loop μ-loop
 cross-row-requires c κs =
@@ -68,7 +68,7 @@ cross-row-requires c κs =
 
 -- row u is crossed, and those of its lines that graze are counted
 met : (c : tie.After-cross-row Inv-loop μ-loop) → let l = head c .loop in let begin = head c .before in let a = entry begin .args in
-    Grown (a .grid) (rowCrossed (a .grid) (a .axis) (l .u) (hits begin (l .u))) (l .crossings) (c .cross-row .last .1 .1 .1 .1 .1 .1 .1 .1 .1 .0)
+    Grown (a .grid) (rowCrossed (a .pass) (a .grid) (a .axis) (l .u) (hits begin (l .u))) (l .crossings) (c .cross-row .last .1 .1 .1 .1 .1 .1 .1 .1 .1 .0)
     × (c .cross-row .result ≡ grazedInRow (countOn (next (next (a .axis))) (a .grid)) (hits begin (l .u)))
 met c =
     let y = c .before .before .before in
@@ -79,7 +79,7 @@ met c =
     let ys = y .across-y .ensures ∙ ap (acrossY (a .cast)) (y .before .centre2 .ensures ∙ ap (λ x. centreAlong (a .grid) x u) (begin .before .next .ensures)) in
     let xs = x .along-x .ensures ∙ ap (alongX (a .cast)) (x .before .centre .ensures) in
     subst
-    (λ (hit : ℕ → RayHit). Grown (a .grid) (rowCrossed (a .grid) (a .axis) u hit) (head c .loop .crossings) (c .cross-row .last .1 .1 .1 .1 .1 .1 .1 .1 .1 .0)
+    (λ (hit : ℕ → RayHit). Grown (a .grid) (rowCrossed (a .pass) (a .grid) (a .axis) u hit) (head c .loop .crossings) (c .cross-row .last .1 .1 .1 .1 .1 .1 .1 .1 .1 .0)
     × (c .cross-row .result ≡ grazedInRow (countOn (next (next (a .axis))) (a .grid)) hit))
     (ap₂ (λ (y′ : Three) (x′ : Three). rowHit (a .z0 .now) (a .z1 .now) (a .z2 .now) y′ x′) ys xs)
     (c .cross-row .ensures)
@@ -113,7 +113,7 @@ loop-again c =
       summed call,
       omega (arith, call .cross-row .kept, l .inv .2),
       row .long ∙ l .inv .3,
-      axis-more (a .grid) (a .axis) (l .u) (hits begin) (l .inv .4) row,
+      axis-more (a .pass) (a .grid) (a .axis) (l .u) (hits begin) (l .inv .4) row,
     )
 
 returns : tie.Need-returns Inv-loop μ-loop
@@ -122,7 +122,7 @@ returns c =
     let begin = c .before .before in
     let a = entry begin .args in
     let all : l .u ≡ countOn (next (a .axis)) (a .grid) = omega (arith, counted begin, c .loop-test .left, l .inv .0) in (
-      axis-all (a .grid) (a .axis) (l .u) (hits begin) (omega arith) (l .inv .4),
+      axis-all (a .pass) (a .grid) (a .axis) (l .u) (hits begin) (omega arith) (l .inv .4),
       l .inv .1 ∙ ap (λ (n : ℕ). grazedInRows (a .grid) (a .axis) n (hits begin)) all,
     )
 

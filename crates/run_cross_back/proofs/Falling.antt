@@ -1,0 +1,53 @@
+-- The cells by falling index, and their entries by falling number. Assumes nothing.
+use Prim.Native.Nat.{ℕ, _+_, _-_, _*_, _≤_, _<_}
+use native.Mathlib.Nat.{add-mul}
+use native.Mathlib.Omega.{arith}
+use mathlib.Core.Path.{_≡_, ap}
+use mathlib.Core.Bool.{true}
+use Rattle.point.specs.declared.Axis.the-variants.{X, Y, Z}
+use Rattle.grid.specs.declared.Grid.{Grid}
+use Rattle.grid.specs.declared.Cell.{Cell}
+use Rattle.grid.specs.Axes.{countOn, cellNumbered}
+use Rattle.grid.specs.Index.{Inside, index, indexOf, total}
+use Rattle.grid.specs.Bounds.{inBounds}
+use Rattle.grid.proofs.Facts.{bounds-of}
+use Rattle.run_cross_lines.specs.Lines.{entryOf}
+
+-- the last z behind one less in y, and the last y and z behind one less in x; and no number before 0
+pub back-y : (r y k nz : ℕ) → y ≡ k + 1 → 0 < nz → nz - 1 + k * nz + r ≡ y * nz + r - 1
+back-y r y k nz e p = rw e (omega (arith, add-mul k 1 nz))
+
+pub back-x : (x k ny m nz : ℕ) → x ≡ k + 1 → ny ≡ m + 1 → 0 < nz → nz - 1 + m * nz + k * ny * nz ≡ x * ny * nz - 1
+back-x x k ny m nz e f p = rw e (omega (arith, ap (λ n. n * nz) (add-mul k 1 ny), add-mul (k * ny) (1 * ny) nz, ap (λ n. n * nz) f, add-mul m 1 nz))
+
+pub none : (n k : ℕ) → n ≤ 0 → n * k ≡ 0
+none n k h = let e : n ≡ 0 = omega arith in rw e (omega arith)
+
+-- the last cell of all
+pub last-cell : (g : Grid) → inBounds g ≡ true → let c = cellNumbered (countOn X g - 1) (countOn Y g - 1) (countOn Z g - 1) in Inside g c × (indexOf g c ≡ total g - 1)
+unfolding index
+last-cell g h =
+    let b = bounds-of g h in
+    let x = b .on-x .some in
+    let y = b .on-y .some in
+    let z = b .on-z .some in (
+      record { x-below = omega arith; y-below = omega arith; z-below = omega arith },
+      back-x (countOn X g) (countOn X g - 1) (countOn Y g) (countOn Y g - 1) (countOn Z g) (omega arith) (omega arith) z,
+    )
+
+-- the three entries of the cell of index n
+pub entry-z : (g : Grid) (c : Cell) (n : ℕ) → indexOf g c ≡ n - 1 → 0 < n → 3 * n ≡ entryOf g Z c + 1
+unfolding entryOf
+entry-z g c n e h = omega (arith, e)
+
+pub entry-y : (g : Grid) (c : Cell) → entryOf g Z c ≡ entryOf g Y c + 1
+unfolding entryOf
+entry-y g c = omega arith
+
+pub entry-x : (g : Grid) (c : Cell) → entryOf g Y c ≡ entryOf g X c + 1
+unfolding entryOf
+entry-x g c = omega arith
+
+pub entry-first : (g : Grid) (c : Cell) (n : ℕ) → indexOf g c ≡ n - 1 → entryOf g X c ≡ 3 * (n - 1)
+unfolding entryOf
+entry-first g c n e = omega (arith, e)
