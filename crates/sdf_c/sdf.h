@@ -4,12 +4,13 @@
  * themselves, and a scanner's file read and written. What they owe is docs/SPECIFICATION.md, whose sections stand here as
  * [4.1]; every function is proved to meet it.
  *
- * In six lines, with buffers of n floats, n, 3 n and 64 numbers and n entries:
+ * In seven lines, with buffers of n floats, n, 3 n and 64 numbers and n entries:
  *
  *   sdf_grid grid = {{0.05f, 0.05f, 0.05f}, {0.1f, 0.1f, 0.1f}, {64, 64, 64}};
  *   size_t n = sdf_grid_total(grid).value;
  *   sdf_job_answer a = sdf_generate_grid_sdf_records(grid, vertices, 3 * vertex_count, SDF_LIST, SDF_INDICES, indices,
- *       index_count, field, n, names, n, crossings, 3 * n, rows, 64, queue, n, (sdf_terms){.limit = UINT32_MAX});
+ *       index_count, field, n, names, n, crossings, 3 * n, rows, 64, queue, n,
+ *       (sdf_terms){.limit = UINT32_MAX, .pass = SDF_QUICK});
  *   if (a.number == SDF_QUEUE_FULL) lend twice the queue and call again;
  *   if (a.number == SDF_DONE) field[i] < 0 is inside, and rows[z] counts the inside cells of layer z;
  *
@@ -40,7 +41,7 @@ extern "C" {
 #endif
 
 /* Raised whenever a function, a record or a number below is no longer what it was. */
-#define SDF_VERSION 5
+#define SDF_VERSION 6
 
 /* The numbers of the whole job [4.1], in the order in which they are checked; the first that applies is given. A
  * question asked by itself [4.4] gives 1 for the grid, 2 for a coordinate that is not finite or above 2,097,152 in
@@ -84,10 +85,14 @@ typedef struct {
     sdf_cell count;
 } sdf_grid;
 
-/* What the whole job is asked for by value, beside the grid and the mesh. limit: how many entries may be taken. Say it by
- * its name, as {.limit = n}: other members may follow it. */
+/* What the whole job is asked for by value, beside the grid and the mesh. Say its members by their names, as {.limit = n,
+ * .pass = SDF_QUICK}: others may follow, and one that is left out is 0.
+ *   limit        how many entries may be taken
+ *   pass         how the crossings are counted. SDF_PLAIN adds one to every cell that a hit reaches. SDF_QUICK marks the last
+ *                of them alone, and sums back along each line when all triangles are through. The answer and all buffers are
+ *                the same by both, so take the quick one; the plain one is its reference. No number is refused */
 typedef struct {
-    uint32_t limit;
+    uint32_t limit, pass;
 } sdf_terms;
 
 typedef struct {
@@ -156,10 +161,12 @@ typedef struct {
     uint32_t distance, cell, triangle;
 } sdf_entry;
 
-/* How the corners make triangles, and whether indices are given. For C these are plain numbers: 0 is a list, and
- * any other number a strip; 0 is no indices, and any other number that they are given. */
+/* How the corners make triangles, whether indices are given, and by which pass crossings are counted. For C these are
+ * plain numbers: 0 is a list, and any other number a strip; 0 is no indices, and any other number that they are given; 0 is
+ * the plain pass, and any other number the quick one. */
 enum { SDF_LIST = 0, SDF_STRIP = 1 };
 enum { SDF_NO_INDICES = 0, SDF_INDICES = 1 };
+enum { SDF_PLAIN = 0, SDF_QUICK = 1 };
 /* The name of a cell that took no triangle. */
 #define SDF_NONE UINT32_C(4294967295)
 
@@ -181,7 +188,7 @@ enum { SDF_NO_INDICES = 0, SDF_INDICES = 1 };
  *                (signbit of <math.h>). -0 counts, and +0 does not: `field[i] < 0` would leave out a centre on the surface
  *   distances, cells, triangles
  *                the queue: three arrays of one length, its room. Any length, 0 too
- * terms          limit: how many entries may be taken
+ * terms          limit: how many entries may be taken. pass: SDF_QUICK or SDF_PLAIN, which give the same
  *
  * How much to lend: room for n entries was enough in every job of docs/SPEED.md (a tank took 0.1 to 0.8 n, triangles
  * everywhere n); on SDF_QUEUE_FULL call again with twice the room. All of the room is cleared before and after the run, so

@@ -23,6 +23,8 @@ use Rattle.grid.specs.declared.Snap.{Snap}
 use Rattle.grid.specs.declared.SnapResult.{SnapResult}
 use Rattle.grid.specs.declared.SnapResult.the-variants.{Inside, Outside}
 use Rattle.grid.specs.Reply.{Reply, refused, given}
+use Rattle.terms.specs.declared.Pass.{Pass}
+use Rattle.terms.specs.declared.Pass.the-variants.{Plain, Quick}
 use Rattle.terms.specs.declared.Terms.{Terms}
 use Rattle.geo_box.specs.declared.TriangleBox.{TriangleBox}
 use Rattle.geo_ray.specs.declared.RayHit.{RayHit}
@@ -79,8 +81,12 @@ gridOut g = record {
   count = record { x = g .«count_x»; y = g .«count_y»; z = g .«count_z» };
 }
 
+-- 0 is the plain pass, and any other number the quick one
+abbrev pub passIn : ℕ → Pass
+passIn n = if eqb n 0 then Plain else Quick
+
 abbrev pub termsIn : SdfTerms → Terms
-termsIn t = record { limit = t .limit }
+termsIn t = record { limit = t .limit; pass = passIn (t .pass) }
 
 -- 0 is x, 1 is y, and any other number z
 abbrev pub axisIn : ℕ → Axis

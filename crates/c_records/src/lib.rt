@@ -6,6 +6,7 @@ use grid::Counts;
 use grid::Grid;
 use point::Axis;
 use point::Point;
+use terms::Pass;
 use terms::Terms;
 ghost use mathlib.Core.Path.{_≡_};
 ghost use Rattle.c_records.specs.C as C;
@@ -32,10 +33,11 @@ pub struct SdfGrid {
     pub count: SdfCell,
 }
 
-// What a job is asked for by value, beside the grid and the mesh.
+// What a job is asked for by value, beside the grid and the mesh. `pass` is 0 for the plain pass.
 #[repr(C)]
 pub struct SdfTerms {
     pub limit: u32,
+    pub pass: u32,
 }
 
 #[repr(C)]
@@ -164,8 +166,20 @@ impl SdfTerms {
     pub fn terms(self) -> Terms
         ensures { λ r. ⌜ r ≡ C.termsIn self ⌝ }
     {
-        Terms { limit: self.limit }
+        Terms {
+            limit: self.limit,
+            pass: pass_in(self.pass),
+        }
     }
+}
+
+pub fn pass_in(pass: u32) -> Pass
+    ensures { λ r. ⌜ r ≡ C.passIn pass ⌝ }
+{
+    if pass == 0 {
+        return Pass::Plain;
+    }
+    Pass::Quick
 }
 
 pub fn axis_in(axis: u32) -> Axis

@@ -14,6 +14,7 @@ pub record Job : Type 0 where
   -- the pop limit
   pub limit : ℕ
 
+-- of the terms the limit alone: no job has a pass, so what a call promises of its answer and its buffers cannot show one
 abbrev pub jobOf : Grid → List Float → Topology → Indices → List ℕ → Terms → Job
 jobOf grid vertices topology given indices terms = record { grid = grid; mesh = meshOf vertices topology given indices; limit = terms .limit }
 

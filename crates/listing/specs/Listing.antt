@@ -11,11 +11,13 @@ use Rattle.point.specs.declared.Point.{Point}
 use Rattle.grid.specs.declared.Grid.{Grid}
 use Rattle.grid.specs.Index.{total}
 use Rattle.grid.specs.Layers.{layers}
+use Rattle.terms.specs.declared.Pass.{Pass}
 use Rattle.terms.specs.declared.Terms.{Terms}
 use Rattle.job_outcome.specs.declared.Answer.{Answer}
 use Rattle.job_outcome.specs.declared.Answer.the-variants.{Refused, Done}
 use Rattle.mesh_topology.specs.declared.Indices.{Indices}
-use Rattle.job_checks.specs.Job.{Job, Lent, jobOf}
+use Rattle.mesh.specs.Mesh.{meshOf}
+use Rattle.job_checks.specs.Job.{Job, Lent}
 use Rattle.job_outcome.specs.Outcome.{Outcome, outcome}
 use Rattle.text.specs.declared.Three.{Three}
 use Rattle.text.specs.declared.Head.{Head}
@@ -40,13 +42,13 @@ gridOf h =
       «count_z» = h .count .z;
     }
 
--- a text says the pop limit
-abbrev pub termsOf : Tail → Terms
-termsOf t = record { limit = t .limit }
+-- a text says the pop limit and no pass, which the program picks
+abbrev pub termsOf : Tail → Pass → Terms
+termsOf t pass = record { limit = t .limit; pass = pass }
 
 -- by the parts of a text, with the floats of its coordinates
 abbrev pub jobBy : Head → List Float → Indices → List ℕ → Tail → Job
-jobBy h vertices given indices t = jobOf (gridOf h) vertices (h .topology) given indices (termsOf t)
+jobBy h vertices given indices t = record { grid = gridOf h; mesh = meshOf vertices (h .topology) given indices; limit = t .limit }
 
 abbrev pub askedJob : TextJob → Job
 askedJob j = jobBy (j .head) (floatsOf (flat (j .vertices))) (givenOf (j .indices)) (indexList (j .indices)) (j .tail)

@@ -2,6 +2,7 @@
 use float_bits::float_of;
 use grid::Grid;
 use point::Point;
+use terms::Pass;
 use terms::Terms;
 use text::Head;
 use text::MOST_CELLS;
@@ -68,8 +69,11 @@ pub fn rows_of(head: Head) -> usize
     layers_of(n)
 }
 
-pub fn terms_of(tail: Tail) -> Terms
-    ensures { λ r. ⌜ r ≡ termsOf tail ⌝ }
+pub fn terms_of(tail: Tail, pass: Pass) -> Terms
+    ensures { λ r. ⌜ r ≡ termsOf tail pass ⌝ }
 {
-    Terms { limit: tail.limit }
+    Terms {
+        limit: tail.limit,
+        pass,
+    }
 }

@@ -9,6 +9,7 @@ use listing::grid_of;
 use listing::rows_of;
 use listing::terms_of;
 use listing_whole::write_listing;
+use terms::Pass;
 use terms::Terms;
 use text::COORDINATE_ROOM;
 use text::CROSSING_ROOM;
@@ -53,6 +54,7 @@ fn list_outcome(
     distances: &mut [u32],
     cells: &mut [u32],
     triangles: &mut [u32],
+    pass: Pass,
     out: &mut [u8],
 ) -> usize
     requires { ⌜ RoomToList (now field) (now names) (now rows) (now out) ⌝ }
@@ -67,7 +69,7 @@ fn list_outcome(
     let topology = head.topology;
     let given = asked.given;
     let tail = asked.tail;
-    let terms: Terms = terms_of(tail);
+    let terms: Terms = terms_of(tail, pass);
     let grid = grid_of(head);
     let answer = generate_grid_sdf(
         grid,
@@ -97,6 +99,7 @@ fn list_records(
     crossings: &mut [u32],
     rows: &mut [u32],
     room: usize,
+    pass: Pass,
     out: &mut [u8],
 ) -> usize
     requires { ⌜ RoomToList (now field) (now names) (now rows) (now out) ⌝ }
@@ -110,7 +113,7 @@ fn list_records(
     let topology = head.topology;
     let given = asked.given;
     let tail = asked.tail;
-    let terms: Terms = terms_of(tail);
+    let terms: Terms = terms_of(tail, pass);
     let grid = grid_of(head);
     let answer = run_records(
         grid,
@@ -162,7 +165,7 @@ fn entry_words() -> [u32; ENTRY_ROOM]
 }
 
 // The same over buffers of its own: so many cells, layers and entries, which are in a row of records or in three
-// buffers. What is listed is the same.
+// buffers, and by either pass. What is listed is the same.
 fn list_run(
     asked: Asked,
     vertices: &[f32],
@@ -171,6 +174,7 @@ fn list_run(
     layers: usize,
     room: usize,
     records: bool,
+    pass: Pass,
     out: &mut [u8],
 ) -> usize
     requires { ⌜ Sizes total layers room (now out) ⌝ }
@@ -197,6 +201,7 @@ fn list_run(
             crossings,
             rows,
             room,
+            pass,
             out,
         );
     }
@@ -214,17 +219,19 @@ fn list_run(
         &mut distances[..room],
         &mut cells[..room],
         &mut triangles[..room],
+        pass,
         out,
     )
 }
 
 // Answers a job within the program's limits, of these coordinates' bits and indices, over a row of records or over
-// three buffers.
+// three buffers, by either pass.
 pub fn answer_job(
     asked: Asked,
     bits: &[u32],
     indices: &[u32],
     records: bool,
+    pass: Pass,
     out: &mut [u8],
 ) -> usize
     requires { ⌜ Small asked (now bits) (now out) ⌝ }
@@ -249,6 +256,7 @@ pub fn answer_job(
         layers,
         entries,
         records,
+        pass,
         out,
     )
 }

@@ -3,6 +3,7 @@
 use sdf::Answer;
 use sdf::Grid;
 use sdf::Indices;
+use sdf::Pass;
 use sdf::Point;
 use sdf::Terms;
 use sdf::Topology;
@@ -83,7 +84,10 @@ pub fn asked(
         &mut d[..distances],
         &mut c[..cells],
         &mut t[..triangles],
-        Terms { limit: 1 },
+        Terms {
+            limit: 1,
+            pass: Pass::Quick,
+        },
     );
     number_of(answer)
 }

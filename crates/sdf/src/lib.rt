@@ -3,6 +3,8 @@
 //
 //   generate_grid_sdf          the whole job, over lent buffers (its contract stands in crate `job_generate`)
 //   generate_grid_sdf_records  the same with the queue as a lent row of records (crate `entries_generate`)
+//   Terms                      what both are asked for by value: the pop limit, and the pass, plain or quick, which neither
+//                              answer nor buffers show (crate `terms`)
 //   stl_count, read_stl        a scanner's file, binary STL: its facets, and their corners (crate `stl_read`)
 //   write_stl                  corners to such a file (crate `stl_write`)
 //   the methods of `Grid`      the grid's questions, asked by value (crate `grid`)
@@ -46,6 +48,7 @@ pub use job_generate::generate_grid_sdf;
 pub use mesh_topology::Indices;
 pub use mesh_topology::Topology;
 pub use queue::Entry;
+pub use terms::Pass;
 pub use terms::Terms;
 
 // ---- a scanner's file

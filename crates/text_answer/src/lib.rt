@@ -1,6 +1,7 @@
 // A job's text answered by its listing (document 01, "One job, one listing"): what the job program does with
 // its input, as one function on lent bytes. A part of the port: users run the job program.
 use listing_run::answer_job;
+use terms::Pass;
 use text::BYTE_ROOM;
 use text::COORDINATE_ROOM;
 use text::INDEX_ROOM;
@@ -27,9 +28,9 @@ fn index_words() -> [u32; INDEX_ROOM]
 
 // Answers a text: puts the listing of its job at the front of `out`, or `answer=9` where it is the text of no
 // job within the program's limits, and tells how many bytes that are. `out` must have room for the longest
-// listing, 32,768 bytes: else nothing is put. The job's queue is a row of records, or three buffers: the listing
-// is the same.
-pub fn run_text_by(text: &[u8], out: &mut [u8], records: bool) -> usize
+// listing, 32,768 bytes: else nothing is put. The job's queue is a row of records, or three buffers, and its crossings
+// are counted by either pass: the listing is the same.
+pub fn run_text_by(text: &[u8], out: &mut [u8], records: bool, pass: Pass) -> usize
     ensures { λ r. ⌜ Front r (now (out .exit)) ⌝ }
     ensures { λ r.
         ⌜ (byteRoom ≤ length (now (out .entry)) → Answered (now (text .entry)) (now (out .entry)) (now (out .exit)) r) ⌝ }
@@ -46,17 +47,17 @@ pub fn run_text_by(text: &[u8], out: &mut [u8], records: bool) -> usize
         Reading::Job(asked) => {
             let n = 3 * asked.vertices;
             let k = asked.indices;
-            answer_job(asked, &bits[..n], &indices[..k], records, out)
+            answer_job(asked, &bits[..n], &indices[..k], records, pass, out)
         }
     }
 }
 
-// The same over three buffers.
+// The same over three buffers, by the quick pass.
 pub fn run_text(text: &[u8], out: &mut [u8]) -> usize
     ensures { λ r. ⌜ Front r (now (out .exit)) ⌝ }
     ensures { λ r.
         ⌜ (byteRoom ≤ length (now (out .entry)) → Answered (now (text .entry)) (now (out .entry)) (now (out .exit)) r) ⌝ }
     ensures { λ r. ⌜ (length (now (out .entry)) < byteRoom → (r ≡ 0) × (now (out .exit) ≡ now (out .entry))) ⌝ }
 {
-    run_text_by(text, out, false)
+    run_text_by(text, out, false, Pass::Quick)
 }

@@ -1,4 +1,4 @@
--- `replay_jobs::replay` meets its contract. The invariant: there are no more differences than two for each job. Assumes nothing.
+-- `replay_jobs::replay` meets its contract. The invariant: there are no more differences than four for each job. Assumes nothing.
 use Prim.Native.Nat.{_*_, _-_, _≤_}
 use mathlib.Core.Path.{_≡_}
 use lib.ListN.{length}
@@ -7,7 +7,7 @@ use Rattle.replay_jobs.proofs.replay.Statement.{statement}
 use Rattle.replay_jobs.proofs.replay.Tie as tie
 
 abbrev Inv-loop : tie.InvT-loop
-Inv-loop line₀ jobs₀ differences₀ line jobs differences = (128 ≡ length line) × (differences ≤ 2 * jobs) × (jobs ≤ 1000000)
+Inv-loop line₀ jobs₀ differences₀ line jobs differences = (128 ≡ length line) × (differences ≤ 4 * jobs) × (jobs ≤ 1000000)
 
 abbrev μ-loop : tie.MeasureT-loop
 μ-loop line₀ jobs₀ differences₀ line jobs differences = 1000000 - jobs

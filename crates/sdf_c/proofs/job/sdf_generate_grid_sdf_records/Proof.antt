@@ -91,7 +91,7 @@ module _ {M : Type 1} (𝓤 : URA M) (H : Heap 𝓤) (A : Atoms 𝓤) (W : Given
           (λ n. met .4 (bound-to (to-job (record { it = gridIn (grid .it); is = g-is }) (record { it = topologyIn (topology .it); is = t-is }) (record { it = indicesIn (given .it); is = i-is }) (record { it = termsIn (terms .it); is = s-is })) n))) refl refl (tt, refl) (λ a zs l gives.
           -- its answer
           calls-is ! 𝓣 (to-answer a) a-c-answer (answerOut (a .it)) (asking-nothing (to-answer a) (λ n. met .5 (bound-to (to-answer a) n))) refl refl (tt, refl) (λ r-is _ _. returns-at ! Post refl refl tt $
-          by ! (via 𝓤 _ (to-exit 𝓤 H A W (after ps zs l) a-c-answer (record { it = answerOut (a .it); is = r-is }) _ (gives-c (vertices .ref .now) (indices .ref .now) the-lent refl refl refl refl refl gives))
+          by ! (via 𝓤 _ (to-exit 𝓤 H A W (after ps zs l) a-c-answer (record { it = answerOut (a .it); is = r-is }) _ (gives-c {s = termsIn (terms .it)} (vertices .ref .now) (indices .ref .now) the-lent refl refl refl refl refl gives))
           (ends-at 𝓤 H A f.ended (stays ss) (f.clauses 𝓤 H A mem run) W (own-bound ps) _ (answerOut (a .it)) (lefts ps zs) (fitting ps zs l)))))))))
 
     walk : ent 𝓤 (onEntry 𝓤 H A f.signature (own-bound ps .0 .0) (own-bound ps .0 .1) (own-bound ps .0 .3) (own-bound ps .0 .4)) (WpFn 𝓤 H (𝓣 .C) (𝓣 .Λ) f.Code.function (words ps) Post)
