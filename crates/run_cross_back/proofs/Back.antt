@@ -10,7 +10,7 @@ use mathlib.Core.List.{List}
 use lib.Dec.{ltb}
 use lib.ListN.{length, getD, set, length-set}
 use lib.Seq.{getD-set-other}
-use borrow.Author.Tests.{lt-ltb, le-ltb}
+use borrow.Author.Tests.{ltb-true, lt-ltb, le-ltb}
 use Rattle.lists.proofs.Range.{count-le}
 use Rattle.lists.proofs.Table.{stored-at}
 use Rattle.point.specs.declared.Axis.{Axis}
@@ -31,11 +31,11 @@ use Rattle.run_cross_lines.specs.Lines.{axisNumber, entryOf}
 use Rattle.run_cross_lines.specs.Pass.{Counted}
 use Rattle.run_cross_lines.proofs.Entries.{place-below, entry-below, one-axis, one-cell, stride-pos}
 use Rattle.run_cross_lines.proofs.Hits.{all-crossings, counted-quick}
-use Rattle.run_cross_back.specs.Back.{markOf, SumsFit, SummedBack, SummedFrom, withNext, entrySummed}
+use Rattle.run_cross_back.specs.Back.{markOf, SumsFit, SummedBack, SummedFrom, withNext, nextAdded}
 
 -- ---- the next entry
 
-pub entry-after : (g : Grid) (axis : Axis) (c : Cell) → entryOf g axis (after axis c) ≡ entryOf g axis c + 3 * strideOn g axis
+entry-after : (g : Grid) (axis : Axis) (c : Cell) → entryOf g axis (after axis c) ≡ entryOf g axis c + 3 * strideOn g axis
 unfolding entryOf
 entry-after g axis c =
     let here = ap (indexOf g) (sym (put-same axis c)) ∙ index-along axis (countOn Y g) (countOn Z g) (cellOn axis c) c in
@@ -44,24 +44,36 @@ entry-after g axis c =
 
 -- ---- one entry more
 
+-- where the next number lies is where the next cell's entry is, and there is more on the line where there is a next cell
+pub record OnLine (g : Grid) (axis : Axis) (c : Cell) (at apart : ℕ) (more : Bool) : Type 0 where
+  pub entered : at ≡ entryOf g axis c
+  pub step : apart ≡ 3 * strideOn g axis
+  pub told : more ≡ ltb (cellOn axis c + 1) (countOn axis g)
+
 module _ (g : Grid) (bounded : inBounds g ≡ true) (old : List ℕ) where
-  -- what its sum is, while those from the entry behind it on are summed
+  -- what the sum at an entry is, while those from the entry behind it on are summed
   with-next : (axis : Axis) (c : Cell) (l : List ℕ) → Inside g c → cellOn axis c + 1 < countOn axis g → SummedFrom g old (entryOf g axis c + 1) l
-      → withNext g axis c l ≡ summedBack g axis (markOf g old axis) c
+      → withNext (entryOf g axis c) (3 * strideOn g axis) l ≡ summedBack g axis (markOf g old axis) c
   with-next axis c l w h s =
       ap₂ _+_
       (s .rest axis c w (omega arith))
-      (s .done axis (after axis c) (inside-put g axis w h) (omega (arith, entry-after g axis c, stride-pos g bounded axis)))
+      (ap (λ (i : ℕ). getD l i 0) (sym (entry-after g axis c))
+      ∙ s .done axis (after axis c) (inside-put g axis w h) (omega (arith, entry-after g axis c, stride-pos g bounded axis)))
       ∙ sym (back-next g axis (markOf g old axis) c h)
 
-  -- so it fits
-  pub next-fits : (axis : Axis) (c : Cell) (l : List ℕ) → Inside g c → SumsFit g old → SummedFrom g old (entryOf g axis c + 1) l
-      → cellOn axis c + 1 < countOn axis g → withNext g axis c l < 2 ^ 32
-  next-fits axis c l w f s h = rw (with-next axis c l w h s) (f axis c w)
+  -- the next entry is one of the list's, and the sum fits
+  pub next-fits : (axis : Axis) (c : Cell) (at apart : ℕ) (more : Bool) (l : List ℕ) → OnLine g axis c at apart more → Inside g c → length old ≡ 3 * total g → SumsFit g old
+      → SummedFrom g old (entryOf g axis c + 1) l → more ≡ true → (at + apart < length l) × (withNext at apart l < 2 ^ 32)
+  next-fits axis c at apart more l o w long f s m =
+      let h = ltb-true (cellOn axis c + 1) (countOn axis g) (sym (o .told) ∙ m) in
+      rw (o .entered, o .step) (
+        omega (arith, entry-after g axis c, entry-below g axis (after axis c) (inside-put g axis w h), s .long),
+        rw (with-next axis c l w h s) (f axis c w),
+      )
 
-  pub summed-more : (axis : Axis) (c : Cell) (l : List ℕ) → Inside g c → length l ≡ 3 * total g → SummedFrom g old (entryOf g axis c + 1) l
-      → SummedFrom g old (entryOf g axis c) (entrySummed g axis c l)
-  summed-more axis c l w long s = go (decLt (cellOn axis c + 1) (countOn axis g))
+  pub summed-more : (axis : Axis) (c : Cell) (at apart : ℕ) (more : Bool) (l m : List ℕ) → OnLine g axis c at apart more → Inside g c → length old ≡ 3 * total g
+      → SummedFrom g old (entryOf g axis c + 1) l → m ≡ nextAdded at apart more l → SummedFrom g old (entryOf g axis c) m
+  summed-more axis c at apart more l m o w long s q = rw (q, o .entered, o .step, o .told) (go (decLt (cellOn axis c + 1) (countOn axis g)))
     where
       e : ℕ
       e = entryOf g axis c
@@ -69,20 +81,23 @@ module _ (g : Grid) (bounded : inBounds g ≡ true) (old : List ℕ) where
       -- the entry itself, and all others as they were
       stored : (n : List ℕ) → length n ≡ length l → getD n e 0 ≡ summedBack g axis (markOf g old axis) c → ((i : ℕ) → (i ≡ e → ⊥) → getD n i 0 ≡ getD l i 0)
           → SummedFrom g old e n
-      stored n same here others = record { long = same ∙ s .long; done = λ a d v k. at a d v k (ℕ-discrete (entryOf g a d) e); rest = λ a d v k. others (entryOf g a d) (λ q. omega arith) ∙ s .rest a d v (omega arith) }
+      stored n same here others = record { long = same ∙ s .long; done = λ a d v k. settled a d v k (ℕ-discrete (entryOf g a d) e); rest = λ a d v k. others (entryOf g a d) (λ q. omega arith) ∙ s .rest a d v (omega arith) }
         where
-          at : (a : Axis) (d : Cell) → Inside g d → e ≤ entryOf g a d → Dec (entryOf g a d ≡ e) → markOf g n a d ≡ summedBack g a (markOf g old a) d
-          at a d v k (yes q) =
+          settled : (a : Axis) (d : Cell) → Inside g d → e ≤ entryOf g a d → Dec (entryOf g a d ≡ e) → markOf g n a d ≡ summedBack g a (markOf g old a) d
+          settled a d v k (yes q) =
               ap (λ (i : ℕ). getD n i 0) q ∙ here
               ∙ sym (ap₂ (λ (b : Axis) (x : Cell). summedBack g b (markOf g old b) x) (one-axis g a axis d c q) (one-cell g a axis d c v w q))
-          at a d v k (no q) = others (entryOf g a d) q ∙ s .done a d v (omega arith)
+          settled a d v k (no q) = others (entryOf g a d) q ∙ s .done a d v (omega arith)
 
-      go : Dec (cellOn axis c + 1 < countOn axis g) → SummedFrom g old e (entrySummed g axis c l)
+      sum : ℕ
+      sum = withNext e (3 * strideOn g axis) l
+
+      go : Dec (cellOn axis c + 1 < countOn axis g) → SummedFrom g old e (nextAdded e (3 * strideOn g axis) (ltb (cellOn axis c + 1) (countOn axis g)) l)
       go (yes h) =
           rw (lt-ltb (cellOn axis c + 1) (countOn axis g) h)
-          (stored (set l e (withNext g axis c l)) (length-set l e (withNext g axis c l))
-          (stored-at 0 l e e (withNext g axis c l) (omega (arith, entry-below g axis c w)) refl ∙ with-next axis c l w h s)
-          (λ i q. getD-set-other l e i (withNext g axis c l) 0 q))
+          (stored (set l e sum) (length-set l e sum)
+          (stored-at 0 l e e sum (omega (arith, entry-below g axis c w, s .long)) refl ∙ with-next axis c l w h s)
+          (λ i q. getD-set-other l e i sum 0 q))
       go (no h) =
           rw (le-ltb (cellOn axis c + 1) (countOn axis g) (omega arith))
           (stored l refl (s .rest axis c w (omega arith) ∙ sym (back-last g axis (markOf g old axis) c (omega (arith, inside-on g w axis)))) (λ i q. refl))

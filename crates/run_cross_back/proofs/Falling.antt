@@ -35,19 +35,15 @@ last-cell g h =
       back-x (countOn X g) (countOn X g - 1) (countOn Y g) (countOn Y g - 1) (countOn Z g) (omega arith) (omega arith) z,
     )
 
--- the three entries of the cell of index n
-pub entry-z : (g : Grid) (c : Cell) (n : ℕ) → indexOf g c ≡ n - 1 → 0 < n → 3 * n ≡ entryOf g Z c + 1
+-- the three entries of the cell of index k
+pub entry-x : (g : Grid) (c : Cell) (k : ℕ) → indexOf g c ≡ k → 3 * k ≡ entryOf g X c
 unfolding entryOf
-entry-z g c n e h = omega (arith, e)
+entry-x g c k e = omega (arith, e)
 
-pub entry-y : (g : Grid) (c : Cell) → entryOf g Z c ≡ entryOf g Y c + 1
+pub entry-y : (g : Grid) (c : Cell) (k : ℕ) → indexOf g c ≡ k → 3 * k + 1 ≡ entryOf g Y c
 unfolding entryOf
-entry-y g c = omega arith
+entry-y g c k e = omega (arith, e)
 
-pub entry-x : (g : Grid) (c : Cell) → entryOf g Y c ≡ entryOf g X c + 1
+pub entry-z : (g : Grid) (c : Cell) (k : ℕ) → indexOf g c ≡ k → 3 * k + 2 ≡ entryOf g Z c
 unfolding entryOf
-entry-x g c = omega arith
-
-pub entry-first : (g : Grid) (c : Cell) (n : ℕ) → indexOf g c ≡ n - 1 → entryOf g X c ≡ 3 * (n - 1)
-unfolding entryOf
-entry-first g c n e = omega (arith, e)
+entry-z g c k e = omega (arith, e)

@@ -1,23 +1,19 @@
 -- What the sums along the lines leave behind: each entry is the sum of its own and those after it on its line. Definitions only.
 use Prim.Native.Nat.{ℕ, _+_, _^_, _≤_, _<_}
 use mathlib.Core.Path.{_≡_}
-use mathlib.Core.Bool.{cond}
+use mathlib.Core.Bool.{Bool, cond}
 use mathlib.Core.List.{List}
-use lib.Dec.{ltb}
 use lib.ListN.{length, getD, set}
 use Rattle.point.specs.declared.Axis.{Axis}
 use Rattle.grid.specs.declared.Grid.{Grid}
 use Rattle.grid.specs.declared.Cell.{Cell}
-use Rattle.grid.specs.Axes.{countOn, cellOn}
 use Rattle.grid.specs.Index.{Inside}
-use Rattle.run.specs.Ends.{after, summedBack}
+use Rattle.run.specs.Ends.{summedBack}
 use Rattle.run_cross_lines.specs.Lines.{entryOf}
 
 -- what stands for a cell on the axis
 abbrev pub markOf : Grid → List ℕ → Axis → Cell → ℕ
 markOf g l axis c = getD l (entryOf g axis c) 0
-
--- the whole
 
 -- every sum on the way is one of these, so that none passes 32 bits
 abbrev pub SumsFit : Grid → List ℕ → Type 0
@@ -33,10 +29,9 @@ pub record SummedFrom (g : Grid) (old : List ℕ) (e : ℕ) (l : List ℕ) : Typ
   pub done : (axis : Axis) (c : Cell) → Inside g c → e ≤ entryOf g axis c → markOf g l axis c ≡ summedBack g axis (markOf g old axis) c
   pub rest : (axis : Axis) (c : Cell) → Inside g c → entryOf g axis c < e → markOf g l axis c ≡ markOf g old axis c
 
--- one entry: its own and that of the next cell on its line
-abbrev pub withNext : Grid → Axis → Cell → List ℕ → ℕ
-withNext g axis c l = markOf g l axis c + markOf g l axis (after axis c)
+-- one number of a list: to the one at a place is added the one so far `apart`, if there is `more` on its line
+abbrev pub withNext : ℕ → ℕ → List ℕ → ℕ
+withNext at apart l = getD l at 0 + getD l (at + apart) 0
 
--- stored, if there is a next
-abbrev pub entrySummed : Grid → Axis → Cell → List ℕ → List ℕ
-entrySummed g axis c l = cond (ltb (cellOn axis c + 1) (countOn axis g)) (set l (entryOf g axis c) (withNext g axis c l)) l
+abbrev pub nextAdded : ℕ → ℕ → Bool → List ℕ → List ℕ
+nextAdded at apart more l = cond more (set l at (withNext at apart l)) l

@@ -10,22 +10,17 @@ ghost use mathlib.Core.Path.{_≡_};
 ghost use mathlib.Core.Bool.{true};
 ghost use Prim.Native.Nat.{_+_, _-_, _*_, _^_, _<_};
 ghost use lib.ListN.{length};
-ghost use Rattle.grid.specs.Axes.{countOn, cellOn};
 ghost use Rattle.grid.specs.Index.{Inside, indexOf, total};
 ghost use Rattle.grid.specs.Bounds.{inBounds};
-ghost use Rattle.run_cross_back.specs.Back.{SumsFit, SummedBack, withNext, entrySummed};
+ghost use Rattle.run_cross_back.specs.Back.{SumsFit, SummedBack, withNext, nextAdded};
 
-// Adds to a cell's entry for the axis that of the next cell on the line, if there is one.
-fn sum_entry(grid: Grid, axis: Axis, cell: Cell, crossings: &mut [u32])
-    requires { ⌜ (inBounds grid ≡ true) × Inside grid cell ⌝ }
-    requires { ⌜ length (now crossings) ≡ 3 * total grid ⌝ }
-    requires { ⌜ (cellOn axis cell + 1 < countOn axis grid → withNext grid axis cell (now crossings) < 2 ^ 32) ⌝ }
-    ensures { λ _. ⌜ now (crossings .exit) ≡ entrySummed grid axis cell (now (crossings .entry)) ⌝ }
+// Adds to the number at a place the one that lies so far apart, if there is more on its line.
+fn add_next(numbers: &mut [u32], at: usize, apart: usize, more: bool)
+    requires { ⌜ (more ≡ true → (at + apart < length (now numbers)) × (withNext at apart (now numbers) < 2 ^ 32)) ⌝ }
+    ensures { λ _. ⌜ now (numbers .exit) ≡ nextAdded at apart more (now (numbers .entry)) ⌝ }
 {
-    if run_cross_lines::number_on(axis, cell) + 1 < grid::parts::count_on(grid, axis) {
-        let at = run_cross_lines::entry(grid, axis, cell);
-        let next = at + run_cross_lines::step(grid, axis);
-        crossings[at] += crossings[next];
+    if more {
+        numbers[at] += numbers[at + apart];
     }
 }
 
@@ -65,6 +60,9 @@ pub fn sum_back(grid: Grid, crossings: &mut [u32])
     requires { ⌜ SumsFit grid (now crossings) ⌝ }
     ensures { λ _. ⌜ SummedBack grid (now (crossings .entry)) (now (crossings .exit)) ⌝ }
 {
+    let far_x = run_cross_lines::step(grid, Axis::X);
+    let far_y = run_cross_lines::step(grid, Axis::Y);
+    let far_z = run_cross_lines::step(grid, Axis::Z);
     let mut left = grid::parts::get_total_cell_count(grid);
     let mut cell = Cell {
         x: grid.count_x - 1,
@@ -72,10 +70,11 @@ pub fn sum_back(grid: Grid, crossings: &mut [u32])
         z: grid.count_z - 1,
     };
     while 0 < left {
-        sum_entry(grid, Axis::Z, cell, crossings);
-        sum_entry(grid, Axis::Y, cell, crossings);
-        sum_entry(grid, Axis::X, cell, crossings);
-        cell = cell_before(grid, cell);
         left -= 1;
+        let at = 3 * (left as usize);
+        add_next(crossings, at + 2, far_z, cell.z + 1 < grid.count_z);
+        add_next(crossings, at + 1, far_y, cell.y + 1 < grid.count_y);
+        add_next(crossings, at, far_x, cell.x + 1 < grid.count_x);
+        cell = cell_before(grid, cell);
     }
 }
