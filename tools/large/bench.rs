@@ -3,13 +3,19 @@
 //! size), in milliseconds of the processor's time, the ratios, and how many entries were taken and waited. Sizes above
 //! EDGE (100) are left out.
 //!
-//! The Rust's parts are what its own log lines say. The library has one call for a whole job, and its parts come out of
-//! three calls: with no pop allowed it ends after seeding and queueing; with one pop less than the job takes it ends
-//! before the crossings. The difference of two is the part between. What a refusal clears again stands in both. The
-//! whole is timed over a row of records too.
+//! The Rust's parts are what its own log lines say. The library has one call for a whole job. Its crossings are timed from
+//! when their counts are cleared (clock.c) to the end of the call, so the signs and the rows stand in them. Seeding and
+//! spreading come out of two calls more: with no pop allowed it ends after seeding and queueing; with one pop less than the job
+//! takes it ends before the crossings. What a refusal clears again stands in both. The library beside the Rust takes the
+//! quick pass; the whole is timed over a row of records too.
+//!
+//! The crossings are timed by both passes, in turn. `adding` is what each spends beyond one store for each hit. The quick pass
+//! sums back, which takes as long whatever the counts hold: that is its time less the plain one's on the same grid with no
+//! triangle. The plain pass takes this and what it takes longer for the job's crossings.
 
 #![allow(dead_code)] // Each module serves compare.rs too.
 
+mod clock;
 mod meshes;
 mod port;
 #[path = "../generator/random.rs"]
@@ -21,35 +27,34 @@ mod workloads;
 
 use model::topology::triangles;
 use model::Job;
-use port::{ask, ask_records, ask_with_room, Lent};
+use port::{ask, ask_with_room, Answer, By, Lent};
+use shapes::Mesh;
 use web_time::Instant;
 
 const PARTS: [&str; 4] = ["seeding", "spreading", "crossings", "whole"];
 
+/// The plain and the quick pass over three lists; what callers take.
+const PASSES: [By; 2] = [By { records: false, quick: false }, TAKEN];
+const TAKEN: By = By { records: false, quick: true };
+
 /// Milliseconds of the three parts and the whole.
 type Times = [f64; 4];
 
-fn ours(job: &Job, lent: &mut Lent, pops: u32) -> Times {
-    let mut timed = |limit: u32, number: u32| {
-        let begin = Instant::now();
-        let answer = ask(job, lent, limit);
-        let time = begin.elapsed().as_secs_f64() * 1e3;
-        assert_eq!(answer.number, number, "the answer with {limit} pops");
-        time
-    };
-    let seeded = timed(0, 8);
-    let spread = timed(pops - 1, 8);
-    let whole = timed(u32::MAX, 0);
-    [seeded, spread, whole, whole]
+/// The milliseconds of a call that ends before the crossings.
+fn cut_short(job: &Job, lent: &mut Lent, limit: u32) -> f64 {
+    let begin = Instant::now();
+    let answer = ask(job, lent, limit, TAKEN);
+    let time = begin.elapsed().as_secs_f64() * 1e3;
+    assert_eq!(answer.number, 8, "the answer with {limit} pops");
+    time
 }
 
-/// The whole over a row of records; what makes the row of the three lists, and back, is counted too.
-fn over_records(job: &Job, lent: &mut Lent) -> f64 {
-    let begin = Instant::now();
-    let answer = ask_records(job, job.vertices.as_flattened(), lent, u32::MAX);
-    let time = begin.elapsed().as_secs_f64() * 1e3;
-    assert_eq!(answer.number, 0, "the answer over records");
-    time
+/// The milliseconds of the crossings and of the whole.
+fn whole(job: &Job, lent: &mut Lent, by: By) -> [f64; 2] {
+    let mut answer = Answer::default();
+    let times = clock::timed(lent.crossings.as_ptr(), || answer = ask(job, lent, u32::MAX, by));
+    assert_eq!(answer.number, 0, "the answer by {by:?}");
+    times
 }
 
 fn theirs(job: &Job) -> Times {
@@ -65,21 +70,36 @@ fn main() {
     mesh_oracle::begin();
     println!("load before: {}", load());
     let (mut slowest, mut slowest_records) = ([f64::MAX; 4], f64::MAX);
-    for (workload, edge, job) in workloads::jobs(largest) {
+    let (mut by_plain, mut adding_long) = ([f64::MAX, f64::MIN], f64::MAX);
+    for workload in workloads::all(largest) {
+        let job = &workload.job;
+        let bare = meshes::plain(job.grid.clone(), Mesh::default());
         let mut lent = Lent::fitting(&job.grid, 2 * job.grid.cells() as usize);
-        let answer = ask_with_room(&job, &mut lent);
-        let (mut a, mut b, mut records) = ([f64::MAX; 4], [f64::MAX; 4], f64::MAX);
-        for _ in 0..if edge == 100 { rounds.min(3) } else { rounds } {
-            least(&mut a, ours(&job, &mut lent, answer.pops));
-            least(&mut b, theirs(&job));
-            records = records.min(over_records(&job, &mut lent));
+        let answer = ask_with_room(job, &mut lent, TAKEN);
+        let (mut seeded, mut spread, mut b, mut records) = (f64::MAX, f64::MAX, [f64::MAX; 4], f64::MAX);
+        // The crossings and the whole; the crossings by each pass; the same with no triangle.
+        let (mut taken, mut passes, mut bares) = ([f64::MAX; 2], [f64::MAX; 2], [f64::MAX; 2]);
+        for round in 0..if workload.edge == 100 { rounds.min(3) } else { rounds } {
+            least(&mut seeded, cut_short(job, &mut lent, 0));
+            least(&mut spread, cut_short(job, &mut lent, answer.pops - 1));
+            leasts(&mut taken, whole(job, &mut lent, TAKEN));
+            // More turns where a call is short. Each pass goes first half the time.
+            for turn in 0..2 * (10_000 / workload.edge.pow(2)) {
+                let pass = ((round + turn / 2 + turn) % 2) as usize;
+                least(&mut passes[pass], whole(job, &mut lent, PASSES[pass])[0]);
+                least(&mut bares[pass], whole(&bare, &mut lent, PASSES[pass])[0]);
+            }
+            leasts(&mut b, theirs(job));
+            // What makes the row of the three lists, and back, is counted too.
+            least(&mut records, whole(job, &mut lent, By { records: true, ..TAKEN })[1]);
         }
-        // Out of the three calls, the three parts.
-        a = [a[0], a[1] - a[0], a[2] - a[1], a[3]];
+        let a = [seeded, spread - seeded, taken[0], taken[1]];
         let cells = f64::from(job.grid.cells());
         println!(
-            "{workload}, {edge} x {edge} x {edge} cells, {} triangles: pops {} ({:.2} a cell), peak {} ({:.2} a cell), grazed {}",
-            triangles(&job).len(),
+            "{}, {} cells, {} triangles: pops {} ({:.2} a cell), peak {} ({:.2} a cell), grazed {}",
+            workload.name,
+            workload.counts(),
+            triangles(job).len(),
             answer.pops,
             f64::from(answer.pops) / cells,
             answer.peak,
@@ -88,7 +108,7 @@ fn main() {
         );
         for part in 0..4 {
             let ratio = b[part] / a[part];
-            slowest[part] = slowest[part].min(ratio);
+            least(&mut slowest[part], ratio);
             println!(
                 "    {:<10} {:>10.2} ms the library ({:>3.0}%) {:>10.2} ms the Rust   {ratio:.2} times as fast",
                 PARTS[part],
@@ -98,19 +118,38 @@ fn main() {
             );
         }
         let ratio = b[3] / records;
-        slowest_records = slowest_records.min(ratio);
+        least(&mut slowest_records, ratio);
         println!("    {:<10} {records:>10.2} ms over a row of records {:>25} {ratio:.2} times as fast", "whole", "");
+        let [plain, quick] = passes;
+        let ratio = quick / plain;
+        by_plain = [by_plain[0].min(ratio), by_plain[1].max(ratio)];
+        println!("    {:<10} {plain:>10.3} ms the plain pass {quick:>17.3} ms the quick  {ratio:.3} times as long", "crossings");
+        let summing = bares[1] - bares[0];
+        let adding = plain - quick + summing;
+        let ratio = adding / summing;
+        if workload.is_long() {
+            least(&mut adding_long, ratio);
+        }
+        println!("    {:<10} {adding:>10.3} ms the plain pass {summing:>17.3} ms the quick  {ratio:.2} times as fast", "adding");
     }
     println!("whole over a row of records: at least {slowest_records:.2} times as fast");
     for part in 0..4 {
         println!("{}: at least {:.2} times as fast", PARTS[part], slowest[part]);
     }
+    println!("crossings by the quick pass: {:.3} to {:.3} times as long as by the plain", by_plain[0], by_plain[1]);
+    if adding_long < f64::MAX {
+        println!("adding on tall and lying grids: the quick pass at least {adding_long:.2} times as fast");
+    }
     println!("load after: {}", load());
 }
 
-fn least(sofar: &mut Times, times: Times) {
-    for (least, time) in sofar.iter_mut().zip(times) {
-        *least = least.min(time);
+fn least(sofar: &mut f64, time: f64) {
+    *sofar = sofar.min(time);
+}
+
+fn leasts<const N: usize>(sofar: &mut [f64; N], times: [f64; N]) {
+    for (sofar, time) in sofar.iter_mut().zip(times) {
+        least(sofar, time);
     }
 }
 

@@ -1,6 +1,7 @@
 /* The whole job of one checkout's library, under the name JOB, on pointers and numbers alone. It is compiled against that
  * checkout's own sdf.h, and names what every edition of the header has: a record that got a member since is passed and
- * returned as its own library does it, and what stands outside need not know. */
+ * returned as its own library does it, and what stands outside need not know. A header before version 6 knows the plain pass
+ * alone: its library runs that, whichever is asked for. */
 #include "sdf.h"
 
 /* The fields of `Lent` in bench_two.rs, in their order. */
@@ -18,11 +19,16 @@ typedef struct {
     size_t room;
 } lent;
 
-void JOB(const lent *l, uint32_t limit, uint32_t *number, uint32_t *pops, size_t *peak) {
+void JOB(const lent *l, uint32_t limit, uint32_t pass, uint32_t *number, uint32_t *pops, size_t *peak) {
     sdf_grid grid = {.first = {l->first[0], l->first[1], l->first[2]},
                      .size = {l->size[0], l->size[1], l->size[2]},
                      .count = {l->count[0], l->count[1], l->count[2]}};
     sdf_terms terms = {.limit = limit};
+#if SDF_VERSION >= 6
+    terms.pass = pass;
+#else
+    (void)pass;
+#endif
     sdf_job_answer answer = sdf_generate_grid_sdf(
         grid, l->vertices, l->coordinate_count, SDF_LIST, SDF_INDICES, l->indices, l->index_count, l->field, l->cells,
         l->names, l->cells, l->crossings, 3 * l->cells, l->rows, l->layers, l->distances, l->room, l->queued, l->room,

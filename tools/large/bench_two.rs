@@ -1,15 +1,17 @@
-//! bench-two [ROUNDS [EDGE]]: the libraries of two checkouts on the same jobs in one run, call by call in turn, on one thread.
+//! bench-two [ROUNDS [EDGE [PASS]]]: the libraries of two checkouts on the same jobs in one run, call by call in turn, on one thread.
 //! Prints for each workload and size of tools/bench the least time of the crossings and of the whole over the rounds (5; more
 //! where a call is short), in milliseconds of the processor's time, before and after, and after by before. Sizes above EDGE
-//! (100) are left out. Ends with 1 if the two leave another field, other names or crossings, or count other pops or peak.
+//! (100) are left out. PASS is `plain`, or `quick` (the default) where a library has it. Ends with 1 if the two leave another
+//! field, other names or crossings, or count other pops or peak.
 //!
-//! The crossings are timed from when their counts are cleared (bench_two_clock.c) to the end of the call, so the signs and the
+//! The crossings are timed from when their counts are cleared (clock.c) to the end of the call, so the signs and the
 //! rows stand in them, a few thousandths. As the difference of two calls, one of which ends before them, they were uncertain by a
 //! hundredth of the whole, which is more than a tenth of some. The last column is after by before of the middle times: where it is
 //! far from that of the least, something else was running.
 
 #![allow(dead_code)] // Each module serves others too.
 
+mod clock;
 mod meshes;
 #[path = "../generator/random.rs"]
 mod random;
@@ -18,6 +20,7 @@ mod shapes;
 mod workloads;
 
 use model::Job;
+use workloads::Workload;
 
 /// What is lent to a call, as bench_two.c reads it.
 #[repr(C)]
@@ -41,14 +44,11 @@ struct Lent {
     room: usize,
 }
 
-type Call = unsafe extern "C" fn(lent: *const Lent, limit: u32, number: *mut u32, pops: *mut u32, peak: *mut usize);
+type Call = unsafe extern "C" fn(lent: *const Lent, limit: u32, pass: u32, number: *mut u32, pops: *mut u32, peak: *mut usize);
 
 extern "C" {
-    fn job_before(lent: *const Lent, limit: u32, number: *mut u32, pops: *mut u32, peak: *mut usize);
-    fn job_after(lent: *const Lent, limit: u32, number: *mut u32, pops: *mut u32, peak: *mut usize);
-    fn time_now() -> f64;
-    fn watch(buffer: *const u32);
-    fn last_cleared() -> f64;
+    fn job_before(lent: *const Lent, limit: u32, pass: u32, number: *mut u32, pops: *mut u32, peak: *mut usize);
+    fn job_after(lent: *const Lent, limit: u32, pass: u32, number: *mut u32, pops: *mut u32, peak: *mut usize);
 }
 
 const SIDES: [Call; 2] = [job_before, job_after];
@@ -82,7 +82,7 @@ impl Buffers {
     }
 
     /// The answer, and the milliseconds of the crossings and of the whole call.
-    fn ask(&mut self, side: Call, job: &Job) -> (Answer, [f64; 2]) {
+    fn ask(&mut self, side: Call, job: &Job, pass: u32) -> (Answer, [f64; 2]) {
         let indices = job.indices.as_deref().unwrap_or(&[]);
         let coordinates = job.vertices.as_flattened();
         let [distances, queued, triangles] = &mut self.queue;
@@ -107,15 +107,11 @@ impl Buffers {
         };
         let mut answer = Answer::default();
         // SAFETY: every pointer is that of a slice or a number, with the slice's own length; none are shared.
-        let (begin, crossings, end) = unsafe {
-            watch(lent.crossings);
-            let begin = time_now();
-            side(&lent, u32::MAX, &mut answer.number, &mut answer.pops, &mut answer.peak);
-            (begin, last_cleared(), time_now())
-        };
+        let times = clock::timed(lent.crossings, || unsafe {
+            side(&lent, u32::MAX, pass, &mut answer.number, &mut answer.pops, &mut answer.peak)
+        });
         assert_eq!(answer.number, 0, "the job is done");
-        assert!(begin <= crossings && crossings <= end, "the crossings were seen to begin");
-        (answer, [end - crossings, end - begin])
+        (answer, times)
     }
 
     /// What must be the same of the two.
@@ -127,17 +123,24 @@ impl Buffers {
 fn main() {
     let number = |at: usize| std::env::args().nth(at).and_then(|a| a.parse().ok());
     let (rounds, largest) = (number(1).unwrap_or(5), number(2).unwrap_or(100));
+    let pass = match std::env::args().nth(3).as_deref() {
+        None | Some("quick") => 1,
+        Some("plain") => 0,
+        Some(word) => panic!("no such pass: {word}"),
+    };
     println!("load before: {}", load());
-    let words = ["workload", "edge", "part", "before, ms", "after, ms", "ratio", "of middles"];
-    println!("{:<14}{:>5}  {:<10}{:>12}{:>12}{:>8}{:>12}", words[0], words[1], words[2], words[3], words[4], words[5], words[6]);
+    let words = ["workload", "cells", "part", "before, ms", "after, ms", "ratio", "of middles"];
+    println!("{:<15}{:>15}  {:<10}{:>12}{:>12}{:>8}{:>12}", words[0], words[1], words[2], words[3], words[4], words[5], words[6]);
     let (mut ratios, mut differences) = ([const { Vec::new() }; 2], 0);
-    for (workload, edge, job) in workloads::jobs(largest) {
+    for workload in workloads::all(largest) {
+        let counts = workload.counts();
+        let Workload { name: workload, edge, job } = workload;
         // Twice as many entries as cells are enough for these jobs.
         let mut buffers = Buffers::fitting(&job, 2 * job.grid.cells() as usize);
-        let [before, after] = SIDES.map(|side| (buffers.ask(side, &job).0, buffers.left()));
+        let [before, after] = SIDES.map(|side| (buffers.ask(side, &job, pass).0, buffers.left()));
         if before != after {
             differences += 1;
-            println!("{workload} {edge}: DIFFERENT, {:?} before and {:?} after", before.0, after.0);
+            println!("{workload} {counts}: DIFFERENT, {:?} before and {:?} after", before.0, after.0);
         }
         // The times of the crossings and of the whole, of each side.
         let mut times = [const { [const { Vec::new() }; 2] }; 2];
@@ -145,7 +148,7 @@ fn main() {
             for turn in 0..2 {
                 // Each goes first half the time.
                 let side = (round as usize + turn) % 2;
-                for (times, time) in times[side].iter_mut().zip(buffers.ask(SIDES[side], &job).1) {
+                for (times, time) in times[side].iter_mut().zip(buffers.ask(SIDES[side], &job, pass).1) {
                     times.push(time);
                 }
             }
@@ -159,7 +162,7 @@ fn main() {
         for (part, name) in ["crossings", "whole"].into_iter().enumerate() {
             let [[a, middle_a], [b, middle_b]] = of.map(|side| side[part]);
             let of_middles = middle_b / middle_a;
-            println!("{workload:<14}{edge:>5}  {name:<10}{a:>12.3}{b:>12.3}{:>8.3}{of_middles:>12.3}", b / a);
+            println!("{workload:<15}{counts:>15}  {name:<10}{a:>12.3}{b:>12.3}{:>8.3}{of_middles:>12.3}", b / a);
             ratios[part].push(b / a);
         }
     }

@@ -1,6 +1,8 @@
 //! compare N SEED [SET [FIRST]]: N jobs through the library against the unmodified Rust, from job FIRST (0) on. Prints
-//! each difference with what makes it again, up to 20, and how much was compared; ends with 1 if there was any. Each
-//! job is run over a row of records too, and must give the same.
+//! each difference with what makes it again, up to 20, and how much was compared; ends with 1 if there was any. A job is
+//! asked for in four ways, over three lists or a row of records and by the plain or the quick pass. The jobs take turns in which
+//! of the four is held to the Rust. Then the other form of the queue and the other pass, together, must give the same; in
+//! `small` all four.
 //!
 //!   small    the kinds of tools/jobs within the job program's limits, and lent buffers of other lengths: every
 //!            answer 0 to 8, with every buffer, against the model of document 01; then against the Rust
@@ -31,7 +33,7 @@ mod shapes;
 use model::geometry::{ray, Reply};
 use model::grid::AXES;
 use model::{bounds, text, topology, Done, Job};
-use port::{Answer, Lent};
+use port::{Answer, By, Lent};
 use random::Random;
 use rust::Held;
 use std::collections::BTreeMap;
@@ -43,7 +45,8 @@ struct Seen {
     kinds: BTreeMap<String, u64>,
     answers: BTreeMap<u32, u64>,
     to_rust: u64,
-    records: u64,
+    /// Jobs that were asked for in each of the four ways.
+    asked: [u64; 4],
     /// Jobs whose rays that graze were counted here; those with any, how many in all, the most.
     counted: u64,
     with_grazed: u64,
@@ -61,11 +64,9 @@ struct Seen {
 
 impl Seen {
     /// One job held to the Rust.
-    fn hold(&mut self, job: &Job, lent: &mut Lent, with_crossings: bool) -> Result<Held, String> {
-        let held = rust::hold(job, lent, with_crossings)?;
-        let before = Lent::fitting(&job.grid, lent.distances.len());
-        let coordinates = job.vertices.as_flattened();
-        self.records += u64::from(port::hold_records(job, coordinates, before, u32::MAX, held.answer, lent)?);
+    fn hold(&mut self, job: &Job, lent: &mut Lent, by: By, with_crossings: bool) -> Result<Held, String> {
+        let held = rust::hold(job, lent, by, with_crossings)?;
+        self.hold_other(job, by, &held, lent)?;
         let (cells, triangles) = (u64::from(job.grid.cells()), topology::triangles(job).len() as u64);
         if with_crossings {
             self.count_grazed(job, held.answer)?;
@@ -79,6 +80,34 @@ impl Seen {
         self.ours += held.ours;
         self.theirs += held.theirs;
         Ok(held)
+    }
+
+    /// A job that was asked for over new buffers gives the same over the other form of the queue and by the other pass.
+    fn hold_other(&mut self, job: &Job, by: By, held: &Held, left: &Lent) -> Result<(), String> {
+        self.tell(by);
+        let before = Lent::fitting(&job.grid, left.distances.len());
+        self.hold_again(job, job.vertices.as_flattened(), before, u32::MAX, by.other(), held.answer, left)
+    }
+
+    /// The job asked for in another way gives the same answer and leaves the same buffers.
+    fn hold_again(
+        &mut self,
+        job: &Job,
+        coordinates: &[f32],
+        before: Lent,
+        limit: u32,
+        by: By,
+        answer: Answer,
+        left: &Lent,
+    ) -> Result<(), String> {
+        if port::hold_again(job, coordinates, before, limit, by, answer, left)? {
+            self.tell(by);
+        }
+        Ok(())
+    }
+
+    fn tell(&mut self, by: By) {
+        self.asked[2 * usize::from(by.records) + usize::from(by.quick)] += 1;
     }
 
     /// The rays that graze, against every ray with every triangle. A refusal has none.
@@ -110,7 +139,11 @@ impl Seen {
             "rays that graze, counted one by one: {} jobs, {} of them with any, {} in all, the most {}",
             self.counted, self.with_grazed, self.grazed, self.most_grazed
         );
-        println!("over records, the same answer and buffers: {} jobs", self.records);
+        let [plain, quick, records_plain, records_quick] = self.asked;
+        println!(
+            "with the same answer and buffers: over three lists {plain} by the plain pass and {quick} by the quick, \
+             over records {records_plain} and {records_quick}"
+        );
         println!("seconds: {:.1} the library, {:.1} the Rust", self.ours, self.theirs);
         println!("{} jobs, {} differences", self.jobs, self.differences);
     }
@@ -171,6 +204,11 @@ fn grazed(job: &Job) -> u64 {
     count
 }
 
+/// The way in which a job is held to the Rust. By pairs, since the crossings of every second job alone may be held.
+fn in_turn(index: u64) -> By {
+    By::ALL[(index / 2 % 4) as usize]
+}
+
 // Jobs as the job program may be given.
 
 /// One job over buffers that hold noise, some of them of a wrong length: answer and buffers are the model's. Then the
@@ -194,7 +232,7 @@ fn small(index: u64, r: &mut Random, seen: &mut Seen) -> (String, Result<(), Str
     };
     let verdict = hold_to_model(&job, r, seen).and_then(|number| {
         if matches!(number, 0 | 6 | 7 | 8) {
-            seen.hold(&job, &mut Lent::fitting(&job.grid, 4_096), true)?;
+            seen.hold(&job, &mut Lent::fitting(&job.grid, 4_096), in_turn(index), true)?;
         }
         Ok(())
     });
@@ -209,12 +247,12 @@ fn hold_to_model(job: &Job, r: &mut Random, seen: &mut Seen) -> Result<u32, Stri
     let uneven = r.once_in(40) && !job.vertices.is_empty();
     let before = noise(lengths, wrong, r);
     let owed = owed(job, uneven, before.lengths != lengths);
-    let mut lent = before.lent;
-    let kept = lent.clone();
-    let before_records = lent.clone();
+    let mut lent = before.lent.clone();
+    let kept = before.lent.clone();
     let coordinates = job.vertices.as_flattened();
     let coordinates = &coordinates[..coordinates.len() - usize::from(uneven)];
-    let answer = port::ask_with(job, coordinates, &mut lent, job.pops);
+    let [first, others @ ..] = By::ALL;
+    let answer = port::ask_with(job, coordinates, &mut lent, job.pops, first);
     *seen.answers.entry(answer.number).or_default() += 1;
     let refused = |number: u32| Answer { number, ..Answer::default() };
     let (model, left) = match owed {
@@ -232,7 +270,10 @@ fn hold_to_model(job: &Job, r: &mut Random, seen: &mut Seen) -> Result<u32, Stri
     if lent.bits() != left.bits() {
         return Err(format!("answer {number}, and a buffer is not as the model leaves it"));
     }
-    seen.records += u64::from(port::hold_records(job, coordinates, before_records, job.pops, answer, &left)?);
+    seen.tell(first);
+    for by in others {
+        seen.hold_again(job, coordinates, before.lent.clone(), job.pops, by, answer, &left)?;
+    }
     Ok(if uneven || before.lengths != lengths { 5 } else { number })
 }
 
@@ -317,7 +358,7 @@ fn large(
     let grid = meshes::grid(count, r);
     let mut lent = Lent::fitting(&grid, 2 * grid.cells() as usize + 4_096);
     let job = meshes::make(kind, grid, triangles, r);
-    let verdict = seen.hold(&job, &mut lent, with_crossings);
+    let verdict = seen.hold(&job, &mut lent, in_turn(index), with_crossings);
     let verdict = verdict.map(|held| *seen.answers.entry(held.answer.number).or_default() += 1);
     (meshes::KINDS[kind].0.to_string(), verdict)
 }
@@ -343,7 +384,13 @@ fn at_bounds(with_rust: bool, seen: &mut Seen) {
         let mesh = meshes::soup_of(&grid, triangles, reach, &mut r);
         let job = meshes::plain(grid, mesh);
         seen.jobs += 1;
-        let verdict = if with_rust { seen.hold(&job, &mut lent, false) } else { Ok(rust::alone(&job, &mut lent)) };
+        let by = By { records: false, quick: true };
+        let verdict = if with_rust {
+            seen.hold(&job, &mut lent, by, false)
+        } else {
+            let held = rust::alone(&job, &mut lent, by);
+            seen.hold_other(&job, by, &held, &lent).map(|()| held)
+        };
         let [x, y, z] = count.map(u64::from);
         let points = (y * z + x * z + x * y) * u64::from(triangles);
         let verdict = verdict.and_then(|held| match held.answer.grazed {

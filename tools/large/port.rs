@@ -30,6 +30,7 @@ extern "C" {
         row: *mut [u32; 3],
         row_length: usize,
         limit: u32,
+        pass: u32,
         number: *mut u32,
         pops: *mut u32,
         peak: *mut usize,
@@ -92,18 +93,57 @@ impl Lent {
     }
 }
 
-/// The job over the lent buffers. The queue room is what is lent, not what the job says.
-pub fn ask(job: &Job, lent: &mut Lent, limit: u32) -> Answer {
-    ask_with(job, job.vertices.as_flattened(), lent, limit)
+/// How a job is asked for, which no answer and no buffer shows: with the queue as a row of records, or as three lists; by
+/// the quick pass, or by the plain one.
+#[derive(Clone, Copy, PartialEq, Eq, Debug)]
+pub struct By {
+    pub records: bool,
+    pub quick: bool,
 }
 
-/// The same with other coordinates than the job's.
-pub fn ask_with(job: &Job, coordinates: &[f32], lent: &mut Lent, limit: u32) -> Answer {
-    call(job, coordinates, lent, None, limit)
+impl By {
+    pub const ALL: [By; 4] = [
+        By { records: false, quick: false },
+        By { records: false, quick: true },
+        By { records: true, quick: false },
+        By { records: true, quick: true },
+    ];
+
+    /// The other form of the queue, and the other pass.
+    pub fn other(self) -> By {
+        By { records: !self.records, quick: !self.quick }
+    }
+}
+
+/// The job over the lent buffers. The queue room is what is lent, not what the job says.
+pub fn ask(job: &Job, lent: &mut Lent, limit: u32, by: By) -> Answer {
+    ask_with(job, job.vertices.as_flattened(), lent, limit, by)
+}
+
+/// The same with other coordinates than the job's. A row of records holds what the three lists of `lent`'s queue do, entry
+/// by entry.
+pub fn ask_with(job: &Job, coordinates: &[f32], lent: &mut Lent, limit: u32, by: By) -> Answer {
+    if !by.records {
+        return call(job, coordinates, lent, None, limit, by.quick);
+    }
+    let mut row: Vec<[u32; 3]> =
+        (0..lent.distances.len()).map(|i| [lent.distances[i], lent.cells[i], lent.triangles[i]]).collect();
+    let answer = call(job, coordinates, lent, Some(&mut row), limit, by.quick);
+    for (i, entry) in row.iter().enumerate() {
+        [lent.distances[i], lent.cells[i], lent.triangles[i]] = *entry;
+    }
+    answer
 }
 
 /// The job over the lent buffers, with the row for a queue where there is one.
-fn call(job: &Job, coordinates: &[f32], lent: &mut Lent, row: Option<&mut [[u32; 3]]>, limit: u32) -> Answer {
+fn call(
+    job: &Job,
+    coordinates: &[f32],
+    lent: &mut Lent,
+    row: Option<&mut [[u32; 3]]>,
+    limit: u32,
+    quick: bool,
+) -> Answer {
     let Grid { first, size, count } = job.grid;
     let mut grid = [0; 9];
     for axis in 0..3 {
@@ -139,6 +179,7 @@ fn call(job: &Job, coordinates: &[f32], lent: &mut Lent, row: Option<&mut [[u32;
             row,
             row_length,
             limit,
+            u32::from(quick),
             &mut answer.number,
             &mut answer.pops,
             &mut answer.peak,
@@ -149,9 +190,9 @@ fn call(job: &Job, coordinates: &[f32], lent: &mut Lent, row: Option<&mut [[u32;
 }
 
 /// The job with room enough: the room is doubled until it does.
-pub fn ask_with_room(job: &Job, lent: &mut Lent) -> Answer {
+pub fn ask_with_room(job: &Job, lent: &mut Lent, by: By) -> Answer {
     loop {
-        let answer = ask(job, lent, u32::MAX);
+        let answer = ask(job, lent, u32::MAX, by);
         if answer.number != 7 {
             return answer;
         }
@@ -162,36 +203,27 @@ pub fn ask_with_room(job: &Job, lent: &mut Lent) -> Answer {
     }
 }
 
-/// The job over a row of records, which is what the three lists of `lent`'s queue hold, entry by entry.
-pub fn ask_records(job: &Job, coordinates: &[f32], lent: &mut Lent, limit: u32) -> Answer {
-    let mut row: Vec<[u32; 3]> =
-        (0..lent.distances.len()).map(|i| [lent.distances[i], lent.cells[i], lent.triangles[i]]).collect();
-    let answer = call(job, coordinates, lent, Some(&mut row), limit);
-    for (i, entry) in row.iter().enumerate() {
-        [lent.distances[i], lent.cells[i], lent.triangles[i]] = *entry;
-    }
-    answer
-}
-
-/// The job over a row of records, from buffers that held `before`, gives this answer and leaves these buffers. Three lists
+/// The job asked for in another way, from buffers that held `before`, gives this answer and leaves these buffers. Three lists
 /// of different lengths are no row: nothing is asked then.
-pub fn hold_records(
+pub fn hold_again(
     job: &Job,
     coordinates: &[f32],
     mut before: Lent,
     limit: u32,
+    by: By,
     answer: Answer,
     left: &Lent,
 ) -> Result<bool, String> {
-    if before.cells.len() != before.distances.len() || before.triangles.len() != before.distances.len() {
+    let room = before.distances.len();
+    if by.records && (before.cells.len() != room || before.triangles.len() != room) {
         return Ok(false);
     }
-    let records = ask_records(job, coordinates, &mut before, limit);
-    if records != answer {
-        return Err(format!("over records {records:?}, over three lists {answer:?}"));
+    let again = ask_with(job, coordinates, &mut before, limit, by);
+    if again != answer {
+        return Err(format!("{answer:?}, and by {by:?} {again:?}"));
     }
     if before.bits() != left.bits() {
-        return Err(format!("answer {}, and a buffer is not the same over records", answer.number));
+        return Err(format!("answer {}, and a buffer is not the same by {by:?}", answer.number));
     }
     Ok(true)
 }

@@ -1,6 +1,6 @@
 //! The unmodified Rust on a job, and the port held to it.
 
-use crate::port::{ask_with_room, Answer, Lent};
+use crate::port::{ask_with_room, Answer, By, Lent};
 use mesh_oracle::{guarded, run_on, topology};
 use mesh_to_sdf::{probe, Grid};
 use model::geometry::distance;
@@ -31,17 +31,17 @@ pub struct Held {
 }
 
 /// The job with no bound on room and pops, the port's alone.
-pub fn alone(job: &Job, lent: &mut Lent) -> Held {
+pub fn alone(job: &Job, lent: &mut Lent, by: By) -> Held {
     let begin = Instant::now();
-    let answer = ask_with_room(job, lent);
+    let answer = ask_with_room(job, lent, by);
     Held { answer, ours: begin.elapsed().as_secs_f64(), theirs: 0.0 }
 }
 
 /// The job with no bound on room and pops, the port's against the Rust's: every cell's bits, the pops and, if asked
 /// for, the crossing counts, which the Rust works out again for it. What the Rust has no word for is held to the
 /// field: the names, the rows and the queue.
-pub fn hold(job: &Job, lent: &mut Lent, with_crossings: bool) -> Result<Held, String> {
-    let mut held = alone(job, lent);
+pub fn hold(job: &Job, lent: &mut Lent, by: By, with_crossings: bool) -> Result<Held, String> {
+    let mut held = alone(job, lent, by);
     let answer = held.answer;
     let begin = Instant::now();
     let rust = run(job);

@@ -1,6 +1,6 @@
 /* When the crossings of a call begin. The library fills by memset, and clears the crossing counts just before it counts; so the last
- * time that they are cleared is when the pass begins, and what is left of the call are the crossings, the signs and the rows. Both
- * libraries call told_memset in the place of memset. */
+ * time that they are cleared is when the pass begins, and what is left of the call are the crossings, the signs and the rows. A
+ * library that is timed calls told_memset in the place of memset. */
 #include <stddef.h>
 #include <string.h>
 #include <time.h>
