@@ -1,6 +1,6 @@
 -- How a question reaches C and its answer comes back: as records with C's layout. An answer has document 01's number, 0 where
 -- a value is given, and the value, all zero where it is refused. Definitions only.
-use mathlib.Core.Bool.{Bool, _||_}
+use mathlib.Core.Bool.{_||_}
 use Prim.Native.Nat.{ℕ}
 use lib.Dec.{eqb}
 use lib.IntN.{ℤ, pos, negsuc}

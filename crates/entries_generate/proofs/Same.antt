@@ -5,11 +5,15 @@ use mathlib.Core.Path.{_≡_, refl, sym, ap, subst, _∙_}
 use mathlib.Core.List.{List}
 use lib.ListN.{length, length-map}
 use lib.Ieee.{Float}
+use Rattle.terms.specs.declared.Pass.{Pass}
+use Rattle.mesh_topology.specs.declared.Topology.{Topology}
+use Rattle.mesh_topology.specs.declared.Indices.{Indices}
+use Rattle.grid.specs.declared.Grid.{Grid}
 use Rattle.queue.specs.declared.Entry.{Entry}
 use Rattle.queue.specs.Queue.{entries}
 use Rattle.entries.specs.Row.{rowDistances, rowCells, rowTriangles}
 use Rattle.entries.proofs.Projections.{row-entries}
-use Rattle.job_checks.specs.Job.{Job, Lent, lentOf}
+use Rattle.job_checks.specs.Job.{Job, Lent, jobOf, lentOf}
 use Rattle.job_checks.specs.Refusals.{refusal, refusalBy, lengthsOf}
 use Rattle.job_outcome.specs.declared.Answer.{Answer}
 use Rattle.job_outcome.specs.Outcome.{Outcome, Gives, ended, runOf, unlessRefused, outcome}
@@ -88,3 +92,13 @@ one-outcome-row field field′ names names′ crossings crossings′ rows rows�
       alike _ _ e,
       one-row queue queue′ (ap (λ (l : Lent). l .distances) e) (ap (λ (l : Lent). l .cells) e) (ap (λ (l : Lent). l .triangles) e),
     )
+
+-- ---- "Neither answer nor buffers may show which was picked" (document 02, §4)
+
+-- a job has no pass, so that two calls which differ in the pass alone ask for one job: over three buffers, and over a row of records
+pub pass-not-shown : (g : Grid) (vertices : List Float) (topology : Topology) (given : Indices) (indices : List ℕ) (limit : ℕ) (p q : Pass) (b : Lent)
+    {answer answer′ : Answer} {left left′ : Lent}
+    → Gives (outcome (jobOf g vertices topology given indices (record { limit = limit; pass = p })) b) answer left
+    → Gives (outcome (jobOf g vertices topology given indices (record { limit = limit; pass = q })) b) answer′ left′
+    → (answer ≡ answer′) × (left ≡ left′)
+pass-not-shown g vertices topology given indices limit p q b = one-outcome

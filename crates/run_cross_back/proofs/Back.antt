@@ -1,11 +1,11 @@
 -- One entry after another, the last one first. The next cell on a line has the higher entry, which is summed already; so an entry and the next
 -- one's sum make its sum. What is summed from entry 0 on is summed, and where the marks are the hits that end, it is the crossings. Once
 -- over the three axes. Assumes nothing.
-use Prim.Native.Nat.{ℕ, _+_, _-_, _*_, _^_, _≤_, _<_}
+use Prim.Native.Nat.{ℕ, _+_, _*_, _^_, _≤_, _<_}
 use native.Mathlib.Decide.{decLt, ℕ-discrete}
 use native.Mathlib.Omega.{arith}
-use mathlib.Core.Path.{_≡_, refl, sym, ap, ap₂, _∙_, subst}
-use mathlib.Core.Bool.{Bool, true, false}
+use mathlib.Core.Path.{_≡_, refl, sym, ap, ap₂, _∙_}
+use mathlib.Core.Bool.{Bool, true}
 use mathlib.Core.List.{List}
 use lib.Dec.{ltb}
 use lib.ListN.{length, getD, set, length-set}
@@ -14,22 +14,22 @@ use borrow.Author.Tests.{ltb-true, lt-ltb, le-ltb}
 use Rattle.lists.proofs.Range.{count-le}
 use Rattle.lists.proofs.Table.{stored-at}
 use Rattle.point.specs.declared.Axis.{Axis}
-use Rattle.point.specs.declared.Axis.the-variants.{X, Y, Z}
+use Rattle.point.specs.declared.Axis.the-variants.{Y, Z}
 use Rattle.grid.specs.declared.Grid.{Grid}
 use Rattle.grid.specs.declared.Cell.{Cell}
-use Rattle.grid.specs.Axes.{countOn, cellOn, put}
-use Rattle.grid.specs.Index.{Inside, indexOf, index, total, strideOn}
+use Rattle.grid.specs.Axes.{countOn, cellOn}
+use Rattle.grid.specs.Index.{Inside, indexOf, total, strideOn}
 use Rattle.grid.specs.Bounds.{inBounds}
-use Rattle.grid.proofs.Laws.{index-below, index-along, put-same}
+use Rattle.grid.proofs.Laws.{index-along, put-same}
 use Rattle.grid.proofs.Facts.{inside-on, inside-put}
 use Rattle.mesh.specs.Mesh.{Mesh, trianglesIn}
 use Rattle.terms.specs.declared.Pass.the-variants.{Quick}
 use Rattle.run.specs.Signs.{crosses, crossings, allCrossings}
 use Rattle.run.specs.Ends.{ends, after, summedBack}
 use Rattle.run.proofs.Ends.{back-last, back-next, back-as, same-counts}
-use Rattle.run_cross_lines.specs.Lines.{axisNumber, entryOf}
+use Rattle.run_cross_lines.specs.Lines.{entryOf}
 use Rattle.run_cross_lines.specs.Pass.{Counted}
-use Rattle.run_cross_lines.proofs.Entries.{place-below, entry-below, one-axis, one-cell, stride-pos}
+use Rattle.run_cross_lines.proofs.Entries.{entry-below, one-axis, one-cell, stride-pos}
 use Rattle.run_cross_lines.proofs.Hits.{all-crossings, counted-quick}
 use Rattle.run_cross_back.specs.Back.{markOf, SumsFit, SummedBack, SummedFrom, withNext, nextAdded}
 

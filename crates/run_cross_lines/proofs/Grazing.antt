@@ -1,9 +1,8 @@
 -- How many rays graze, a line, a row, an axis and a triangle at a time; and that no sum on the way passes 64 bits, since a row has at most
 -- 1,024 lines and an axis as many rows. Assumes nothing.
-use Prim.Native.Nat.{ℕ, zero, suc, _+_, _*_, _≤_, _<_}
+use Prim.Native.Nat.{ℕ, _+_, _*_, _≤_, _<_}
 use native.Mathlib.Omega.{arith}
-use native.Mathlib.Numerals.{add-one}
-use mathlib.Core.Path.{_≡_, refl, sym, ap, _∙_}
+use mathlib.Core.Path.{_≡_, refl, sym, ap}
 use mathlib.Core.Bool.{true, cond}
 use lib.ListN.{length}
 use Rattle.point.specs.declared.Axis.{Axis}

@@ -1,7 +1,7 @@
 -- How far a hit reaches. A hit lies ahead and a cell has a size, so the quotient is no NaN and has no sign, and its floor is a number
 -- from 0 on. On a line of `count` cells the cell of the quotient is then the last that is at most the floor: the last one reached, which is where
 -- the quick pass adds one, and the plain pass there and at all before it. Assumes nothing.
-use Prim.Native.Nat.{ℕ, zero, suc, _+_, _-_, _*_, _^_, _≤_, _<_, min}
+use Prim.Native.Nat.{ℕ, _+_, _-_, _*_, _≤_, _<_, min}
 use native.Mathlib.Decide.{decLt}
 use native.Mathlib.Omega.{arith}
 use mathlib.Core.Path.{_≡_, refl, sym, ap, _∙_, subst}

@@ -55,17 +55,6 @@ pub fn cell_on(axis: Axis, n: u32, u: u32, v: u32) -> Cell
     }
 }
 
-// The number of a cell on the lines along the axis.
-pub fn number_on(axis: Axis, cell: Cell) -> u32
-    ensures { λ r. ⌜ r ≡ Axes.cellOn axis cell ⌝ }
-{
-    match axis {
-        Axis::X => cell.x,
-        Axis::Y => cell.y,
-        Axis::Z => cell.z,
-    }
-}
-
 // Which of a cell's three entries is the axis's.
 fn place(axis: Axis) -> usize
     ensures { λ r. ⌜ r ≡ Lines.axisNumber axis ⌝ }

@@ -1,5 +1,4 @@
 -- `run_cross::cross_triangle`: three growths, each of its own axis's entries (`crates/run_cross_lines/proofs/Grown.antt`). Assumes nothing.
-use borrow.Author.Needs.{needs}
 use Prim.Native.Nat.{_+_, _≤_}
 use native.Mathlib.Omega.{arith}
 use mathlib.Core.Path.{refl, _∙_}

@@ -1,9 +1,6 @@
 -- `run_cross_back::add_next`: as it is written. Assumes nothing.
 use borrow.Author.Needs.{needs}
-use Prim.Native.Nat.{_+_, _<_}
 use native.Mathlib.Omega.{arith}
-use mathlib.Core.Path.{refl}
-use lib.ListN.{length}
 use Rattle.run_cross_back.proofs.add_next.Statement.{statement}
 use Rattle.run_cross_back.proofs.add_next.Tie as tie
 

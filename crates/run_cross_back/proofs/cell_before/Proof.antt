@@ -1,5 +1,4 @@
 -- `run_cross_back::cell_before`: a number less by one, and those behind it at their last (`proofs/Falling.antt`). Assumes nothing.
-use borrow.Author.Needs.{needs}
 use Prim.Native.Nat.{_-_, _*_}
 use native.Mathlib.Omega.{arith}
 use Rattle.grid.specs.Index.{index}
