@@ -1,4 +1,4 @@
--- What the parts of the crossing pass leave behind: each entry as it was, or one more. Definitions only.
+-- What the parts of the crossing pass, plain or quick, leave behind: each entry as it was, or one more. Definitions only.
 use Prim.Native.Nat.{ℕ, _+_, _*_, _<_}
 use mathlib.Core.Path.{_≡_}
 use mathlib.Core.Bool.{Bool, true, false, cond, not, _&&_}
@@ -48,14 +48,14 @@ abbrev pub addsAt : Pass → Float → ℕ → ℕ → RayHit → Bool
 addsAt Plain size count i hit = reaches size i hit
 addsAt Quick size count i hit = endsAt size count i hit
 
--- the first cell of the line that it adds one at, where `last` is the last one
-abbrev pub firstAdded : Pass → ℕ → ℕ
-firstAdded Plain last = 0
-firstAdded Quick last = last
-
 -- the same of a cell and the line along the axis that it is on
 abbrev pub addsOn : Pass → Grid → Axis → Cell → RayHit → Bool
 addsOn pass g axis c hit = addsAt pass (sizeOn axis g) (countOn axis g) (cellOn axis c) hit
+
+-- the first cell of the line that it adds one at, where `last` is the last
+abbrev pub firstAdded : Pass → ℕ → ℕ
+firstAdded Plain last = 0
+firstAdded Quick last = last
 
 -- the cells of line (u, v) where the ray's answer adds one
 abbrev pub lineCrossed : Pass → Grid → Axis → ℕ → ℕ → RayHit → Axis → Cell → Bool
