@@ -84,10 +84,12 @@ fn main() {
             least(&mut spread, cut_short(job, &mut lent, answer.pops - 1));
             leasts(&mut taken, whole(job, &mut lent, TAKEN));
             // More turns where a call is short. Each pass goes first half the time.
-            for turn in 0..2 * (10_000 / workload.edge.pow(2)) {
+            for turn in 0..2 * (20_000 / workload.edge.pow(2)) {
                 let pass = ((round + turn / 2 + turn) % 2) as usize;
                 least(&mut passes[pass], whole(job, &mut lent, PASSES[pass])[0]);
-                least(&mut bares[pass], whole(&bare, &mut lent, PASSES[pass])[0]);
+                for _ in 0..3 {
+                    least(&mut bares[pass], whole(&bare, &mut lent, PASSES[pass])[0]);
+                }
             }
             leasts(&mut b, theirs(job));
             // What makes the row of the three lists, and back, is counted too.

@@ -126,7 +126,10 @@ fn main() {
     let pass = match std::env::args().nth(3).as_deref() {
         None | Some("quick") => 1,
         Some("plain") => 0,
-        Some(word) => panic!("no such pass: {word}"),
+        Some(word) => {
+            eprintln!("bench-two: no such pass: {word}");
+            std::process::exit(2);
+        }
     };
     println!("load before: {}", load());
     let words = ["workload", "cells", "part", "before, ms", "after, ms", "ratio", "of middles"];
