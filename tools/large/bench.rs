@@ -1,7 +1,7 @@
-//! bench [ROUNDS [EDGE]]: the library and the unmodified Rust on the same jobs in one run, turn by turn, on one thread each.
+//! bench [ROUNDS [EDGE [WORD]]]: the library and the unmodified Rust on the same jobs in one run, turn by turn, on one thread each.
 //! Prints for each workload and size the least time of each part over the rounds (5; at most three for the largest
 //! size), in milliseconds of the processor's time, the ratios, and how many entries were taken and waited. Sizes above
-//! EDGE (100) are left out.
+//! EDGE (100) are left out, and with WORD all workloads that have it neither in their name nor in their counts, as 1024.
 //!
 //! The Rust's parts are what its own log lines say. The library has one call for a whole job. Its crossings are timed from
 //! when their counts are cleared (clock.c) to the end of the call, so the signs and the rows stand in them. Seeding and
@@ -71,7 +71,8 @@ fn main() {
     println!("load before: {}", load());
     let (mut slowest, mut slowest_records) = ([f64::MAX; 4], f64::MAX);
     let (mut by_plain, mut adding_long) = ([f64::MAX, f64::MIN], f64::MAX);
-    for workload in workloads::all(largest) {
+    let word = std::env::args().nth(3).unwrap_or_default();
+    for workload in workloads::all(largest).filter(|w| w.name.contains(&word) || w.counts().contains(&word)) {
         let job = &workload.job;
         let bare = meshes::plain(job.grid.clone(), Mesh::default());
         let mut lent = Lent::fitting(&job.grid, 2 * job.grid.cells() as usize);

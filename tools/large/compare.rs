@@ -10,7 +10,7 @@
 //!   large    to 100 x 100 x 100 cells and 20,000 triangles (the default); the crossing counts of every second
 //!            job, since the Rust works them out again for it
 //!   bounds   one job at each bound of document 01, and one whose rays that graze pass 32 bits; with N = 0 the library alone,
-//!            which takes seconds where the Rust takes minutes; SEED does not matter
+//!            which takes a minute where the Rust takes many; SEED does not matter
 //!
 //! The Rust has no reply for a ray that grazes (document 02, §3). The total of `small` is the model's; that of the others is
 //! counted here, every ray with every triangle, by the model's ray test; in `large` where the crossings are held too. In `bounds`

@@ -28,11 +28,11 @@ const SIZES: [(u32, u32); 4] = [(16, 625), (32, 2_500), (64, 10_000), (100, 20_0
 
 /// The others, with their counts and triangles: each of about as many cells as the largest cube.
 const OTHERS: [((&str, Make), [u32; 3], u32); 6] = [
-    (CLOSED_TANK, TALL, 5_000),
-    (NOISY_SCAN, TALL, 5_000),
-    (LARGE_FACETS, TALL, 5_000),
+    (CLOSED_TANK, TALL, 2_500),
+    (NOISY_SCAN, TALL, 2_500),
+    (LARGE_FACETS, TALL, 2_500),
     (("stacked-plates", |grid, n, _| plates(grid, n)), TALL, 400),
-    (("lying-tank", lying_tank), [1_024, 32, 32], 5_000),
+    (("lying-tank", lying_tank), [1_024, 32, 32], 2_500),
     (("one-plate", |grid, n, _| plates(grid, n)), [100; 3], 2),
 ];
 const TALL: [u32; 3] = [32, 32, 1_024];
