@@ -5,7 +5,7 @@ use Prim.Native.Nat.{ℕ}
 use mathlib.Core.Bool.{Bool}
 use mathlib.Core.List.{List, map}
 use Rattle.queue.specs.declared.Entry.{Entry}
-use Rattle.queue.specs.Queue.{Held, Pushed, Taken, Cleared}
+use Rattle.queue.specs.Queue.{waiting, Held, Pushed, Taken, Cleared}
 
 -- the three lists of a row
 abbrev pub rowDistances : List Entry → List ℕ
@@ -18,6 +18,10 @@ abbrev pub rowTriangles : List Entry → List ℕ
 rowTriangles row = map (λ e. e .triangle) row
 
 module _ (le : Entry → Entry → Bool) where
+  -- the n waiting entries, in the order in which they are taken
+  abbrev pub waitingIn : List Entry → ℕ → List Entry
+  waitingIn row n = waiting le (rowDistances row) (rowCells row) (rowTriangles row) n
+
   -- the row holds n waiting entries, and zeros in the rest of its room
   abbrev pub HeldRow : List Entry → ℕ → Type 0
   HeldRow row n = Held le (rowDistances row) (rowCells row) (rowTriangles row) n

@@ -1,33 +1,22 @@
 // An entry put into the queue of the run that is a lent row of entry records. A part of the port: users call
 // `sdf`.
-use mesh_topology::Indices;
-use mesh_topology::Topology;
 use queue::Entry;
-ghost use Prim.Native.Nat.{_^_, _<_};
+ghost use Prim.Native.Nat.{_<_};
 ghost use lib.ListN.{length};
-ghost use Rattle.queue.specs.Order.{orderOf};
+ghost use Rattle.queue.specs.Order.{byKeys};
 ghost use Rattle.queue.specs.Queue.{blank};
 ghost use Rattle.entries.specs.Row.{HeldRow, PushedRow};
 
 // Adds e to the n entries that wait. There must be room for it.
-pub fn push(
-    row: &mut [Entry],
-    n: usize,
-    e: Entry,
-    topology: Topology,
-    given: Indices,
-    indices: &[u32],
-    vertices: usize,
-)
-    requires { let le = orderOf topology given (now indices) vertices in
-        ⌜ (vertices < 2 ^ 32) × HeldRow le (now row) n × (n < length (now row)) ⌝ }
-    ensures { λ _. ⌜ PushedRow (orderOf topology given (now (indices .entry)) vertices) e (now (row .entry)) (now (row .exit)) n ⌝ }
+pub fn push(row: &mut [Entry], n: usize, e: Entry)
+    requires { ⌜ HeldRow byKeys (now row) n × (n < length (now row)) ⌝ }
+    ensures { λ _. ⌜ PushedRow byKeys e (now (row .entry)) (now (row .exit)) n ⌝ }
 {
     let mut i = n;
     while 0 < i {
         let p = (i - 1) / 2;
         let x = row[p];
-        if queue::goes_first(x, e, topology, given, indices, vertices) {
+        if queue::goes_first(x, e) {
             break;
         }
         row[i] = x;

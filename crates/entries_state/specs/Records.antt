@@ -12,7 +12,6 @@ use Rattle.lists.specs.Turns.{Turn, told}
 use Rattle.grid.specs.declared.Grid.{Grid}
 use Rattle.mesh.specs.Mesh.{Mesh}
 use Rattle.queue.specs.declared.Entry.{Entry}
-use Rattle.queue.specs.Queue.{waiting}
 use Rattle.run.specs.Run.{RunInput, State, queueing}
 use Rattle.run_state.specs.declared.Progress.{Progress}
 use Rattle.run_state.specs.Told.{refusedBy, stateOf, Holds, Told}
@@ -20,10 +19,7 @@ use Rattle.entries.specs.Row.{rowDistances, rowCells, rowTriangles, HeldRow}
 use Rattle.entries_batch.specs.declared.Batch.{Batch}
 use Rattle.entries_batch.specs.Batch.{entryIn, queueAll}
 
--- what waits in a row, and the state that it holds
-abbrev pub waitingIn : (Entry → Entry → Bool) → List Entry → ℕ → List Entry
-waitingIn le row n = waiting le (rowDistances row) (rowCells row) (rowTriangles row) n
-
+-- the state that a row holds
 abbrev pub stateIn : (Entry → Entry → Bool) → List Float → List ℕ → List Entry → Progress → State
 stateIn le field names row p = stateOf le field names (rowDistances row) (rowCells row) (rowTriangles row) p
 

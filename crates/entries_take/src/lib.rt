@@ -3,11 +3,12 @@
 use mesh_topology::Indices;
 use mesh_topology::Topology;
 use queue::Entry;
-ghost use Prim.Native.Nat.{_^_, _<_};
-ghost use Rattle.queue.specs.Order.{orderOf};
-ghost use Rattle.entries.specs.Row.{HeldRow, TakenRow};
+ghost use Prim.Native.Nat.{_<_};
+ghost use Rattle.queue.specs.Order.{orderOf, byKeys, Apart};
+ghost use Rattle.entries.specs.Row.{waitingIn, HeldRow, TakenRow};
 
-// Takes the first of the n entries that wait, and leaves zero in the room that this frees.
+// Takes the first of the n entries that wait, and leaves zero in the room that this frees. No two of them may agree in
+// distance and cell: then the first by these two keys is the first by all three, and no triple is read.
 pub fn take(
     row: &mut [Entry],
     n: usize,
@@ -16,7 +17,8 @@ pub fn take(
     indices: &[u32],
     vertices: usize,
 ) -> Entry
-    requires { ⌜ (vertices < 2 ^ 32) × HeldRow (orderOf topology given (now indices) vertices) (now row) n × (0 < n) ⌝ }
+    requires { ⌜ HeldRow byKeys (now row) n × (0 < n) ⌝ }
+    requires { ⌜ Apart (waitingIn (orderOf topology given (now indices) vertices) (now row) n) ⌝ }
     ensures { λ r. ⌜ TakenRow (orderOf topology given (now (indices .entry)) vertices) r (now (row .entry)) (now (row .exit)) n ⌝ }
 {
     let m = n - 1;
@@ -24,6 +26,6 @@ pub fn take(
     let last = row[m];
     let e = entries::kept(last, m);
     row[m] = entries::none();
-    entries_sift::sift_down(row, m, e, topology, given, indices, vertices);
+    entries_sift::sift_down(row, m, e);
     r
 }

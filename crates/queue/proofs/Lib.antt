@@ -5,4 +5,5 @@ pub mod Order
 pub mod Flat
 pub mod Gaps
 pub mod Meaning
+pub mod Keys
 pub mod Uses

@@ -1,28 +1,26 @@
--- `queue::goes_first` meets its contract: each return is a case of `goesFirst`, by the tests that led to it. Assumes nothing.
-use mathlib.Core.Path.{_∙_}
-use borrow.Author.Needs.{needs}
+-- `queue::goes_first` meets its contract: each return is a case of `byKeys`, by the tests that led to it. Assumes nothing.
 use borrow.Author.Tests.{lt-ltb, le-ltb}
-use Rattle.queue.specs.Order.{goesFirst}
+use Rattle.queue.specs.Order.{byKeys}
 use Rattle.queue.proofs.goes_first.Statement.{statement}
 use Rattle.queue.proofs.goes_first.Tie as tie
 
 returns : tie.Need-returns
-unfolding goesFirst
+unfolding byKeys
 returns c = simp (lt-ltb _ _ (c .if1 .taken))
 
 returns-2 : tie.Need-returns-2
-unfolding goesFirst
+unfolding byKeys
 returns-2 c = let one = c .before .before .before in simp (le-ltb _ _ (one .if1 .left), lt-ltb _ _ (c .if2 .taken))
 
 returns-3 : tie.Need-returns-3
-unfolding goesFirst
+unfolding byKeys
 returns-3 c =
     let two = c .before .before .before in
     let one = two .before .before .before in
     simp (le-ltb _ _ (one .if1 .left), le-ltb _ _ (two .if2 .left), lt-ltb _ _ (c .if3 .taken))
 
 returns-4 : tie.Need-returns-4
-unfolding goesFirst
+unfolding byKeys
 returns-4 c =
     let three = c .before .before .before in
     let two = three .before .before .before in
@@ -30,17 +28,13 @@ returns-4 c =
     simp (le-ltb _ _ (one .if1 .left), le-ltb _ _ (two .if2 .left), le-ltb _ _ (three .if3 .left), lt-ltb _ _ (c .if4 .taken))
 
 returns-5 : tie.Need-returns-5
-unfolding goesFirst
+unfolding byKeys
 returns-5 c =
-    let four = c .before .before .before in
+    let four : tie.Else4 = search in
     let three = four .before .before .before in
     let two = three .before .before .before in
     let one = two .before .before .before in
-    c .triple-first .ensures
-    ∙ simp (le-ltb _ _ (one .if1 .left), le-ltb _ _ (two .if2 .left), le-ltb _ _ (three .if3 .left), le-ltb _ _ (four .if4 .left), c .before .before .triple .ensures, c .before .triple2 .ensures)
+    simp (le-ltb _ _ (one .if1 .left), le-ltb _ _ (two .if2 .left), le-ltb _ _ (three .if3 .left), le-ltb _ _ (four .if4 .left))
 
 pub goes-first-spec : {M : Type 1} → statement M
-goes-first-spec =
-    tie.close (tie.spec
-    returns returns-2 returns-3 returns-4
-    (λ c κs. search needs) (λ c κs. search needs) (λ c κs. search needs) returns-5)
+goes-first-spec = tie.close (tie.spec returns returns-2 returns-3 returns-4 returns-5)
