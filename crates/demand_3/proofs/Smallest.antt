@@ -17,6 +17,7 @@ use Rattle.lists.proofs.Turns.{turns-keep}
 use Rattle.lists.proofs.Made.{goes-same}
 use Rattle.queue.specs.declared.Entry.{Entry}
 use Rattle.queue.specs.InOrder.{Total}
+use Rattle.queue.specs.Order.{Apart}
 use Rattle.queue.proofs.Meaning.{Sorted, sorted-insert, after-member}
 use Rattle.queue.proofs.Order.{order-of, nearer-first, larger-cell-first}
 use Rattle.mesh_topology.specs.Topology.{trianglesOf, kth}
@@ -25,7 +26,7 @@ use Rattle.run.specs.Run.{RunInput, Place, off, at, State, taken, queue, queueC
 use Rattle.run.specs.Input.{runInput}
 use Rattle.run.proofs.Values.{Fair}
 use Rattle.run.proofs.Offers.{Offer, passes, takesIt, offer-went, Queued, queue-went, QueuedCell, notBelow, below, queueCell-went}
-use Rattle.run.specs.Good.{Waits, Good, Apart}
+use Rattle.run.specs.Good.{Waits, Good}
 use Rattle.run.proofs.Inputs.{fair-input}
 use Rattle.run.proofs.Seeding.{seeding-empty}
 use Rattle.run.proofs.Spreading.{turnOf}

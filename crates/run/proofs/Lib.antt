@@ -5,6 +5,7 @@ pub mod Waiting
 pub mod Seeding
 pub mod Queueing
 pub mod Spreading
+pub mod Keys
 pub mod Done
 pub mod Steps
 pub mod Ways

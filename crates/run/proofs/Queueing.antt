@@ -13,8 +13,9 @@ use Rattle.lists.specs.Turns.{goes, turns}
 use Rattle.lists.proofs.Turns.{turns-keep}
 use Rattle.queue.specs.declared.Entry.{Entry}
 use Rattle.queue.proofs.Meaning.{in-insert, still-in, from-insert}
+use Rattle.queue.proofs.Keys.{FromAll}
 use Rattle.run.specs.Run.{RunInput, State, held, named, entry, queued, queueCell, queueing}
-use Rattle.run.specs.Good.{bits, Waits, Differ, Good}
+use Rattle.run.specs.Good.{bits, Waits, Good}
 use Rattle.run.proofs.Values.{Fair, has-named, has-below}
 use Rattle.run.proofs.Offers.{Queued, QueuedCell, notBelow, below, queueCell-went}
 use Rattle.run.proofs.Waiting.{good-queued, WaitsFor, waits-for-on}
@@ -43,7 +44,7 @@ module _ (g : RunInput) (F : Fair g) (s : State) where
           above = omega arith;
         }
 
-    new-differs : (z : Entry) → List·Memᴰ z (u .waiting) → Differ (entry (held u i) i (named u i)) z
+    pub new-differs : FromAll (entry (held u i) i (named u i)) (u .waiting)
     new-differs z m d e = omega (arith, P .passed z m)
 
     one-more : (v : State) → Queued g (entry (held u i) i (named u i)) u v → QueuedTo g s (suc i) v
@@ -100,27 +101,28 @@ module _ (g : RunInput) (F : Fair g) (s : State) where
           absurd (true≢false (sym (h .2) ∙ b))
       each c k (inr l) = P .each c l k
 
-  step : (i : ℕ) (u v : State) → i < g .cells → QueuedTo g s i u → queueCell g i u ≡ goes v → QueuedTo g s (suc i) v
-  step i u v il P h = go (queueCell-went g i u v h)
+  pub cell-queued : (i : ℕ) (u v : State) → i < g .cells → QueuedTo g s i u → queueCell g i u ≡ goes v → QueuedTo g s (suc i) v
+  cell-queued i u v il P h = go (queueCell-went g i u v h)
     where
       go : QueuedCell g i u v → QueuedTo g s (suc i) v
       go (notBelow b e) = none-more i u v il P b e
       go (below b Q) = one-more i u il P b v Q
 
+  -- none yet
+  pub none-queued : Good g s → s .waiting ≡ [] → QueuedTo g s 0 s
+  none-queued G e =
+      record {
+        good = G;
+        field-same = refl;
+        names-same = refl;
+        pops-same = refl;
+        passed = λ x m. absurd (List·Memᴰ·not-nil (subst (List·Memᴰ x) e m));
+        names-it = λ x m. absurd (List·Memᴰ·not-nil (subst (List·Memᴰ x) e m));
+        each = λ c k. absurd (not-suc-le-zero k);
+      }
+
   pub queued-to : (i : ℕ) (t : State) → Good g s → s .waiting ≡ [] → i ≤ g .cells → turns (queueCell g) i s ≡ goes t → QueuedTo g s i t
-  queued-to i t G e l h = turns-keep (queueCell g) (QueuedTo g s) i s t start (λ j u v m. step j u v (omega arith)) h
-    where
-      start : QueuedTo g s 0 s
-      start =
-          record {
-            good = G;
-            field-same = refl;
-            names-same = refl;
-            pops-same = refl;
-            passed = λ x m. absurd (List·Memᴰ·not-nil (subst (List·Memᴰ x) e m));
-            names-it = λ x m. absurd (List·Memᴰ·not-nil (subst (List·Memᴰ x) e m));
-            each = λ c k. absurd (not-suc-le-zero k);
-          }
+  queued-to i t G e l h = turns-keep (queueCell g) (QueuedTo g s) i s t (none-queued G e) (λ j u v m. cell-queued j u v (omega arith)) h
 
   pub queueing-to : (t : State) → Good g s → s .waiting ≡ [] → queueing g s ≡ goes t → QueuedTo g s (g .cells) t
   unfolding queueing

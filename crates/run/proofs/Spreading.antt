@@ -46,7 +46,7 @@ module _ (g : RunInput) (F : Fair g) where
 
   -- ---- one entry
   module _ (e : Entry) (cl : e .cell < g .cells) (kl : e .triangle < g .triangles) where
-    turn-leads : (j : ℕ) (s t : State) → turnOf g e j s ≡ goes t → Leads g s t
+    pub turn-leads : (j : ℕ) (s t : State) → turnOf g e j s ≡ goes t → Leads g s t
     unfolding spreadTo
     turn-leads j s t h G = go (g .around (e .cell) j) refl h
       where

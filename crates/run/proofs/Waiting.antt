@@ -14,9 +14,11 @@ use lib.Ieee.{Float, nan}
 use Rattle.lists.specs.Turns.{goes}
 use Rattle.queue.specs.declared.Entry.{Entry}
 use Rattle.queue.specs.InOrder.{insert}
+use Rattle.queue.specs.Order.{Differ, Apart}
+use Rattle.queue.proofs.Keys.{FromAll}
 use Rattle.queue.proofs.Meaning.{length-insert, in-insert, still-in, from-insert}
 use Rattle.run.specs.Run.{RunInput, State, named, entry, takes, offer, queued, queue, taken}
-use Rattle.run.specs.Good.{bits, Falls, Waits, Differ, Apart, Good}
+use Rattle.run.specs.Good.{bits, Falls, Waits, Good}
 use Rattle.run.proofs.Values.{Fair, Met, Nearer, Took, took, passes-met}
 use Rattle.run.proofs.Offers.{Offer, passes, takesIt, offer-went, Queued, queue-went}
 
@@ -39,7 +41,7 @@ member-at (x ∷ l) zero d h = List·Memᴰ·head refl
 member-at (x ∷ l) (suc i) d h = List·Memᴰ·tail (member-at l i d (le-of-suc-le-suc h))
 
 module _ (le : Entry → Entry → Bool) (e : Entry) where
-  apart-cond : (b : Bool) (y : Entry) (l : List Entry) → Apart (y ∷ l) → ((z : Entry) → List·Memᴰ z (y ∷ l) → Differ e z) → Apart (insert le e l)
+  apart-cond : (b : Bool) (y : Entry) (l : List Entry) → Apart (y ∷ l) → FromAll e (y ∷ l) → Apart (insert le e l)
       → Apart (cond b (e ∷ y ∷ l) (y ∷ insert le e l))
   apart-cond true y l a h r = (h, a)
   apart-cond false y l a h r = (λ z m. go z (from-insert le z e l m), r)
@@ -48,7 +50,7 @@ module _ (le : Entry → Entry → Bool) (e : Entry) where
       go z (inl q) d c = h y (List·Memᴰ·head refl) (sym (d ∙ ap (λ (x : Entry). x .distance) q)) (sym (c ∙ ap (λ (x : Entry). x .cell) q))
       go z (inr m) d c = a .0 z m d c
 
-  pub apart-insert : (l : List Entry) → Apart l → ((z : Entry) → List·Memᴰ z l → Differ e z) → Apart (insert le e l)
+  pub apart-insert : (l : List Entry) → Apart l → FromAll e l → Apart (insert le e l)
   unfolding insert
   apart-insert [] a h = (λ z m. absurd (List·Memᴰ·not-nil m), tt)
   apart-insert (y ∷ l) a h = apart-cond (le e y) y l a h (apart-insert l (a .1) (λ z m. h z (List·Memᴰ·tail m)))
@@ -64,7 +66,7 @@ apart-at (x ∷ r) d (suc i) (suc j) a l m = apart-at r d i j (a .1) (le-of-suc-
 -- ---- a good state
 
 -- an entry is queued
-pub good-queued : (g : RunInput) (e : Entry) (s : State) → Good g s → Waits g (s .field) e → ((z : Entry) → List·Memᴰ z (s .waiting) → Differ e z)
+pub good-queued : (g : RunInput) (e : Entry) (s : State) → Good g s → Waits g (s .field) e → FromAll e (s .waiting)
     → length (s .waiting) < g .room → Good g (queued g e s)
 good-queued g e s G w h l =
     record {
@@ -163,7 +165,7 @@ module _ (g : RunInput) (F : Fair g) (k c : ℕ) (kl : k < g .triangles) (cl : c
     new-waits : Waits g (between .field) new
     new-waits = record { cell-on = cl; triangle-is = kl; number = N .number; far = refl; above = T .met .least }
 
-    new-differs : (z : Entry) → List·Memᴰ z (s .waiting) → Differ new z
+    pub new-differs : FromAll new (s .waiting)
     new-differs z m d e =
         let less = T .less in
         let above : bits (getD (s .field) c nan) ≤ z .distance = rw e (G .waits z m .above) in

@@ -5,11 +5,12 @@
 use Prim.Native.Nat.{ℕ, _≤_, _<_}
 use mathlib.Core.Path.{_≡_}
 use mathlib.Core.Bool.{true, false}
-use mathlib.Core.List.{List, [], _∷_, List·Memᴰ}
+use mathlib.Core.List.{List, List·Memᴰ}
 use lib.ListN.{length, getD}
 use lib.Ieee.{Float, nan, isNan, binary32, toBits}
 use Rattle.float.specs.Arith.{_≺_, fMax}
 use Rattle.queue.specs.declared.Entry.{Entry}
+use Rattle.queue.specs.Order.{Apart}
 use Rattle.run.specs.Run.{RunInput, State, none}
 
 -- the number by which distances are compared, their bit pattern
@@ -42,15 +43,6 @@ pub record Waits (g : RunInput) (field : List Float) (x : Entry) : Type 0 where
   pub number : isNan (g .distance (x .triangle) (x .cell)) ≡ false
   pub far : x .distance ≡ bits (g .distance (x .triangle) (x .cell))
   pub above : bits (getD field (x .cell) nan) ≤ x .distance
-
--- two entries that do not agree in both distance and cell
-abbrev pub Differ : Entry → Entry → Type 0
-Differ x y = x .distance ≡ y .distance → x .cell ≡ y .cell → ⊥
-
--- each differs from all behind it
-abbrev pub Apart : List Entry → Type 0
-Apart [] = Unit {0}
-Apart (x ∷ l) = ((y : Entry) → List·Memᴰ y l → Differ x y) × Apart l
 
 -- ---- a state
 

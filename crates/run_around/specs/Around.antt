@@ -9,6 +9,7 @@ use lib.Ieee.{Float, nan, isNan}
 use Rattle.float.specs.Arith.{if_then_else_}
 use Rattle.float.specs.RootOf.{rootOf}
 use Rattle.lists.specs.Table.{table}
+use Rattle.lists.specs.Turns.{Turn, goes, turns}
 use Rattle.grid.specs.declared.Grid.{Grid}
 use Rattle.grid.specs.declared.Cell.{Cell}
 use Rattle.grid.specs.Axes.{countOn, cellOn, cellBy, onEvery}
@@ -16,7 +17,7 @@ use Rattle.grid.specs.Index.{indexOf, cellAt, total}
 use Rattle.grid.specs.Place.{centreOf}
 use Rattle.mesh.specs.Mesh.{Mesh, cornersAt}
 use Rattle.queue.specs.declared.Entry.{Entry}
-use Rattle.run.specs.Run.{Place, off, at, none}
+use Rattle.run.specs.Run.{State, Place, off, at, none, offerAt}
 use Rattle.run.specs.Input.{distanceFrom}
 use Rattle.run.specs.Steps.{Shift, back, stay, ahead, Step, shiftOn, stepAt, shifted, staysOn, aroundCell}
 use Rattle.run_around.specs.declared.Spot.{Spot}
@@ -78,3 +79,26 @@ pub record Around (g : Grid) (m : Mesh) (e : Entry) (to : List ℕ) (squares : L
   pub squares-long : length squares ≡ 27
   pub leads : (j : ℕ) → j < 27 → placeOf (getD to j 0) ≡ aroundCell g (e .cell) j
   pub near : (j : ℕ) → j < 27 → StepNear g m (e .triangle) (getD to j 0) (getD squares j nan)
+
+-- ---- the offers there
+
+-- triangle k, d away, is offered to a place
+unfoldable pub offerPlace : (Entry → State → Turn State) → ℕ → Place → Float → State → Turn State
+offerPlace also k off d s = goes s
+offerPlace also k (at c) d s = offerAt also k c d s
+
+-- triangle k is offered to where each step leads, one after another
+abbrev pub offerAll : (Entry → State → Turn State) → ℕ → List ℕ → List Float → State → Turn State
+offerAll also k to squares s = turns (λ j. offerPlace also k (placeOf (getD to j 0)) (rootOf (getD squares j nan))) 27 s
+
+-- where the index is one of a cell, it is below the lengths
+pub record Passable (to : ℕ) (q : Float) (field : List Float) (names : List ℕ) : Type 0 where
+  pub below : (to ≡ none → ⊥) → to < length field
+  pub alike : isNan (rootOf q) ≡ isNan q
+  pub even : length names ≡ length field
+
+-- so it is of each of the 27 places
+pub record PlacesFit (to : List ℕ) (squares : List Float) (field : List Float) (names : List ℕ) : Type 0 where
+  pub to-long : length to ≡ 27
+  pub squares-long : length squares ≡ 27
+  pub each : (j : ℕ) → j < 27 → Passable (getD to j 0) (getD squares j nan) field names

@@ -2,22 +2,21 @@
 -- the run of the definitions leads from the one to the other. Definitions only.
 use Prim.Native.Nat.{ℕ, _≤_, _<_}
 use mathlib.Core.Path.{_≡_}
-use mathlib.Core.Logic.{_⊎_}
 use mathlib.Core.Bool.{Bool, true}
-use mathlib.Core.List.{List, List·Memᴰ}
-use lib.ListN.{length, getD}
-use lib.Ieee.{Float, nan}
-use Rattle.float.specs.Arith.{_≺_, fMax}
+use mathlib.Core.List.{List}
+use lib.ListN.{length}
+use lib.Ieee.{Float}
 use Rattle.lists.specs.Turns.{Turn, told}
 use Rattle.grid.specs.declared.Grid.{Grid}
 use Rattle.grid.specs.Index.{total}
 use Rattle.grid.specs.Bounds.{inBounds}
 use Rattle.mesh.specs.Mesh.{Mesh, Sound, vertexCount, trianglesIn}
 use Rattle.queue.specs.declared.Entry.{Entry}
-use Rattle.queue.specs.Order.{orderOf}
+use Rattle.queue.specs.Order.{orderOf, byKeys}
 use Rattle.queue.specs.Queue.{Held, waiting}
 use Rattle.run.specs.Run.{RunInput, State, queue}
 use Rattle.run.specs.Input.{runInput}
+use Rattle.run.specs.Good.{Good}
 use Rattle.run_state.specs.declared.Progress.{Progress}
 
 -- the same, refused by a number
@@ -50,24 +49,20 @@ pub record Known (cells triangles : ℕ) (e : Entry) : Type 0 where
   pub cell-below : e .cell < cells
   pub triangle-below : e .triangle < triangles
 
-abbrev pub AllKnown : Grid → Mesh → List Entry → Type 0
-AllKnown g m w = (e : Entry) → List·Memᴰ e w → Known (total g) (length (trianglesIn m)) e
-
 -- the slices are of the right lengths and hold n waiting entries
-pub record Holds (g : Grid) (m : Mesh) (field : List Float) (names ds cs ts : List ℕ) (n : ℕ) : Type 0 where
+pub record Holds (g : Grid) (field : List Float) (names ds cs ts : List ℕ) (n : ℕ) : Type 0 where
   pub field-long : length field ≡ total g
   pub names-long : length names ≡ total g
-  pub held : Held (orderIn m) ds cs ts n
-  pub known : AllKnown g m (waiting (orderIn m) ds cs ts n)
+  pub held : Held byKeys ds cs ts n
+
+-- and what they hold is a state of the run: what is true of each of them is true of it, whatever the pop limit
+abbrev pub GoodIn : Grid → Mesh → List Float → List ℕ → List ℕ → List ℕ → List ℕ → Progress → Type 0
+GoodIn g m field names ds cs ts p = (any : ℕ) → Good (runInput g m (length ds) any) (stateOf (orderIn m) field names ds cs ts p)
 
 -- the same where a run has ended: nothing waits unless it was refused
-pub record Ran (g : Grid) (m : Mesh) (field : List Float) (names ds cs ts : List ℕ) (p : Progress) : Type 0 where
-  pub holds : Holds g m field names ds cs ts (p .waiting)
+pub record Ran (g : Grid) (field : List Float) (names ds cs ts : List ℕ) (p : Progress) : Type 0 where
+  pub holds : Holds g field names ds cs ts (p .waiting)
   pub over : p .number ≡ 0 → p .waiting ≡ 0
-
--- each cell below f32::MAX names a triangle of the mesh
-abbrev pub Named : Grid → Mesh → List Float → List ℕ → Type 0
-Named g m field names = (c : ℕ) → c < total g → (getD field c nan ≺ fMax) ≡ true → getD names c 0 < length (trianglesIn m)
 
 -- ---- what is told
 
@@ -76,12 +71,18 @@ Named g m field names = (c : ℕ) → c < total g → (getD field c nan ≺ fMax
 -- no turn asks for it.
 pub record Told (g : Grid) (m : Mesh) (turn : RunInput → State → Turn State)
     (field : List Float) (names ds cs ts : List ℕ) (at : Progress) (field′ : List Float) (names′ ds′ cs′ ts′ : List ℕ) (r : Progress) : Type 0 where
-  pub holds : Holds g m field′ names′ ds′ cs′ ts′ (r .waiting)
+  pub holds : Holds g field′ names′ ds′ cs′ ts′ (r .waiting)
   pub is : (any : ℕ) → turn (runInput g m (length ds) any) (stateOf (orderIn m) field names ds cs ts at) ≡ told (r .number) (stateOf (orderIn m) field′ names′ ds′ cs′ ts′ r)
 
--- the same of an entry that is queued, whatever the field and the names are
-pub record Queued (le : Entry → Entry → Bool) (e : Entry) (ds cs ts : List ℕ) (at : Progress) (ds′ cs′ ts′ : List ℕ) (r : Progress) : Type 0 where
-  pub held : Held le ds′ cs′ ts′ (r .waiting)
-  pub from : (x : Entry) → List·Memᴰ x (waiting le ds′ cs′ ts′ (r .waiting)) → (x ≡ e) ⊎ List·Memᴰ x (waiting le ds cs ts (at .waiting))
-  pub is : (g : RunInput) (field : List Float) (names : List ℕ) → g .goesFirst ≡ le → g .room ≡ length ds
-      → queue g e (stateOf le field names ds cs ts at) ≡ told (r .number) (stateOf le field names ds′ cs′ ts′ r)
+-- The same of a turn that looks at nothing of the grid and the mesh: over every input of that room whose entries go by keys. In the run
+-- of a job they go by all three keys, which comes to the same (proofs/Keys.antt).
+pub record ToldByKeys (turn : RunInput → State → Turn State)
+    (field : List Float) (names ds cs ts : List ℕ) (at : Progress) (field′ : List Float) (names′ ds′ cs′ ts′ : List ℕ) (r : Progress) : Type 0 where
+  pub held : Held byKeys ds′ cs′ ts′ (r .waiting)
+  pub is : (g : RunInput) → g .goesFirst ≡ byKeys → g .room ≡ length ds
+      → turn g (stateOf byKeys field names ds cs ts at) ≡ told (r .number) (stateOf byKeys field′ names′ ds′ cs′ ts′ r)
+
+-- and of an entry that is queued, whatever the field and the names are
+abbrev pub Queued : Entry → List ℕ → List ℕ → List ℕ → Progress → List ℕ → List ℕ → List ℕ → Progress → Type 0
+Queued e ds cs ts at ds′ cs′ ts′ r =
+    (field : List Float) (names : List ℕ) → ToldByKeys (λ g. queue g e) field names ds cs ts at field names ds′ cs′ ts′ r
