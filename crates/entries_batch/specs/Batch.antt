@@ -36,7 +36,6 @@ over field names s = record { field = field; names = names; waiting = s .waiting
 -- a cell that is queued in step 2
 pub record Cell (field : List Float) (names : List ℕ) (c : ℕ) (b : Batch) : Type 0 where
   pub few : b .count < 28
-  pub inside : (j : ℕ) → j < b .count → (entryIn b j .cell ≡ c) × (entryIn b j .triangle ≡ getD names c 0) × ((getD field c nan ≺ fMax) ≡ true)
   pub is : (g : RunInput) (s : State) → queueCell g c (over field names s) ≡ queueAll g b (over field names s)
 
 -- ---- the counts

@@ -13,24 +13,13 @@ use Rattle.run_around.specs.Around.{placeOf}
 use Rattle.entries_consider.specs.declared.Verdict.{Verdict}
 use Rattle.entries_batch.specs.Batch.{over}
 
--- triangle k, d away, is offered to a place
-unfoldable pub offerPlace : (Entry → State → Turn State) → ℕ → Place → Float → State → Turn State
-offerPlace also k off d s = goes s
-offerPlace also k (at c) d s = offerAt also k c d s
-
 -- what it comes to, by a verdict
 unfoldable pub verdict : ℕ → Bool → (Entry → State → Turn State) → Entry → State → Turn State
 verdict (suc n) taken also e s = refuses (suc n)
 verdict zero true also e s = also e s
 verdict zero false also e s = goes s
 
--- where the index is one of a cell, it is below the lengths
-pub record Passable (to : ℕ) (q : Float) (field : List Float) (names : List ℕ) : Type 0 where
-  pub below : (to ≡ none → ⊥) → to < length field
-  pub alike : isNan (rootOf q) ≡ isNan q
-  pub even : length names ≡ length field
-
+-- an offer came to a verdict
 pub record Considered (k to : ℕ) (q : Float) (field : List Float) (names : List ℕ) (field′ : List Float) (names′ : List ℕ) (v : Verdict) : Type 0 where
   pub is : (also : Entry → State → Turn State) (s : State)
       → offerPlace also k (placeOf to) (rootOf q) (over field names s) ≡ verdict (v .number) (v .taken) also (record { distance = v .distance; cell = to; triangle = k }) (over field′ names′ s)
-  pub inside : v .taken ≡ true → to ≡ none → ⊥

@@ -23,23 +23,12 @@ abbrev pub countedBy : ℕ → Bool → ℕ
 countedBy n true = n + 1
 countedBy n false = n
 
--- of each of the 27 places where the index is one of a cell, it is below the lengths
-pub record PlacesFit (to : List ℕ) (squares : List Float) (field : List Float) (names : List ℕ) : Type 0 where
-  pub to-long : length to ≡ 27
-  pub squares-long : length squares ≡ 27
-  pub each : (j : ℕ) → j < 27 → Passable (getD to j 0) (getD squares j nan) field names
-
 -- all offers of a pop: the field and the names are changed, and the batch has what is queued
 pub record BatchGathered (k : ℕ) (to : List ℕ) (squares : List Float) (field : List Float) (names : List ℕ) (field′ : List Float) (names′ : List ℕ) (b : Batch) : Type 0 where
   pub few : b .count < 28
-  pub triangle : b .triangle ≡ k
-  pub inside : (j : ℕ) → j < b .count → entryIn b j .cell < length field
-  pub is : (g : RunInput) (s : State)
-      → turns (λ j. offerPlace (queue g) k (placeOf (getD to j 0)) (rootOf (getD squares j nan))) 27 (over field names s) ≡ queueAll g b (over field′ names′ s)
+  pub is : (g : RunInput) (s : State) → offerAll (queue g) k to squares (over field names s) ≡ queueAll g b (over field′ names′ s)
 
 -- the same of the cells around an entry
 pub record PopOffered (g : Grid) (m : Mesh) (e : Entry) (field : List Float) (names : List ℕ) (field′ : List Float) (names′ : List ℕ) (b : Batch) : Type 0 where
   pub few : b .count < 28
-  pub triangle : b .triangle ≡ e .triangle
-  pub inside : (j : ℕ) → j < b .count → entryIn b j .cell < total g
-  pub is : (room any : ℕ) (s : State) → spreadAround (runInput g m room any) e (over field names s) ≡ queueAll (runInput g m room any) b (over field′ names′ s)
+  pub is : (room any : ℕ) (s : State) → let G = keyed (runInput g m room any) in spreadAround G e (over field names s) ≡ queueAll G b (over field′ names′ s)

@@ -1,29 +1,18 @@
 // A batch of entries queued in a lent row of entry records. A part of the port: users call `sdf`.
 use entries_batch::Batch;
-use mesh_topology::Indices;
-use mesh_topology::Topology;
 use queue::Entry;
 use run_state::Progress;
 ghost use mathlib.Core.Path.{_≡_};
-ghost use Prim.Native.Nat.{_^_, _<_};
-ghost use Rattle.queue.specs.Order.{orderOf};
+ghost use Prim.Native.Nat.{_<_};
+ghost use Rattle.queue.specs.Order.{byKeys};
 ghost use Rattle.entries.specs.Row.{HeldRow};
 ghost use Rattle.entries_state.specs.Records.{QueuedAll};
 
 // Queues the entries of a batch one after another, or refuses by 7 where the room is full; and then refuses by the
 // batch's own number.
-pub fn push_all(
-    row: &mut [Entry],
-    at: Progress,
-    b: Batch,
-    topology: Topology,
-    given: Indices,
-    indices: &[u32],
-    vertices: usize,
-) -> Progress
-    requires { let le = orderOf topology given (now indices) vertices in
-        ⌜ (vertices < 2 ^ 32) × HeldRow le (now row) (at .waiting) × (at .number ≡ 0) × (b .count < 28) ⌝ }
-    ensures { λ r. ⌜ QueuedAll (orderOf topology given (now (indices .entry)) vertices) b (now (row .entry)) at (now (row .exit)) r ⌝ }
+pub fn push_all(row: &mut [Entry], at: Progress, b: Batch) -> Progress
+    requires { ⌜ HeldRow byKeys (now row) (at .waiting) × (at .number ≡ 0) × (b .count < 28) ⌝ }
+    ensures { λ r. ⌜ QueuedAll b (now (row .entry)) at (now (row .exit)) r ⌝ }
 {
     let mut reached = at;
     let mut j = 0;
@@ -34,7 +23,7 @@ pub fn push_all(
             break;
         }
         let e = entries_batch::entry_in(b, j);
-        entries_push::push(row, n, e, topology, given, indices, vertices);
+        entries_push::push(row, n, e);
         j += 1;
     }
     entries_state::stopped(reached, b.number)

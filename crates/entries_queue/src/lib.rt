@@ -1,38 +1,24 @@
 // The cells that hold a distance, queued in a lent row of entry records. A part of the port: users call `sdf`.
-use mesh_topology::Indices;
-use mesh_topology::Topology;
 use queue::Entry;
 use run_state::Progress;
 ghost use mathlib.Core.Path.{_≡_};
-ghost use Prim.Native.Nat.{_^_, _≤_, _<_};
+ghost use Prim.Native.Nat.{_≤_};
 ghost use lib.ListN.{length};
-ghost use Rattle.queue.specs.Order.{orderOf};
+ghost use Rattle.queue.specs.Order.{byKeys};
 ghost use Rattle.entries.specs.Row.{HeldRow};
-ghost use Rattle.entries_state.specs.Records.{QueuedCells};
+ghost use Rattle.entries_state.specs.Records.{QueuedCellsRow};
 
 // Step 2 of the run: queues the cells that hold a distance, on top of what waits.
-pub fn queue_cells(
-    field: &[f32],
-    names: &[u32],
-    row: &mut [Entry],
-    at: Progress,
-    topology: Topology,
-    given: Indices,
-    indices: &[u32],
-    vertices: usize,
-) -> Progress
-    requires { let le = orderOf topology given (now indices) vertices in
-        ⌜ (vertices < 2 ^ 32) × HeldRow le (now row) (at .waiting) × (at .number ≡ 0) ×
-        (length (now names) ≡ length (now field)) × (length (now field) ≤ 1048576) ⌝ }
-    ensures { λ r.
-        let le = orderOf topology given (now (indices .entry)) vertices in
-        ⌜ QueuedCells le (now (field .entry)) (now (names .entry)) (now (row .entry)) at (now (row .exit)) r ⌝ }
+pub fn queue_cells(field: &[f32], names: &[u32], row: &mut [Entry], at: Progress) -> Progress
+    requires { ⌜ HeldRow byKeys (now row) (at .waiting) × (at .number ≡ 0) × (length (now names) ≡ length (now field)) ×
+        (length (now field) ≤ 1048576) ⌝ }
+    ensures { λ r. ⌜ QueuedCellsRow (now (field .entry)) (now (names .entry)) (now (row .entry)) at (now (row .exit)) r ⌝ }
 {
     let mut reached = at;
     let mut c = 0;
     while c < field.len() {
         let b = entries_batch::cell_batch(field, names, c);
-        reached = entries_push_all::push_all(row, reached, b, topology, given, indices, vertices);
+        reached = entries_push_all::push_all(row, reached, b);
         if reached.number != 0 {
             break;
         }

@@ -11,10 +11,10 @@ use Rattle.grid.specs.declared.Grid.{Grid}
 use Rattle.grid.specs.Index.{total}
 use Rattle.mesh.specs.Mesh.{Mesh, trianglesIn}
 use Rattle.queue.specs.declared.Entry.{Entry}
+use Rattle.queue.specs.Order.{byKeys}
 use Rattle.run.specs.Run.{none}
 use Rattle.run_seed_cells.specs.Parts.{seedState, overTriangle}
 use Rattle.run_state.specs.declared.Progress.{Progress}
-use Rattle.run_state.specs.Told.{orderIn}
 use Rattle.entries.specs.Row.{HeldRow}
 
 -- nothing has waited or been taken, and seeding came to a number
@@ -26,4 +26,4 @@ pub record Seeded (g : Grid) (m : Mesh) (number : ℕ) (field : List Float) (nam
   pub seeds : turns (overTriangle g m) (length (trianglesIn m)) (seedState (replicate (total g) fMax) (replicate (total g) none)) ≡ told number (seedState field names)
   pub field-long : length field ≡ total g
   pub names-long : length names ≡ total g
-  pub empty : HeldRow (orderIn m) row 0
+  pub empty : HeldRow byKeys row 0

@@ -54,8 +54,7 @@ pub fn run_row(
     if at.number != 0 {
         return at;
     }
-    let count = vertices.len() / 3;
-    let queued = entries_queue::queue_cells(field, names, row, at, topology, given, indices, count);
+    let queued = entries_queue::queue_cells(field, names, row, at);
     if queued.number != 0 {
         return queued;
     }

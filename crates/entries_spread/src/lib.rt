@@ -8,8 +8,8 @@ use terms::Terms;
 ghost use mathlib.Core.Path.{_≡_};
 ghost use Rattle.mesh.specs.Mesh.{meshOf};
 ghost use Rattle.run.specs.Run.{spreading};
-ghost use Rattle.run_state.specs.Told.{Ready};
-ghost use Rattle.entries_state.specs.Records.{HoldsRow, ToldRow};
+ghost use Rattle.run_state.specs.Told.{Fit};
+ghost use Rattle.entries_state.specs.Records.{HoldsRow, GoodRow, ToldRow};
 
 // Step 3 of the run: spreads what waits, until nothing does, with at most as many pops as the limit.
 pub fn spread(
@@ -25,8 +25,8 @@ pub fn spread(
     terms: Terms,
 ) -> Progress
     requires { let m = meshOf (now vertices) topology given (now indices) in
-        ⌜ Ready grid m × HoldsRow grid m (now field) (now names) (now row) (at .waiting) × (at .number ≡ 0) ×
-        (at .pops ≡ 0) ⌝ }
+        ⌜ Fit grid m × HoldsRow grid (now field) (now names) (now row) (at .waiting) ×
+        GoodRow grid m (now field) (now names) (now row) at × (at .number ≡ 0) × (at .pops ≡ 0) ⌝ }
     ensures { λ r.
         let m = meshOf (now (vertices .entry)) topology given (now (indices .entry)) in
         ⌜ ToldRow grid m (λ g. spreading g (terms .limit)) (now (field .entry)) (now (names .entry)) (now (row .entry)) at
@@ -52,7 +52,7 @@ pub fn spread(
             e,
             terms,
         );
-        run = entries_push_all::push_all(row, run, b, topology, given, indices, count);
+        run = entries_push_all::push_all(row, run, b);
         if run.number != 0 {
             break;
         }

@@ -10,8 +10,8 @@ ghost use Rattle.lists.specs.Turns.{andThen};
 ghost use Rattle.mesh.specs.Mesh.{meshOf};
 ghost use Rattle.run.specs.Run.{queueing, spreading, run};
 ghost use Rattle.run.specs.Input.{runInput};
-ghost use Rattle.run_state.specs.Told.{Ready, Fit, Holds, Named};
-ghost use Rattle.run_field.specs.Running.{Leaves, Fresh, seeded};
+ghost use Rattle.run_state.specs.Told.{Fit, Holds, GoodIn};
+ghost use Rattle.run_field.specs.Running.{Leaves, Fresh, before, seeded};
 
 // Steps 2 and 3, over a field that is seeded and an empty queue.
 fn spread_seeds(
@@ -27,10 +27,10 @@ fn spread_seeds(
     triangles: &mut [u32],
     terms: Terms,
 ) -> Progress
-    requires { ⌜ Ready grid (meshOf (now vertices) topology given (now indices)) ⌝ }
+    requires { ⌜ Fit grid (meshOf (now vertices) topology given (now indices)) ⌝ }
+    requires { ⌜ Holds grid (now field) (now names) (now distances) (now cells) (now triangles) 0 ⌝ }
     requires { let m = meshOf (now vertices) topology given (now indices) in
-        ⌜ Holds grid m (now field) (now names) (now distances) (now cells) (now triangles) 0 ⌝ }
-    requires { ⌜ Named grid (meshOf (now vertices) topology given (now indices)) (now field) (now names) ⌝ }
+        ⌜ GoodIn grid m (now field) (now names) (now distances) (now cells) (now triangles) before ⌝ }
     ensures { λ r.
         let m = meshOf (now (vertices .entry)) topology given (now (indices .entry)) in
         let input = runInput grid m (length (now (distances .entry))) in
@@ -44,19 +44,7 @@ fn spread_seeds(
         pops: 0,
         peak: 0,
     };
-    let queued = run_queue::queue_cells(
-        grid,
-        vertices,
-        topology,
-        given,
-        indices,
-        field,
-        names,
-        distances,
-        cells,
-        triangles,
-        begun,
-    );
+    let queued = run_queue::queue_cells(field, names, distances, cells, triangles, begun);
     if queued.number != 0 {
         return queued;
     }
@@ -91,8 +79,7 @@ pub fn run_field(
     terms: Terms,
 ) -> Progress
     requires { ⌜ Fit grid (meshOf (now vertices) topology given (now indices)) ⌝ }
-    requires { let m = meshOf (now vertices) topology given (now indices) in
-        ⌜ Fresh grid m (now field) (now names) (now distances) (now cells) (now triangles) ⌝ }
+    requires { ⌜ Fresh grid (now field) (now names) (now distances) (now cells) (now triangles) ⌝ }
     ensures { λ r.
         let m = meshOf (now (vertices .entry)) topology given (now (indices .entry)) in
         ⌜ Leaves grid m (λ any. run (runInput grid m (length (now (distances .entry))) (terms .limit)))

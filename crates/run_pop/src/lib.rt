@@ -13,7 +13,7 @@ ghost use Rattle.mesh.specs.Mesh.{meshOf};
 ghost use Rattle.run.specs.Run.{takeFirst};
 ghost use Rattle.run.specs.Steps as Steps;
 ghost use Rattle.run_around.specs.Around.{codes};
-ghost use Rattle.run_state.specs.Told.{Ready, Holds, Told};
+ghost use Rattle.run_state.specs.Told.{Fit, Holds, GoodIn, Told};
 
 // Takes the first of the waiting entries, and spreads it.
 pub fn pop(
@@ -30,9 +30,10 @@ pub fn pop(
     triangles: &mut [u32],
     at: Progress,
 ) -> Progress
-    requires { ⌜ Ready grid (meshOf (now vertices) topology given (now indices)) ⌝ }
+    requires { ⌜ Fit grid (meshOf (now vertices) topology given (now indices)) ⌝ }
+    requires { ⌜ Holds grid (now field) (now names) (now distances) (now cells) (now triangles) (at .waiting) ⌝ }
     requires { let m = meshOf (now vertices) topology given (now indices) in
-        ⌜ Holds grid m (now field) (now names) (now distances) (now cells) (now triangles) (at .waiting) ⌝ }
+        ⌜ GoodIn grid m (now field) (now names) (now distances) (now cells) (now triangles) at ⌝ }
     requires { ⌜ (now steps ≡ codes Steps.steps) × (0 < at .waiting) × (at .pops < 4294967295) ⌝ }
     ensures { λ r.
         let m = meshOf (now (vertices .entry)) topology given (now (indices .entry)) in
@@ -73,18 +74,13 @@ pub fn pop(
         peak: at.peak,
     };
     run_offer::offer_around(
-        grid,
-        vertices,
-        topology,
-        given,
-        indices,
         field,
         names,
         distances,
         cells,
         triangles,
         taken,
-        e,
+        e.triangle,
         &to,
         &squares,
     )

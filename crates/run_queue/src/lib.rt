@@ -1,18 +1,14 @@
 // Queueing: each cell below f32::MAX becomes one entry, by cell index (document 01, "The run", 2). A part of the
 // port: users call `sdf`.
-use grid::Grid;
-use mesh_topology::Indices;
-use mesh_topology::Topology;
 use queue::Entry;
 use run_state::Progress;
 ghost use mathlib.Core.Path.{_≡_};
-ghost use Prim.Native.Nat.{_^_, _<_, max};
+ghost use Prim.Native.Nat.{_≤_, _<_, max};
 ghost use lib.ListN.{length};
-ghost use Rattle.mesh.specs.Mesh.{meshOf};
-ghost use Rattle.queue.specs.Order.{orderOf};
+ghost use Rattle.queue.specs.Order.{byKeys};
 ghost use Rattle.queue.specs.Queue.{Held};
-ghost use Rattle.run.specs.Run.{queueCell, queueing};
-ghost use Rattle.run_state.specs.Told.{Ready, Holds, Told, Queued, Named};
+ghost use Rattle.run.specs.Run.{queueCell};
+ghost use Rattle.run_state.specs.Told.{ToldByKeys, Queued, QueuedCells};
 
 fn higher(a: usize, b: usize) -> usize
     ensures { λ r. ⌜ r ≡ max a b ⌝ }
@@ -27,33 +23,17 @@ pub fn enqueue(
     triangles: &mut [u32],
     at: Progress,
     e: Entry,
-    topology: Topology,
-    given: Indices,
-    indices: &[u32],
-    vertices: usize,
 ) -> Progress
-    requires { ⌜ vertices < 2 ^ 32 ⌝ }
-    requires { ⌜ Held (orderOf topology given (now indices) vertices) (now distances) (now cells) (now triangles) (at .waiting) ⌝ }
+    requires { ⌜ Held byKeys (now distances) (now cells) (now triangles) (at .waiting) ⌝ }
     ensures { λ r.
-        let le = orderOf topology given (now (indices .entry)) vertices in
-        ⌜ Queued le e (now (distances .entry)) (now (cells .entry)) (now (triangles .entry)) at
+        ⌜ Queued e (now (distances .entry)) (now (cells .entry)) (now (triangles .entry)) at
         (now (distances .exit)) (now (cells .exit)) (now (triangles .exit)) r ⌝ }
 {
     let n = at.waiting;
     if distances.len() <= n {
         return at.refused(7);
     }
-    queue_push::push(
-        distances,
-        cells,
-        triangles,
-        n,
-        e,
-        topology,
-        given,
-        indices,
-        vertices,
-    );
+    queue_push::push(distances, cells, triangles, n, e);
     let peak = higher(at.peak, n + 1);
     Progress {
         number: 0,
@@ -65,11 +45,6 @@ pub fn enqueue(
 
 // Queues the entry of cell c, where the cell is below f32::MAX.
 fn queue_cell(
-    grid: Grid,
-    vertices: &[f32],
-    topology: Topology,
-    given: Indices,
-    indices: &[u32],
     field: &[f32],
     names: &[u32],
     distances: &mut [u32],
@@ -78,14 +53,10 @@ fn queue_cell(
     at: Progress,
     c: usize,
 ) -> Progress
-    requires { ⌜ Ready grid (meshOf (now vertices) topology given (now indices)) ⌝ }
-    requires { let m = meshOf (now vertices) topology given (now indices) in
-        ⌜ Holds grid m (now field) (now names) (now distances) (now cells) (now triangles) (at .waiting) ⌝ }
-    requires { ⌜ Named grid (meshOf (now vertices) topology given (now indices)) (now field) (now names) ⌝ }
-    requires { ⌜ (at .number ≡ 0) × (c < length (now field)) ⌝ }
+    requires { ⌜ Held byKeys (now distances) (now cells) (now triangles) (at .waiting) ⌝ }
+    requires { ⌜ (at .number ≡ 0) × (c < length (now field)) × (length (now names) ≡ length (now field)) × (c < 1048576) ⌝ }
     ensures { λ r.
-        let m = meshOf (now (vertices .entry)) topology given (now (indices .entry)) in
-        ⌜ Told grid m (λ g. queueCell g c) (now (field .entry)) (now (names .entry)) (now (distances .entry))
+        ⌜ ToldByKeys (λ g. queueCell g c) (now (field .entry)) (now (names .entry)) (now (distances .entry))
         (now (cells .entry)) (now (triangles .entry)) at (now (field .entry)) (now (names .entry))
         (now (distances .exit)) (now (cells .exit)) (now (triangles .exit)) r ⌝ }
 {
@@ -99,28 +70,13 @@ fn queue_cell(
             cell: cell,
             triangle: triangle,
         };
-        return enqueue(
-            distances,
-            cells,
-            triangles,
-            at,
-            e,
-            topology,
-            given,
-            indices,
-            vertices.len() / 3,
-        );
+        return enqueue(distances, cells, triangles, at, e);
     }
     at
 }
 
 // Step 2 of the run: queues the cells that hold a distance, on top of what waits.
 pub fn queue_cells(
-    grid: Grid,
-    vertices: &[f32],
-    topology: Topology,
-    given: Indices,
-    indices: &[u32],
     field: &[f32],
     names: &[u32],
     distances: &mut [u32],
@@ -128,34 +84,16 @@ pub fn queue_cells(
     triangles: &mut [u32],
     at: Progress,
 ) -> Progress
-    requires { ⌜ Ready grid (meshOf (now vertices) topology given (now indices)) ⌝ }
-    requires { let m = meshOf (now vertices) topology given (now indices) in
-        ⌜ Holds grid m (now field) (now names) (now distances) (now cells) (now triangles) (at .waiting) ⌝ }
-    requires { ⌜ Named grid (meshOf (now vertices) topology given (now indices)) (now field) (now names) ⌝ }
-    requires { ⌜ at .number ≡ 0 ⌝ }
+    requires { ⌜ Held byKeys (now distances) (now cells) (now triangles) (at .waiting) ⌝ }
+    requires { ⌜ (at .number ≡ 0) × (length (now names) ≡ length (now field)) × (length (now field) ≤ 1048576) ⌝ }
     ensures { λ r.
-        let m = meshOf (now (vertices .entry)) topology given (now (indices .entry)) in
-        ⌜ Told grid m queueing (now (field .entry)) (now (names .entry)) (now (distances .entry)) (now (cells .entry))
-        (now (triangles .entry)) at (now (field .entry)) (now (names .entry)) (now (distances .exit))
-        (now (cells .exit)) (now (triangles .exit)) r ⌝ }
+        ⌜ QueuedCells (now (field .entry)) (now (names .entry)) (now (distances .entry)) (now (cells .entry))
+        (now (triangles .entry)) at (now (distances .exit)) (now (cells .exit)) (now (triangles .exit)) r ⌝ }
 {
     let mut reached = at;
     let mut c = 0;
     while c < field.len() {
-        reached = queue_cell(
-            grid,
-            vertices,
-            topology,
-            given,
-            indices,
-            field,
-            names,
-            distances,
-            cells,
-            triangles,
-            reached,
-            c,
-        );
+        reached = queue_cell(field, names, distances, cells, triangles, reached, c);
         if reached.number != 0 {
             return reached;
         }

@@ -8,7 +8,7 @@ use terms::Terms;
 ghost use mathlib.Core.Path.{_≡_};
 ghost use Rattle.mesh.specs.Mesh.{meshOf};
 ghost use Rattle.run.specs.Run.{spreading};
-ghost use Rattle.run_state.specs.Told.{Ready, Holds, Told};
+ghost use Rattle.run_state.specs.Told.{Fit, Holds, GoodIn, Told};
 
 // Step 3 of the run: spreads what waits, until nothing does, with at most as many pops as the limit.
 pub fn spread(
@@ -25,9 +25,10 @@ pub fn spread(
     at: Progress,
     terms: Terms,
 ) -> Progress
-    requires { ⌜ Ready grid (meshOf (now vertices) topology given (now indices)) ⌝ }
+    requires { ⌜ Fit grid (meshOf (now vertices) topology given (now indices)) ⌝ }
+    requires { ⌜ Holds grid (now field) (now names) (now distances) (now cells) (now triangles) (at .waiting) ⌝ }
     requires { let m = meshOf (now vertices) topology given (now indices) in
-        ⌜ Holds grid m (now field) (now names) (now distances) (now cells) (now triangles) (at .waiting) ⌝ }
+        ⌜ GoodIn grid m (now field) (now names) (now distances) (now cells) (now triangles) at ⌝ }
     requires { ⌜ (at .number ≡ 0) × (at .pops ≡ 0) ⌝ }
     ensures { λ r.
         let m = meshOf (now (vertices .entry)) topology given (now (indices .entry)) in

@@ -6,7 +6,7 @@ use mathlib.Core.Bool.{Bool, true}
 use mathlib.Core.List.{List}
 use lib.ListN.{length}
 use lib.Ieee.{Float}
-use Rattle.lists.specs.Turns.{Turn, told}
+use Rattle.lists.specs.Turns.{Turn, turns, told}
 use Rattle.grid.specs.declared.Grid.{Grid}
 use Rattle.grid.specs.Index.{total}
 use Rattle.grid.specs.Bounds.{inBounds}
@@ -14,7 +14,7 @@ use Rattle.mesh.specs.Mesh.{Mesh, Sound, vertexCount, trianglesIn}
 use Rattle.queue.specs.declared.Entry.{Entry}
 use Rattle.queue.specs.Order.{orderOf, byKeys}
 use Rattle.queue.specs.Queue.{Held, waiting}
-use Rattle.run.specs.Run.{RunInput, State, queue}
+use Rattle.run.specs.Run.{RunInput, State, queue, queueCell}
 use Rattle.run.specs.Input.{runInput}
 use Rattle.run.specs.Good.{Good}
 use Rattle.run_state.specs.declared.Progress.{Progress}
@@ -86,3 +86,8 @@ pub record ToldByKeys (turn : RunInput → State → Turn State)
 abbrev pub Queued : Entry → List ℕ → List ℕ → List ℕ → Progress → List ℕ → List ℕ → List ℕ → Progress → Type 0
 Queued e ds cs ts at ds′ cs′ ts′ r =
     (field : List Float) (names : List ℕ) → ToldByKeys (λ g. queue g e) field names ds cs ts at field names ds′ cs′ ts′ r
+
+-- and of all cells, which leave the field and the names as they are
+abbrev pub QueuedCells : List Float → List ℕ → List ℕ → List ℕ → List ℕ → Progress → List ℕ → List ℕ → List ℕ → Progress → Type 0
+QueuedCells field names ds cs ts at ds′ cs′ ts′ r =
+    ToldByKeys (λ g. turns (queueCell g) (length field)) field names ds cs ts at field names ds′ cs′ ts′ r
