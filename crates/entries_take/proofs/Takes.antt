@@ -1,4 +1,4 @@
--- The heap's laws of crate `queue` at a row: what take leaves. Assumes nothing.
+-- The heap's laws of crate `queue` at a row: what take leaves, and that by keys it leaves what it would by the order with the triples. Assumes nothing.
 use Prim.Native.Nat.{ℕ, zero, suc, _-_, _<_}
 use native.Mathlib.Omega.{arith}
 use mathlib.Core.Path.{_≡_, refl, sym, ap, _∙_}
@@ -6,12 +6,15 @@ use mathlib.Core.Bool.{Bool}
 use mathlib.Core.List.{List, _∷_}
 use lib.ListN.{length, getD, set}
 use lib.Seq.{set-set}
+use Rattle.mesh_topology.specs.declared.Triangle.{Triangle}
 use Rattle.queue.specs.declared.Entry.{Entry}
 use Rattle.queue.specs.InOrder.{Total, inOrder}
 use Rattle.queue.specs.Heap.{Keeps, Gap, Out}
+use Rattle.queue.specs.Order.{goesFirst, byKeys, Apart}
 use Rattle.queue.specs.Queue.{blank}
 use Rattle.queue.proofs.Moves.{lowered, taken-some, taken-none}
-use Rattle.entries.specs.Row.{HeldRow, TakenRow}
+use Rattle.queue.proofs.Keys.{agree-back, by-keys, taken-by}
+use Rattle.entries.specs.Row.{rowDistances, rowCells, rowTriangles, waitingIn, HeldRow, TakenRow}
 use Rattle.entries.proofs.Projections.{row-entries, held-of, of-held}
 use Rattle.entries_sift.specs.Sift.{Sunk}
 use Rattle.entries.specs.Kept.{keptOf}
@@ -42,3 +45,8 @@ module _ {le : Entry → Entry → Bool} (𝓞 : Total le) (row row′ : List En
           let m0 : 0 < n - 1 = omega (arith, z) in
           taken-some 𝓞 blank (getD row 0 blank) (keptOf (getD row (n - 1) blank) (n - 1)) row (set row (n - 1) blank) row′ n kept n0 m0 long refl
           (ap (keptOf (getD row (n - 1) blank)) z) refl (s .sifted m0)
+
+-- what is taken by keys is taken by the order with the triples, whatever these are, where those that wait are apart
+pub by-triples : (corners : ℕ → Triangle) (r : Entry) (row row′ : List Entry) (n : ℕ) → Apart (waitingIn (goesFirst corners) row n) → TakenRow byKeys r row row′ n → TakenRow (goesFirst corners) r row row′ n
+by-triples corners r row row′ n =
+    taken-by (agree-back (by-keys corners)) r (rowDistances row) (rowCells row) (rowTriangles row) (rowDistances row′) (rowCells row′) (rowTriangles row′) n

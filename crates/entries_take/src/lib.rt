@@ -17,8 +17,8 @@ pub fn take(
     indices: &[u32],
     vertices: usize,
 ) -> Entry
-    requires { ⌜ HeldRow byKeys (now row) n × (0 < n) ⌝ }
-    requires { ⌜ Apart (waitingIn (orderOf topology given (now indices) vertices) (now row) n) ⌝ }
+    requires { let le = orderOf topology given (now indices) vertices in
+        ⌜ HeldRow byKeys (now row) n × (0 < n) × Apart (waitingIn le (now row) n) ⌝ }
     ensures { λ r. ⌜ TakenRow (orderOf topology given (now (indices .entry)) vertices) r (now (row .entry)) (now (row .exit)) n ⌝ }
 {
     let m = n - 1;

@@ -1,20 +1,21 @@
 -- `entries_take::take` meets its contract: a walk of its MIR, by hand. The first and the last are read, the last's room is cleared, and the gap that the first
--- leaves is filled from below. Assumes nothing.
-use Rattle.walking.proofs.Prelude.{_≡_, refl, _∙_, ℕ, _-_, _^_, _<_, arith, Bool, List, [], _∷_, map, length, getD, put, length-set, Is, URA, Val, SProp, ent, via, Memory, Routine, Heap, Env, WpFn, Tables, Atoms, Fun, givenOf, tables, tablesOf, Given, Sq, prop, runs, atRet, _$_, !, by, bin, WpFn-mono, u32, Meets, tripleOf, Triple, entered, cited, needs, walkOf, Walks, ends-at, walked, walk-meets, onEntry}
+-- leaves is filled from below, by keys. Those that wait are apart, so by the order with the triples the same is taken. Assumes nothing.
+use Rattle.walking.proofs.Prelude.{_≡_, refl, _∙_, ℕ, _-_, _<_, arith, List, [], _∷_, map, length, getD, put, length-set, Is, URA, Val, SProp, ent, via, Memory, Routine, Heap, Env, WpFn, Tables, Atoms, Fun, givenOf, tables, tablesOf, Given, Sq, prop, runs, atRet, _$_, !, by, bin, WpFn-mono, u32, Meets, tripleOf, Triple, entered, cited, needs, walkOf, Walks, ends-at, walked, walk-meets, onEntry}
 use Rattle.walking.proofs.Prelude.{empty, holds, Blocks, envOf, Locals, opd, copies, puts, returns-at, lends-on, enters, Slice, taken, holding, Valued, Arg, value, shown, lent, slices, lefts, fitting, after, bound-to, words, asking, asking-nothing, calls, calls-is, own-bound, typed, from-entry, to-exit, points, points-first, reads-at, writes-at, a-usize, a-unit, Sort, a-value, to-look, to-write, stays, spells, tells, all-go}
+use Rattle.mesh_topology.specs.declared.Triangle.{Triangle}
+use Rattle.mesh_topology.specs.Topology.{trianglesOf, kth}
 use Rattle.queue.specs.declared.Entry.{Entry}
-use Rattle.queue.specs.Order.{orderOf}
+use Rattle.queue.specs.Order.{goesFirst, byKeys, Apart}
 use Rattle.queue.specs.Queue.{blank}
 use Rattle.queue.specs.Heap.{Gap}
-use Rattle.queue.specs.InOrder.{Total}
 use Rattle.queue.proofs.Entry as E
-use Rattle.queue.proofs.Order.{order-of}
-use Rattle.entries.specs.Row.{HeldRow}
+use Rattle.queue.proofs.Order.{keys-order}
+use Rattle.entries.specs.Row.{waitingIn, HeldRow}
 use Rattle.entries.specs.Kept.{keptOf}
 use Rattle.entries.proofs.ByValue.{a-topology, a-given, an-entry}
 use Rattle.entries.proofs.Projections.{held-in}
 use Rattle.entries_sift.specs.Sift.{Sunk}
-use Rattle.entries_take.proofs.Takes.{take-starts, take-ends}
+use Rattle.entries_take.proofs.Takes.{take-starts, take-ends, by-triples}
 use Rattle.entries.proofs.none as none
 use Rattle.entries.proofs.kept as kept
 use Rattle.entries_sift.proofs.sift_down as sift-down
@@ -37,11 +38,9 @@ module _ {M : Type 1} (𝓤 : URA M) (H : Heap 𝓤) (A : Atoms 𝓤) (W : Given
     abbrev Post : Val → SProp 𝓤
     Post = walkOf 𝓤 H A f.ended (stays ss) (f.clauses 𝓤 H A mem run) .post (own-bound ps)
 
-    abbrev order : Entry → Entry → Bool
-    order = orderOf (topology .it) (given .it) (indices .ref .now) (vertices .it)
-
-    𝓞 : Total order
-    𝓞 = order-of (topology .it) (given .it) (indices .ref .now) (vertices .it)
+    -- the triples, by which the promise orders too
+    abbrev corners : ℕ → Triangle
+    corners = kth (trianglesOf (topology .it) (given .it) (indices .ref .now) (vertices .it))
 
     -- the number that is left, and the row without its last
     abbrev m : ℕ
@@ -67,27 +66,27 @@ module _ {M : Type 1} (𝓤 : URA M) (H : Heap 𝓤) (A : Atoms 𝓤) (W : Given
     to-kept last = value _ last ∷ value _ left ∷ []
 
     abbrev to-sift : Valued (an-entry W) → List (Arg 𝓤 H A)
-    to-sift e = lent cleared ∷ value _ left ∷ value _ e ∷ value _ topology ∷ value _ given ∷ shown indices ∷ value _ vertices ∷ []
+    to-sift e = lent cleared ∷ value _ left ∷ value _ e ∷ []
 
     abbrev Pre : Type 0
-    Pre = (vertices .it < 2 ^ 32) × HeldRow order (row .ref .now) (n .it) × (0 < n .it)
+    Pre = HeldRow byKeys (row .ref .now) (n .it) × (0 < n .it) × Apart (waitingIn (goesFirst corners) (row .ref .now) (n .it))
 
     module _ (pre : Pre) (bs : Blocks (f.Code.function .locals)) where
       abbrev En : Env 𝓤 H
       En = envOf 𝓤 H (f.Code.function .locals) bs
 
       first-in : 0 < length (row .ref .now)
-      first-in = omega (arith, pre .2, held-in (row .ref .now) (n .it) (pre .1))
+      first-in = omega (arith, pre .1, held-in (row .ref .now) (n .it) (pre .0))
 
       last-in : m < length (row .ref .now)
-      last-in = omega (arith, pre .2, held-in (row .ref .now) (n .it) (pre .1))
+      last-in = omega (arith, pre .1, held-in (row .ref .now) (n .it) (pre .0))
 
-      asked : (vertices .it < 2 ^ 32) × (m < length (cleared .ref .now)) × Gap order blank m (cleared .ref .now) 0
-      asked = (pre .0, omega (arith, last-in, length-set (row .ref .now) m blank), take-starts 𝓞 (row .ref .now) (row .ref .now) (n .it) (pre .1) (pre .2))
+      asked : (m < length (cleared .ref .now)) × Gap byKeys blank m (cleared .ref .now) 0
+      asked = (omega (arith, last-in, length-set (row .ref .now) m blank), take-starts keys-order (row .ref .now) (row .ref .now) (n .it) (pre .0) (pre .1))
 
       goes : Sq W (Locals 𝓤 H En (empty ∷ map holds (words ps)) ∷ slices ps []) (runs (𝓣 .C) (𝓣 .Λ) En f.Code.Mir.t-1 (atRet En Post))
       goes =
-          puts ! (bin ! (opd ! refl) (opd ! refl) (pre .2)) tt (tt, record { fits = left .is .1 }) $
+          puts ! (bin ! (opd ! refl) (opd ! refl) (pre .1)) tt (tt, record { fits = left .is .1 }) $
           -- the first and the last are read
           points-first ! (an-entry W) row refl (tt, refl) $ reads-at ! (an-entry W) row 0 blank first-in refl refl (tt, refl) (λ first-is. copies ! refl (tt, refl) $
           points ! (an-entry W) row m last-in refl tt refl refl (tt, refl) (tt, refl) $ reads-at ! (an-entry W) row m blank last-in refl refl (tt, refl) (λ last-is. copies ! refl (tt, refl) $
@@ -97,7 +96,7 @@ module _ {M : Type 1} (𝓤 : URA M) (H : Heap 𝓤) (A : Atoms 𝓤) (W : Given
           points ! (an-entry W) row m last-in refl tt refl refl (tt, refl) (tt, refl) $ writes-at ! (an-entry W) row m (record { it = blank; is = none-is }) last-in refl refl (λ Δ. opd ! refl) $
           -- the row is lent again
           lends-on ! refl refl refl tt tt tt tt $
-          calls ! 𝓣 (to-sift (gap-filler e-is)) (a-unit W) (λ r zs. Sunk order (keptOf the-last m) (cleared .ref .now) (zs .0) m) (asking (to-sift (gap-filler e-is)) _ asked (λ l. met .2 (bound-to (to-sift (gap-filler e-is)) l))) refl refl (tt, refl) (λ _ us l sunk.
+          calls ! 𝓣 (to-sift (gap-filler e-is)) (a-unit W) (λ r zs. Sunk byKeys (keptOf the-last m) (cleared .ref .now) (zs .0) m) (asking (to-sift (gap-filler e-is)) _ asked (λ l. met .2 (bound-to (to-sift (gap-filler e-is)) l))) refl refl (tt, refl) (λ _ us l sunk.
           copies ! refl (tt, refl) $ returns-at ! Post refl refl tt $ leaves (us .0) (l .0 ∙ length-set (row .ref .now) m blank) first-is sunk)))))
         where
           last : Is E.the-row the-last (an-entry W .val the-last ∷ []) → Valued (an-entry W)
@@ -106,10 +105,10 @@ module _ {M : Type 1} (𝓤 : URA M) (H : Heap 𝓤) (A : Atoms 𝓤) (W : Given
           gap-filler : Is E.the-row (keptOf the-last m) (an-entry W .val (keptOf the-last m) ∷ []) → Valued (an-entry W)
           gap-filler is = record { it = keptOf the-last m; is = is }
 
-          leaves : (us : List Entry) (long : length us ≡ length (row .ref .now)) → Is E.the-row the-first (an-entry W .val the-first ∷ []) → Sunk order (keptOf the-last m) (cleared .ref .now) us m
+          leaves : (us : List Entry) (long : length us ≡ length (row .ref .now)) → Is E.the-row the-first (an-entry W .val the-first ∷ []) → Sunk byKeys (keptOf the-last m) (cleared .ref .now) us m
               → Sq W (slices (after ps (us, tt) (long, tt)) []) (prop (Post (an-entry W .val the-first)))
           leaves us long is sunk =
-              by ! (via 𝓤 _ (to-exit 𝓤 H A W (after ps (us, tt) (long, tt)) (an-entry W) (record { it = the-first; is = is }) _ (take-ends 𝓞 (row .ref .now) us (n .it) (pre .1) (pre .2) long sunk))
+              by ! (via 𝓤 _ (to-exit 𝓤 H A W (after ps (us, tt) (long, tt)) (an-entry W) (record { it = the-first; is = is }) _ (by-triples corners the-first (row .ref .now) us (n .it) (pre .2) (take-ends keys-order (row .ref .now) us (n .it) (pre .0) (pre .1) long sunk)))
               (ends-at 𝓤 H A f.ended (stays ss) (f.clauses 𝓤 H A mem run) W (own-bound ps) _ the-first (lefts ps (us, tt)) (fitting ps (us, tt) (long, tt))))
 
     walk : Pre → ent 𝓤 (onEntry 𝓤 H A f.signature (own-bound ps .0 .0) (own-bound ps .0 .1) (own-bound ps .0 .3) (own-bound ps .0 .4)) (WpFn 𝓤 H (𝓣 .C) (𝓣 .Λ) f.Code.function (words ps) Post)
