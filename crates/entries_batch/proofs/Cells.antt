@@ -30,7 +30,6 @@ module _ (field : List Float) (names : List ℕ) (c : ℕ) (b : Batch) (z : b .n
   unfolding queueCell turns andThen stopAt
   cell-none t n = record {
     few = omega (arith, n);
-    inside = λ j w. absurd (omega (arith, w, n));
     is = λ g s.
         ap (λ (y : Bool). if y then queue g (entry (getD field c nan) c (getD names c 0)) (over field names s) else goes (over field names s)) t
         ∙ λ i. andThen (turns (λ j. queue g (entryIn b j)) (sym n i) (over field names s)) (stopAt (sym z i));
@@ -40,8 +39,6 @@ module _ (field : List Float) (names : List ℕ) (c : ℕ) (b : Batch) (z : b .n
   unfolding queueCell turns andThen stopAt
   cell-one t n e = record {
     few = omega (arith, n);
-    inside = λ j w. let first : j ≡ 0 = omega (arith, w, n) in
-        (ap (λ (i : ℕ). entryIn b i .cell) first ∙ ap (λ (x : Entry). x .cell) e, ap (λ (i : ℕ). entryIn b i .triangle) first ∙ ap (λ (x : Entry). x .triangle) e, t);
     is = λ g s.
         ap (λ (y : Bool). if y then queue g (entry (getD field c nan) c (getD names c 0)) (over field names s) else goes (over field names s)) t
         ∙ ap (λ (x : Entry). queue g x (over field names s)) (sym e)
