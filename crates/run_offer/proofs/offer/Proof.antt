@@ -7,7 +7,7 @@ use Rattle.run_offer.proofs.offer.Tie as tie
 
 -- the entry, from the test of the square; where the square was found to be a number, from where its root is known
 abbrev entry : tie.After-slice-known5 → tie.Start
-entry c = c .before .before .before .before .before .before .before
+entry c = c .before .before .before .before .before
 
 abbrev number : tie.After-sqrt → tie.Else1
 number c = c .before .before .before .before
@@ -17,7 +17,7 @@ returns c =
     let t = c .before in
     let s = entry (t .before) in
     let a = s .args in
-    rw (c .refused .ensures) (offered-nan (a .at) (a .k) (a .c) (a .q) (s .pre .1 .0) (s .pre .1 .1 .3) (t .if1 .taken))
+    rw (c .refused .ensures) (offered-nan (a .at) (a .k) (a .c) (a .q) (s .pre .0) (s .pre .1 .3) (t .if1 .taken))
 
 returns-2 : tie.Need-returns-2
 returns-2 c =
@@ -25,7 +25,7 @@ returns-2 c =
     let s = entry (n .before) in
     let a = s .args in
     let not-less = c .before .root-not-below .ensures .not-below (c .if2 .taken) in
-    offered-passed (a .at) (a .k) (a .c) (a .q) (s .pre .1 .0) (s .pre .1 .1 .0) (s .pre .1 .1 .3) (n .if1 .left) not-less
+    offered-passed (a .at) (a .k) (a .c) (a .q) (s .pre .0) (s .pre .1 .0) (s .pre .1 .3) (n .if1 .left) not-less
 
 float-to-bits-distance : tie.Need-float-to-bits-distance
 float-to-bits-distance c = less-no-nan _ _ (c .if3 .taken)
@@ -37,9 +37,7 @@ returns-3 c =
     let root = nearer .before in
     let s = entry (number root .before) in
     let a = s .args in
-    let p = s .pre .1 .1 in
-    offered-taken (a .at) (a .k) (a .c) (a .q) (s .pre .1 .0) (p .1) (p .2) (p .3)
-    (number root .if1 .left) (root .sqrt .ensures .is) (nearer .if3 .taken) (queued .enqueue .ensures)
+    offered-taken (a .at) (a .k) (a .c) (a .q) (s .pre .1 .3) (number root .if1 .left) (root .sqrt .ensures .is) (nearer .if3 .taken) (queued .enqueue .ensures)
 
 returns-4 : tie.Need-returns-4
 returns-4 c =
@@ -47,7 +45,7 @@ returns-4 c =
     let s = entry (number root .before) in
     let a = s .args in
     let not-less = not-below _ (root .sqrt .ensures .is) (c .if3 .left) in
-    offered-passed (a .at) (a .k) (a .c) (a .q) (s .pre .1 .0) (s .pre .1 .1 .0) (s .pre .1 .1 .3) (number root .if1 .left) not-less
+    offered-passed (a .at) (a .k) (a .c) (a .q) (s .pre .0) (s .pre .1 .0) (s .pre .1 .3) (number root .if1 .left) not-less
 
 pub offer-spec : {M : Type 1} → statement M
 offer-spec =

@@ -1,13 +1,13 @@
 -- `queue_cell`: the test is the definition's, and the entry is what the cell holds. Assumes nothing.
 use borrow.Author.Needs.{needs}
 use native.Mathlib.Omega.{arith}
-use Rattle.run_queue.proofs.Queues.{less-no-nan, cell-small, cell-passed, cell-queued}
+use Rattle.run_queue.proofs.Queues.{less-no-nan, cell-passed, cell-queued}
 use Rattle.run_queue.proofs.queue_cell.Statement.{statement}
 use Rattle.run_queue.proofs.queue_cell.Tie as tie
 
 -- the entry, from the test of the cell's distance
-abbrev entry : tie.After-shared-slice-known5 → tie.Start
-entry c = c .before .before .before .before .before .before .before .before
+abbrev entry : tie.After-shared-slice-known3 → tie.Start
+entry c = c .before .before .before .before .before .before
 
 float-to-bits-distance : tie.Need-float-to-bits-distance
 float-to-bits-distance c = less-no-nan _ _ (c .if1 .taken)
@@ -15,17 +15,17 @@ float-to-bits-distance c = less-no-nan _ _ (c .if1 .taken)
 cast-cell : tie.Need-cast-cell
 cast-cell c =
     let s = entry (c .before) in
-    omega (arith, cell-small (s .args .grid) (s .args .c) _ (s .pre .0 .bounded) (s .pre .1 .0 .field-long) (s .pre .1 .1 .1 .1))
+    omega (arith, s .pre .1 .3)
 
 returns : tie.Need-returns
 returns c =
     let queued = c .before .before .before .before .before .before in
     let small = queued .before .before .before .before .before in
     let s = entry (small .before) in
-    cell-queued _ (s .pre .1 .0) (s .pre .1 .1 .0) (s .pre .1 .1 .1 .1) (small .if1 .taken) (queued .enqueue .ensures)
+    cell-queued _ (small .if1 .taken) (queued .enqueue .ensures)
 
 returns-2 : tie.Need-returns-2
-returns-2 c = let s = entry (c .before) in cell-passed _ (s .pre .1 .0) (s .pre .1 .1 .1 .0) (c .if1 .left)
+returns-2 c = let s = entry (c .before) in cell-passed _ (s .pre .0) (s .pre .1 .0) (c .if1 .left)
 
 pub queue-cell-spec : {M : Type 1} → statement M
 queue-cell-spec =

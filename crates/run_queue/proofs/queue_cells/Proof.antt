@@ -1,29 +1,23 @@
--- `queue_cells`: the loop's turns are those of `queueing`. Assumes nothing.
-use Prim.Native.Nat.{ℕ, _-_, _≤_, _<_}
+-- `queue_cells`: the loop's turns are those of queueing, one for each cell. Assumes nothing.
+use Prim.Native.Nat.{_-_, _≤_}
 use native.Mathlib.Omega.{arith}
-use mathlib.Core.Path.{_∙_, subst}
+use mathlib.Core.Path.{refl, _∙_}
 use lib.ListN.{length}
-use Rattle.grid.specs.Index.{total}
-use Rattle.mesh.specs.Mesh.{meshOf}
 use Rattle.run.specs.Run.{queueCell}
-use Rattle.run_queue.proofs.Queues.{cell-small, all-cells}
-use Rattle.run_state.proofs.Loops.{told-as, After, begins, goes-on, stops, ends, Alike, alike, at-end}
+use Rattle.run_state.proofs.Loops.{After, begins, goes-on, stops, ends, Alike, alike}
 use Rattle.run_queue.proofs.queue_cells.Statement.{statement}
 use Rattle.run_queue.proofs.queue_cells.Tie as tie
 
 abbrev Inv-loop : tie.InvT-loop
-Inv-loop grid vertices topology given indices field names distances₀ cells₀ triangles₀ reached₀ c₀ distances cells triangles reached c =
-    After grid (meshOf vertices topology given indices) queueCell field names distances₀ cells₀ triangles₀ reached₀ c
-    field names distances cells triangles reached
-    × (c ≤ length field)
+Inv-loop field names distances₀ cells₀ triangles₀ reached₀ c₀ distances cells triangles reached c =
+    After queueCell field names distances₀ cells₀ triangles₀ reached₀ c field names distances cells triangles reached × (c ≤ length field)
 
 abbrev μ-loop : tie.MeasureT-loop
-μ-loop grid vertices topology given indices field names distances₀ cells₀ triangles₀ reached₀ c₀ distances cells triangles reached c =
-    length field - c
+μ-loop field names distances₀ cells₀ triangles₀ reached₀ c₀ distances cells triangles reached c = length field - c
 
 -- the entry; the turn, from where its cell is queued; the queueing, from where its result is looked at
 abbrev entry : tie.At-loop Inv-loop μ-loop → tie.Start Inv-loop μ-loop
-entry l = l .before .before .before .before .before .before .before .before
+entry l = l .before .before .before .before .before .before
 
 abbrev turning : tie.After-queue-cell-arg3 Inv-loop μ-loop → tie.In-loop Inv-loop μ-loop
 turning c = c .before .before .before
@@ -37,55 +31,46 @@ alike-at : (l : tie.At-loop Inv-loop μ-loop) →
     let a = entry l .args in
     Alike (a .field .now) (a .field .now) (a .names .now) (o .distances) (o .cells) (o .triangles)
     (a .names .now) (a .distances .now) (a .cells .now) (a .triangles .now)
-alike-at l = alike (l .loop .inv .0 .long) (l .loop .inv .0 .holds) (entry l .pre .1 .0)
+alike-at l = alike refl refl (l .loop .inv .0 .long) (l .loop .inv .0 .held) (entry l .pre .0)
 
 alike-behind : (q : tie.After-queue-cell Inv-loop μ-loop) →
-    let x = q .queue-cell .last .1 .1 .1 .1 .1 .1 .1 in
+    let x = q .queue-cell .last .1 .1 in
     let a = entry (turning (q .before) .before) .args in
     Alike (a .field .now) (a .field .now) (a .names .now) (x .0) (x .1 .0) (x .1 .1 .0)
     (a .names .now) (a .distances .now) (a .cells .now) (a .triangles .now)
 alike-behind q =
     let l = turning (q .before) .before in
-    alike (q .queue-cell .kept .1 .1 .1 .1 .1 .1 .1 .0 ∙ l .loop .inv .0 .long) (q .queue-cell .ensures .holds) (entry l .pre .1 .0)
+    alike refl refl (q .queue-cell .kept .1 .1 .0 ∙ l .loop .inv .0 .long) (q .queue-cell .ensures .held) (entry l .pre .0)
 
 loop-holds : tie.Need-loop-holds Inv-loop μ-loop
-loop-holds c = let s = c .before .before .before .before .before .before .before in (begins queueCell (s .pre .1 .1 .1) (s .pre .1 .0), omega arith)
+loop-holds c = let s = c .before .before .before .before .before in (begins queueCell (s .pre .1 .0) (s .pre .0), omega arith)
 
 queue-cell-requires : tie.Need-queue-cell-requires Inv-loop μ-loop
 queue-cell-requires c κs =
     let i = turning c in
     let s = entry (i .before) in
     let a = i .before .loop .inv .0 in
-    (s .pre .0, (a .holds, (s .pre .1 .1 .0, (a .fine, i .loop-test .taken))))
+    (a .held, (a .fine, i .loop-test .taken, s .pre .1 .1, omega (arith, i .loop-test .taken, s .pre .1 .2)))
 
 returns : tie.Need-returns Inv-loop μ-loop
 returns c =
     let q = queued (c .before) in
     let i = turning (q .before) in
-    let s = entry (i .before) in
-    let l = i .before .loop in
-    let below = subst (λ (n : ℕ). l .c < n) (s .pre .1 .0 .field-long) (i .loop-test .taken) in
-    told-as (all-cells (s .args .grid) _) (stops queueCell (total (s .args .grid)) (l .inv .0) (q .queue-cell .ensures) (c .if1 .taken) below)
+    stops queueCell (i .before .loop .inv .0) (q .queue-cell .ensures) _ (c .if1 .taken) (i .loop-test .taken)
 
 loop-again : tie.Need-loop-again Inv-loop μ-loop
 loop-again c =
     let q = queued (c .before) in
     let i = turning (q .before) in
-    let kept = q .queue-cell .kept .1 .1 .1 .1 .1 .1 .1 .0 in
-    (goes-on queueCell (i .before .loop .inv .0) (q .queue-cell .ensures) kept (c .if1 .left), omega (arith, i .loop-test .taken))
+    (goes-on queueCell (i .before .loop .inv .0) (q .queue-cell .ensures) refl refl (q .queue-cell .kept .1 .1 .0) (c .if1 .left), omega (arith, i .loop-test .taken))
 
 add-c : tie.Need-add-c Inv-loop μ-loop
 add-c c =
     let i = turning (queued (c .before) .before) in
-    let s = entry (i .before) in
-    omega (arith, cell-small (s .args .grid) _ _ (s .pre .0 .bounded) (s .pre .1 .0 .field-long) (i .loop-test .taken))
+    omega (arith, i .loop-test .taken, entry (i .before) .pre .1 .2)
 
 returns-2 : tie.Need-returns-2 Inv-loop μ-loop
-returns-2 c =
-    let i = c .before .loop .inv in
-    let s = entry (c .before) in
-    told-as (all-cells (s .args .grid) _)
-    (ends queueCell (total (s .args .grid)) (i .0) (at-end _ _ _ (s .pre .1 .0 .field-long) (i .1) (c .loop-test .left)))
+returns-2 c = let i = c .before .loop .inv in ends queueCell _ (i .0) (omega (arith, i .1, c .loop-test .left))
 
 pub queue-cells-spec : {M : Type 1} → statement M
 queue-cells-spec =
