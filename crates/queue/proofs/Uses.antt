@@ -53,8 +53,12 @@ module _ {le : Entry → Entry → Bool} where
           at-entries ds cs ts k w (omega (arith, h .even .cells)) (omega (arith, h .even .triangles)) ∙ h .keeps .rest k (omega arith)
 
   -- ---- how many wait
+  -- in whatever order they are listed
+  pub how-many-by : (by : Entry → Entry → Bool) (ds cs ts : List ℕ) (n : ℕ) → Held le ds cs ts n → length (waiting by ds cs ts n) ≡ n
+  how-many-by by ds cs ts n h = length-inOrder by n (entries ds cs ts) (h .keeps .fit)
+
   pub how-many : (ds cs ts : List ℕ) (n : ℕ) → Held le ds cs ts n → length (waiting le ds cs ts n) ≡ n
-  how-many ds cs ts n h = length-inOrder le n (entries ds cs ts) (h .keeps .fit)
+  how-many ds cs ts n h = how-many-by le ds cs ts n h
 
   -- no more than there is room
   pub within-room : (ds cs ts : List ℕ) (n : ℕ) → Held le ds cs ts n → n ≤ length ds

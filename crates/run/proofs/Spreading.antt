@@ -7,9 +7,10 @@ use mathlib.Core.Path.{_≡_, refl, sym, subst}
 use mathlib.Core.Logic.{_⊎_, inl, inr}
 use mathlib.Core.List.{List, [], _∷_, List·Memᴰ, List·Memᴰ·cases-cons, List·Memᴰ·not-nil}
 use Rattle.lists.specs.Turns.{Turn, goes, turns}
+use Rattle.lists.proofs.Turns.{then-went}
 use Rattle.lists.proofs.Made.{goes-same, turns-lead, turns-rest, turns-made}
 use Rattle.queue.specs.declared.Entry.{Entry}
-use Rattle.run.specs.Run.{RunInput, Place, off, at, State, named, taken, spreadTo, spreadAround, spreading}
+use Rattle.run.specs.Run.{RunInput, Place, off, at, State, named, taken, takeFirst, spreadTo, spreadAround, spreading}
 use Rattle.run.specs.Good.{Falls, Waits, Good}
 use Rattle.run.proofs.Values.{Fair, Met, met-on}
 use Rattle.run.proofs.Offers.{Spread, over, pops, spreading-went}
@@ -91,6 +92,15 @@ module _ (g : RunInput) (F : Fair g) where
         let b = turn-leads j (p .before) (p .after) (p .turn) (a .good) in
         met-on g (p .after .field) (t .field) (e .triangle) d (F .steps-on (e .cell) j d cl q) (p .leads (b .good) .onward .falls)
         (turn-meets j d (p .before) (p .after) q (a .good) (p .turn))
+
+  -- a pop keeps a state good
+  pub pop-good : (w : List Entry) (s t : State) → Good g s → s .waiting ≡ w → takeFirst g goes w s ≡ goes t → Good g t
+  unfolding takeFirst
+  pop-good [] s t G q h = subst (Good g) (goes-same h) G
+  pop-good (e ∷ w) s t G q h =
+      let p = then-went (spreadAround g e (taken w s)) goes t h in
+      let T = good-taken g e w s G q in
+      subst (Good g) (goes-same (p .2)) (around-leads e (T .1 .cell-on) (T .1 .triangle-is) (taken w s) (p .0) (T .0) (p .1) .good)
 
   -- ---- to the end of the run
 

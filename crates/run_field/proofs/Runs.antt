@@ -3,7 +3,7 @@
 use Prim.Native.Nat.{ℕ, zero, suc}
 use native.Mathlib.Omega.{arith}
 use mathlib.Core.Path.{_≡_, refl, sym, ap, _∙_, subst}
-use mathlib.Core.List.{List, [], List·Memᴰ, List·Memᴰ·not-nil}
+use mathlib.Core.List.{List, []}
 use lib.ListN.{length, length-replicate}
 use lib.Ieee.{Float}
 use Rattle.float.specs.Arith.{fMax}
@@ -11,23 +11,24 @@ use Rattle.lists.specs.Turns.{Turn, goes, andThen, turns, told}
 use Rattle.lists.proofs.Turns.{then-goes, then-refuses, told-goes, told-refuses}
 use Rattle.grid.specs.declared.Grid.{Grid}
 use Rattle.grid.specs.Index.{total}
-use Rattle.grid.proofs.Facts.{bounds-of, on-axis}
 use Rattle.mesh.specs.Mesh.{Mesh, trianglesIn}
 use Rattle.queue.specs.declared.Entry.{Entry}
-use Rattle.queue.specs.Queue.{waiting}
-use Rattle.queue.proofs.Uses.{none-waits, how-many}
-use Rattle.run.specs.Run.{RunInput, State, none, atFirst, seeding, queueing, spreading, run}
+use Rattle.queue.specs.Order.{byKeys}
+use Rattle.queue.proofs.Uses.{none-waits, how-many-by}
+use Rattle.run.specs.Run.{RunInput, State, none, atFirst, seeding, queueCell, queueing, spreading, run}
 use Rattle.run.specs.Input.{runInput}
-use Rattle.run.proofs.Values.{Fair, has-below}
+use Rattle.run.specs.Good.{Good}
+use Rattle.run.specs.Keys.{keyed}
 use Rattle.run.proofs.Offers.{Spread, over, pops, spreading-went, run-went}
-use Rattle.run.proofs.Inputs.{fair-input}
+use Rattle.run.proofs.Queueing.{queueing-to}
 use Rattle.run.proofs.Seeding.{seeding-good}
 use Rattle.run_seed_cells.specs.Parts.{seedState, overTriangle}
 use Rattle.run_seed.proofs.Whole.{seeding-is}
 use Rattle.run_state.specs.declared.Progress.{Progress}
-use Rattle.run_state.specs.Told.{orderIn, stateOf, Fit, AllKnown, Holds, Ran, Named, Told}
+use Rattle.run_state.specs.Told.{orderIn, stateOf, Fit, Holds, GoodIn, Ran, Told, QueuedCells}
 use Rattle.run_state.proofs.Counts.{queueing-counts}
-use Rattle.run_field.specs.Running.{Leaves, Fresh, seeded}
+use Rattle.run_state.proofs.Keys.{fair, queueing-told}
+use Rattle.run_field.specs.Running.{Leaves, Fresh, before, seeded}
 
 -- ---- of any input
 
@@ -49,10 +50,6 @@ run-ends g t h = let r = run-went g t h in spreading-ends g (g .limit) (r .queue
 
 -- ---- of a job's
 
--- what is known of no entry
-none-known : (g : Grid) (m : Mesh) (ds cs ts : List ℕ) → AllKnown g m (waiting (orderIn m) ds cs ts 0)
-none-known g m ds cs ts e h = absurd (List·Memᴰ·not-nil (subst (List·Memᴰ e) (none-waits (orderIn m) ds cs ts) h))
-
 -- the state after seeding, over a queue in which nothing waits
 begun : (m : Mesh) (field : List Float) (names ds cs ts : List ℕ) → seedState field names ≡ seeded m field names ds cs ts
 begun m field names ds cs ts =
@@ -62,18 +59,43 @@ begun m field names ds cs ts =
 abbrev pub rest : Grid → Mesh → ℕ → ℕ → State → ℕ → Turn State
 rest g m room limit s any = andThen (queueing (runInput g m room any) s) (spreading (runInput g m room any) limit)
 
+pub fresh-field : {g : Grid} {field : List Float} {names ds cs ts : List ℕ} → Fresh g field names ds cs ts → length field ≡ total g
+fresh-field {g} f = ap length (f .field-bare) ∙ length-replicate (total g) fMax
+
+pub fresh-names : {g : Grid} {field : List Float} {names ds cs ts : List ℕ} → Fresh g field names ds cs ts → length names ≡ total g
+fresh-names {g} f = ap length (f .names-bare) ∙ length-replicate (total g) none
+
 module _ {g : Grid} {m : Mesh} where
-  pub fresh-field : {field : List Float} {names ds cs ts : List ℕ} → Fresh g m field names ds cs ts → length field ≡ total g
-  fresh-field f = ap length (f .field-bare) ∙ length-replicate (total g) fMax
-
-  pub fresh-names : {field : List Float} {names ds cs ts : List ℕ} → Fresh g m field names ds cs ts → length names ≡ total g
-  fresh-names f = ap length (f .names-bare) ∙ length-replicate (total g) none
-
   -- what spreading's functions tell, as a part of the run over an input with any limit
   pub as-left : {turn : RunInput → State → Turn State} {field field′ : List Float} {names ds cs ts names′ ds′ cs′ ts′ : List ℕ} {at r : Progress}
       → Told g m turn field names ds cs ts at field′ names′ ds′ cs′ ts′ r
       → Leaves g m (λ any. turn (runInput g m (length ds) any) (stateOf (orderIn m) field names ds cs ts at)) field′ names′ ds′ cs′ ts′ r
   as-left h = record { holds = h .holds; is = h .is }
+
+  -- ---- queueing, by keys
+  module _ {field : List Float} {names ds cs ts ds′ cs′ ts′ : List ℕ} {r : Progress} (fit : Fit g m) (states : GoodIn g m field names ds cs ts before)
+      (q : QueuedCells field names ds cs ts before ds′ cs′ ts′ r) where
+    queueing-is : (any : ℕ) → queueing (runInput g m (length ds) any) (seeded m field names ds cs ts) ≡ told (r .number) (stateOf (orderIn m) field names ds′ cs′ ts′ r)
+    unfolding queueing runInput
+    queueing-is any =
+        queueing-told fit (length ds) any field names ds cs ts before (states .good any) field names ds′ cs′ ts′ r refl
+        (ap (λ (n : ℕ). turns (queueCell (keyed (runInput g m (length ds) any))) n (stateOf byKeys field names ds cs ts before)) (sym (states .good any .sound .field-long))
+        ∙ q .is (keyed (runInput g m (length ds) any)) refl refl)
+
+    pub queueing-told-of : Told g m queueing field names ds cs ts before field names ds′ cs′ ts′ r
+    unfolding runInput
+    queueing-told-of =
+        let s = states .good 0 .sound in
+        record { holds = record { field-long = s .field-long; names-long = s .names-long; held = q .held }; is = queueing-is }
+
+    -- where it goes on, from a good state
+    pub queueing-states : length ds′ ≡ length ds → r .number ≡ 0 → GoodIn g m field names ds′ cs′ ts′ r
+    queueing-states l z = record {
+      good = λ any.
+          subst (λ (n : ℕ). Good (runInput g m n any) (stateOf (orderIn m) field names ds′ cs′ ts′ r)) (sym l)
+          (queueing-to (runInput g m (length ds) any) (fair fit (length ds) any) (seeded m field names ds cs ts) _ (states .good any) (none-waits (orderIn m) ds cs ts)
+          (queueing-is any ∙ told-goes (r .number) _ z) .good);
+    }
 
   -- ---- queueing, then spreading
   module _ (s : State) (room limit : ℕ) {field : List Float} {names ds cs ts : List ℕ} {p : Progress} (h : Leaves g m (λ any. queueing (runInput g m room any) s) field names ds cs ts p) where
@@ -100,10 +122,7 @@ module _ {g : Grid} {m : Mesh} where
         }
 
   -- ---- seeding before them
-  module _ {field : List Float} {names ds cs ts : List ℕ} (fit : Fit g m) (fresh : Fresh g m field names ds cs ts) where
-    fair : (room limit : ℕ) → Fair (runInput g m room limit)
-    fair room limit = fair-input g m room limit (λ a. on-axis (bounds-of g (fit .ready .bounded)) a .some) (omega (arith, fit .few))
-
+  module _ {field : List Float} {names ds cs ts : List ℕ} (fit : Fit g m) (fresh : Fresh g field names ds cs ts) where
     module _ (field′ : List Float) (names′ : List ℕ) (n : ℕ)
         (h : turns (overTriangle g m) (length (trianglesIn m)) (seedState field names) ≡ told n (seedState field′ names′)) where
       seeding-told : (room limit : ℕ) → seeding (runInput g m room limit) ≡ told n (seedState field′ names′)
@@ -122,7 +141,6 @@ module _ {g : Grid} {m : Mesh} where
               field-long = e ∙ fresh-field fresh;
               names-long = k ∙ fresh-names fresh;
               held = fresh .empty;
-              known = none-known g m ds cs ts;
             };
             is = λ any.
                 then-refuses _ (seeding-told room limit ∙ told-refuses n _ z) ∙ sym (told-refuses n _ z);
@@ -132,17 +150,17 @@ module _ {g : Grid} {m : Mesh} where
         went : (room limit : ℕ) → seeding (runInput g m room limit) ≡ goes (seedState field′ names′)
         went room limit = seeding-told room limit ∙ told-goes n _ z
 
-        pub seeding-holds : Holds g m field′ names′ ds cs ts 0
+        pub seeding-states : GoodIn g m field′ names′ ds cs ts before
+        seeding-states = record {
+          good = λ any. subst (Good (runInput g m (length ds) any)) (begun m field′ names′ ds cs ts)
+              (seeding-good (runInput g m (length ds) any) (fair fit (length ds) any) (seedState field′ names′) (went (length ds) any));
+        }
+
+        pub seeding-holds : Holds g field′ names′ ds cs ts 0
         unfolding runInput
         seeding-holds =
-            let s = seeding-good (runInput g m 0 0) (fair 0 0) (seedState field′ names′) (went 0 0) .sound in
-            record { field-long = s .field-long; names-long = s .names-long; held = fresh .empty; known = none-known g m ds cs ts }
-
-        pub seeding-names : Named g m field′ names′
-        unfolding runInput
-        seeding-names c l b =
-            let s = seeding-good (runInput g m 0 0) (fair 0 0) (seedState field′ names′) (went 0 0) .sound in
-            has-below (runInput g m 0 0) (fair 0 0) (s .each c l) b .0
+            let s = seeding-states .good 0 .sound in
+            record { field-long = s .field-long; names-long = s .names-long; held = fresh .empty }
 
         pub seeding-goes-on : {field″ : List Float} {names″ ds″ cs″ ts″ : List ℕ} {r : Progress} (room limit : ℕ)
             → Leaves g m (rest g m room limit (seeded m field′ names′ ds cs ts)) field″ names″ ds″ cs″ ts″ r
@@ -155,11 +173,11 @@ module _ {g : Grid} {m : Mesh} where
             }
 
   -- ---- at the end
-  pub run-over : {field : List Float} {names ds cs ts : List ℕ} {p : Progress} (room limit : ℕ) → Leaves g m (λ any. run (runInput g m room limit)) field names ds cs ts p → Ran g m field names ds cs ts p
+  pub run-over : {field : List Float} {names ds cs ts : List ℕ} {p : Progress} (room limit : ℕ) → Leaves g m (λ any. run (runInput g m room limit)) field names ds cs ts p → Ran g field names ds cs ts p
   run-over {field} {names} {ds} {cs} {ts} {p} room limit h =
       record {
         holds = h .holds;
         over = λ z.
-            sym (how-many ds cs ts (p .waiting) (h .holds .held))
+            sym (how-many-by (orderIn m) ds cs ts (p .waiting) (h .holds .held))
             ∙ ap length (run-ends (runInput g m room limit) (stateOf (orderIn m) field names ds cs ts p) (h .is 0 ∙ told-goes (p .number) _ z));
       }

@@ -1,19 +1,26 @@
--- A pop: the entry that is taken is known, what is left still holds, and taking it and spreading it is one turn of spreading. Assumes nothing.
+-- A pop: what waits is apart, so that the entry is taken that goes first by all three keys; it is known, what is left is a good state, and
+-- taking it and spreading it is one turn of spreading. Assumes nothing.
 use Prim.Native.Nat.{ℕ, _+_, _-_}
 use mathlib.Core.Path.{_≡_, refl, sym, ap, _∙_, subst}
-use mathlib.Core.List.{List, List·Memᴰ, List·Memᴰ·head, List·Memᴰ·tail}
+use mathlib.Core.List.{List}
 use lib.ListN.{length}
 use lib.Ieee.{Float}
-use Rattle.lists.specs.Turns.{Turn, goes, refuses, andThen}
+use Rattle.lists.specs.Turns.{Turn, goes, refuses, andThen, told}
 use Rattle.grid.specs.declared.Grid.{Grid}
 use Rattle.grid.specs.Index.{total}
 use Rattle.mesh.specs.Mesh.{Mesh, trianglesIn}
 use Rattle.queue.specs.declared.Entry.{Entry}
-use Rattle.queue.specs.Queue.{Taken, waiting}
+use Rattle.queue.specs.Order.{byKeys}
+use Rattle.queue.specs.Queue.{Held, Taken, waiting}
+use Rattle.queue.proofs.Keys.{held-by}
 use Rattle.run.specs.Run.{taken, spreadAround, takeFirst}
 use Rattle.run.specs.Input.{runInput}
+use Rattle.run.specs.Good.{Good, Waits}
+use Rattle.run.specs.Keys.{keyed}
+use Rattle.run.proofs.Waiting.{good-taken}
 use Rattle.run_state.specs.declared.Progress.{Progress}
-use Rattle.run_state.specs.Told.{orderIn, stateOf, Known, Holds, Told}
+use Rattle.run_state.specs.Told.{orderIn, stateOf, Fit, Known, Holds, GoodIn, Told}
+use Rattle.run_state.proofs.Keys.{agrees, around-told}
 
 then-all : {S : Type 0} (o : Turn S) → andThen o goes ≡ o
 unfolding andThen
@@ -23,33 +30,39 @@ then-all (refuses n) = refl
 pub then-then : {S : Type 0} (o : Turn S) (f : S → Turn S) → andThen (andThen o goes) f ≡ andThen o f
 then-then o f = ap (λ t. andThen t f) (then-all o)
 
-module _ {g : Grid} {m : Mesh} {field : List Float} {names ds cs ts ds₁ cs₁ ts₁ : List ℕ} {n : ℕ} {e : Entry} where
-  pub first-known : Holds g m field names ds cs ts n → Taken (orderIn m) e ds cs ts ds₁ cs₁ ts₁ n → Known (total g) (length (trianglesIn m)) e
-  first-known h t = h .known e (subst (List·Memᴰ e) (sym (t .waits)) (List·Memᴰ·head refl))
+-- the counts with one taken
+abbrev pub oneTaken : Progress → Progress
+oneTaken at = record { number = 0; waiting = at .waiting - 1; pops = at .pops + 1; peak = at .peak }
 
-  pub rest-holds : Holds g m field names ds cs ts n → Taken (orderIn m) e ds cs ts ds₁ cs₁ ts₁ n → Holds g m field names ds₁ cs₁ ts₁ (n - 1)
-  rest-holds h t =
+module _ {g : Grid} {m : Mesh} {field : List Float} {names ds cs ts ds₁ cs₁ ts₁ : List ℕ} {e : Entry} (at : Progress) (h : GoodIn g m field names ds cs ts at)
+    (t : Taken (orderIn m) e ds cs ts ds₁ cs₁ ts₁ (at .waiting)) where
+  -- what is taken was queued for a cell and a triangle of the job, and what is left is good
+  parted : (any : ℕ) → Good (runInput g m (length ds) any) (stateOf (orderIn m) field names ds₁ cs₁ ts₁ (oneTaken at)) × Waits (runInput g m (length ds) any) field e
+  parted any = good-taken (runInput g m (length ds) any) e _ (stateOf (orderIn m) field names ds cs ts at) (h .good any) (t .waits)
+
+  pub first-known : Known (total g) (length (trianglesIn m)) e
+  unfolding runInput
+  first-known = let w = parted 0 .1 in record { cell-below = w .cell-on; triangle-below = w .triangle-is }
+
+  pub rest-held : Held byKeys ds₁ cs₁ ts₁ (at .waiting - 1)
+  rest-held = held-by (agrees m) ds₁ cs₁ ts₁ (at .waiting - 1) (parted 0 .0 .apart) (t .held)
+
+  -- it spreads, as it does by keys
+  pub popped : {field′ : List Float} {names′ ds′ cs′ ts′ : List ℕ} {r : Progress} → Fit g m → length ds₁ ≡ length ds → Holds g field′ names′ ds′ cs′ ts′ (r .waiting)
+      → ((any : ℕ) → spreadAround (keyed (runInput g m (length ds₁) any)) e (stateOf byKeys field names ds₁ cs₁ ts₁ (oneTaken at))
+      ≡ told (r .number) (stateOf byKeys field′ names′ ds′ cs′ ts′ r))
+      → Told g m (λ G s. takeFirst G goes (s .waiting) s) field names ds cs ts at field′ names′ ds′ cs′ ts′ r
+  unfolding takeFirst
+  popped {field′} {names′} {ds′} {cs′} {ts′} {r} fit l holds is =
+      let s = stateOf (orderIn m) field names ds cs ts at in
+      let w = waiting (orderIn m) ds₁ cs₁ ts₁ (at .waiting - 1) in
       record {
-        field-long = h .field-long;
-        names-long = h .names-long;
-        held = t .held;
-        known = λ x i. h .known x (subst (List·Memᴰ x) (sym (t .waits)) (List·Memᴰ·tail i));
+        holds = holds;
+        is = λ any.
+            ap (λ (v : List Entry). takeFirst (runInput g m (length ds) any) goes v s) (t .waits)
+            ∙ then-all (spreadAround (runInput g m (length ds) any) e (taken w s))
+            ∙ ap (λ (k : ℕ). spreadAround (runInput g m k any) e (taken w s)) (sym l)
+            ∙ around-told fit (length ds₁) any field names ds₁ cs₁ ts₁ (oneTaken at)
+            (subst (λ (k : ℕ). Good (runInput g m k any) (stateOf (orderIn m) field names ds₁ cs₁ ts₁ (oneTaken at))) (sym l) (parted any .0))
+            field′ names′ ds′ cs′ ts′ r e first-known (is any);
       }
-
--- an entry is taken, and then spreads
-pub popped : {g : Grid} {m : Mesh} {field field′ : List Float} {names ds cs ts ds₁ cs₁ ts₁ names′ ds′ cs′ ts′ : List ℕ} {r : Progress} {e : Entry} (at : Progress)
-    → Taken (orderIn m) e ds cs ts ds₁ cs₁ ts₁ (at .waiting) → length ds₁ ≡ length ds
-    → Told g m (λ G. spreadAround G e) field names ds₁ cs₁ ts₁ (record { number = 0; waiting = at .waiting - 1; pops = at .pops + 1; peak = at .peak }) field′ names′ ds′ cs′ ts′ r
-    → Told g m (λ G s. takeFirst G goes (s .waiting) s) field names ds cs ts at field′ names′ ds′ cs′ ts′ r
-unfolding takeFirst
-popped {g} {m} {field} {names = names} {ds} {cs} {ts} {ds₁} {cs₁} {ts₁} {e = e} at t l o =
-    let s = stateOf (orderIn m) field names ds cs ts at in
-    let w = waiting (orderIn m) ds₁ cs₁ ts₁ (at .waiting - 1) in
-    record {
-      holds = o .holds;
-      is = λ any.
-          ap (λ (v : List Entry). takeFirst (runInput g m (length ds) any) goes v s) (t .waits)
-          ∙ then-all (spreadAround (runInput g m (length ds) any) e (taken w s))
-          ∙ ap (λ (k : ℕ). spreadAround (runInput g m k any) e (taken w s)) (sym l)
-          ∙ o .is any;
-    }

@@ -12,12 +12,15 @@ use Rattle.grid.specs.declared.Grid.{Grid}
 use Rattle.mesh.specs.Mesh.{Mesh}
 use Rattle.queue.specs.declared.Entry.{Entry}
 use Rattle.queue.specs.Queue.{waiting}
-use Rattle.queue.proofs.Uses.{how-many, none-waits}
+use Rattle.queue.proofs.Uses.{how-many-by, none-waits}
 use Rattle.run.specs.Run.{RunInput, State, taken, spreadAround, takeFirst, limitReached, spreading}
 use Rattle.run.specs.Input.{runInput}
+use Rattle.run.specs.Good.{Good}
+use Rattle.run.proofs.Spreading.{pop-good}
 use Rattle.run_state.specs.declared.Progress.{Progress}
-use Rattle.run_state.specs.Told.{refusedBy, orderIn, stateOf, Holds, Told}
+use Rattle.run_state.specs.Told.{refusedBy, orderIn, stateOf, Fit, Holds, GoodIn, Told}
 use Rattle.run_state.proofs.Counts.{pop-counts}
+use Rattle.run_state.proofs.Keys.{fair}
 use Rattle.run_pop.proofs.Pops.{then-then}
 
 -- a pop, and the pops after it
@@ -44,20 +47,22 @@ module _ (g : Grid) (m : Mesh) (limit : ℕ) where
     pub fine : r .number ≡ 0
     pub long : length ds ≡ length ds₀
     pub within : r .pops ≤ limit
-    pub holds : Holds g m field names ds cs ts (r .waiting)
+    pub holds : Holds g field names ds cs ts (r .waiting)
+    pub states : GoodIn g m field names ds cs ts r
     pub is : (any : ℕ)
         → spreading (runInput g m (length ds₀) any) (limit - r .pops) (stateOf (orderIn m) field names ds cs ts r)
         ≡ spreading (runInput g m (length ds₀) any) limit (stateOf (orderIn m) field₀ names₀ ds₀ cs₀ ts₀ r₀)
 
 -- no pops, at first
 pub spread-begins : {g : Grid} {m : Mesh} {limit : ℕ} {field : List Float} {names ds cs ts : List ℕ} {r : Progress} → r .number ≡ 0 → r .pops ≡ 0
-    → Holds g m field names ds cs ts (r .waiting) → Spreads g m limit field names ds cs ts r field names ds cs ts r
-spread-begins {g} {m} {limit} {field} {names} {ds} {cs} {ts} {r} z p h =
+    → Holds g field names ds cs ts (r .waiting) → GoodIn g m field names ds cs ts r → Spreads g m limit field names ds cs ts r field names ds cs ts r
+spread-begins {g} {m} {limit} {field} {names} {ds} {cs} {ts} {r} z p h good =
     record {
       fine = z;
       long = refl;
       within = omega arith;
       holds = h;
+      states = good;
       is = λ any. ap (λ (k : ℕ). spreading (runInput g m (length ds) any) k (stateOf (orderIn m) field names ds cs ts r)) all;
     }
   where
@@ -81,7 +86,7 @@ module _ {g : Grid} {m : Mesh} {limit : ℕ} {field₀ field : List Float} {name
 
   -- some wait
   some : Spreads g m limit field₀ names₀ ds₀ cs₀ ts₀ r₀ field names ds cs ts r → 0 < r .waiting → 0 < length (waiting (orderIn m) ds cs ts (r .waiting))
-  some a l = subst (λ (k : ℕ). 0 < k) (sym (how-many ds cs ts (r .waiting) (a .holds .held))) l
+  some a l = subst (λ (k : ℕ). 0 < k) (sym (how-many-by (orderIn m) ds cs ts (r .waiting) (a .holds .held))) l
 
   -- the pops are spent
   pub spread-spent : Spreads g m limit field₀ names₀ ds₀ cs₀ ts₀ r₀ field names ds cs ts r → 0 < r .waiting → r .pops ≡ limit
@@ -120,8 +125,20 @@ module _ {g : Grid} {m : Mesh} {limit : ℕ} {field₀ field : List Float} {name
         ∙ ap (λ (k : ℕ). andThen (takeFirst (runInput g m k any) goes (s .waiting) s) (spreading G (limit - (r .pops + 1)))) (sym (a .long))
         ∙ ap (λ o. andThen o (spreading G (limit - (r .pops + 1)))) (t .is any)
 
-    pub spread-on : r .pops < limit → length ds′ ≡ length ds → r′ .number ≡ 0 → Spreads g m limit field₀ names₀ ds₀ cs₀ ts₀ r₀ field′ names′ ds′ cs′ ts′ r′
-    spread-on b k z =
+    -- and its state is good
+    good-on : Fit g m → length ds′ ≡ length ds → r′ .number ≡ 0 → GoodIn g m field′ names′ ds′ cs′ ts′ r′
+    good-on fit k z =
+        let s = stateOf (orderIn m) field names ds cs ts r in
+        let s′ = stateOf (orderIn m) field′ names′ ds′ cs′ ts′ r′ in
+        record {
+          good = λ any.
+              subst (λ (n : ℕ). Good (runInput g m n any) s′) (sym k)
+              (pop-good (runInput g m (length ds) any) (fair fit (length ds) any) (s .waiting) s s′ (a .states .good any) refl
+              (t .is any ∙ told-goes (r′ .number) s′ z));
+        }
+
+    pub spread-on : Fit g m → r .pops < limit → length ds′ ≡ length ds → r′ .number ≡ 0 → Spreads g m limit field₀ names₀ ds₀ cs₀ ts₀ r₀ field′ names′ ds′ cs′ ts′ r′
+    spread-on fit b k z =
         let s′ = stateOf (orderIn m) field′ names′ ds′ cs′ ts′ r′ in
         let p : r′ .pops ≡ r .pops + 1 = counted z in
         record {
@@ -129,6 +146,7 @@ module _ {g : Grid} {m : Mesh} {limit : ℕ} {field₀ field : List Float} {name
           long = k ∙ a .long;
           within = omega arith;
           holds = t .holds;
+          states = good-on fit k z;
           is = λ any.
               ap (λ (j : ℕ). spreading (runInput g m (length ds₀) any) (limit - j) s′) p
               ∙ sym (one any b ∙ then-goes (spreading (runInput g m (length ds₀) any) (limit - (r .pops + 1))) (told-goes (r′ .number) s′ z));

@@ -31,7 +31,7 @@ use Rattle.run_state.specs.declared.Progress.{Progress}
 use Rattle.run_state.specs.Told.{orderIn, stateOf, Fit, Known}
 
 -- the order of a mesh goes by distance and cell first
-agrees : (m : Mesh) → Agree (orderIn m) byKeys
+pub agrees : (m : Mesh) → Agree (orderIn m) byKeys
 agrees m = by-keys _
 
 -- a state is the same by either, where what waits is apart by one of them

@@ -8,11 +8,12 @@ use lib.ListN.{length}
 use lib.Ieee.{Float}
 use Rattle.lists.specs.Turns.{Turn, goes, told, turns}
 use Rattle.lists.proofs.Turns.{told-goes, turns-none, turns-on, turns-stop}
+use Rattle.grid.specs.declared.Grid.{Grid}
 use Rattle.queue.specs.Order.{byKeys}
 use Rattle.queue.specs.Queue.{Held}
 use Rattle.run.specs.Run.{RunInput, State}
 use Rattle.run_state.specs.declared.Progress.{Progress}
-use Rattle.run_state.specs.Told.{stateOf, ToldByKeys}
+use Rattle.run_state.specs.Told.{stateOf, Holds, ToldByKeys}
 
 -- ---- the lengths stay
 
@@ -33,6 +34,11 @@ alike f m l h h₀ =
       cells-same = h .even .cells ∙ l ∙ sym (h₀ .even .cells);
       triangles-same = h .even .triangles ∙ l ∙ sym (h₀ .even .triangles);
     }
+
+-- so it is of slices that hold what waits on the grid
+pub alike-held : {g : Grid} {n n₀ : ℕ} {field field₀ : List Float} {names ds cs ts names₀ ds₀ cs₀ ts₀ : List ℕ} → length ds ≡ length ds₀
+    → Holds g field names ds cs ts n → Holds g field₀ names₀ ds₀ cs₀ ts₀ n₀ → Alike field field₀ names ds cs ts names₀ ds₀ cs₀ ts₀
+alike-held l h h₀ = alike (h .field-long ∙ sym (h₀ .field-long)) (h .names-long ∙ sym (h₀ .names-long)) l (h .held) (h₀ .held)
 
 -- ---- a loop
 

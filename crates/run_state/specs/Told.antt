@@ -55,9 +55,9 @@ pub record Holds (g : Grid) (field : List Float) (names ds cs ts : List ℕ) (n 
   pub names-long : length names ≡ total g
   pub held : Held byKeys ds cs ts n
 
--- and what they hold is a state of the run: what is true of each of them is true of it, whatever the pop limit
-abbrev pub GoodIn : Grid → Mesh → List Float → List ℕ → List ℕ → List ℕ → List ℕ → Progress → Type 0
-GoodIn g m field names ds cs ts p = (any : ℕ) → Good (runInput g m (length ds) any) (stateOf (orderIn m) field names ds cs ts p)
+-- and with the counts they hold a state of the run: what is true of every such state is true of it, whatever the pop limit
+pub record GoodIn (g : Grid) (m : Mesh) (field : List Float) (names ds cs ts : List ℕ) (p : Progress) : Type 0 where
+  pub good : (any : ℕ) → Good (runInput g m (length ds) any) (stateOf (orderIn m) field names ds cs ts p)
 
 -- the same where a run has ended: nothing waits unless it was refused
 pub record Ran (g : Grid) (field : List Float) (names ds cs ts : List ℕ) (p : Progress) : Type 0 where

@@ -2,7 +2,7 @@
 use borrow.Author.Needs.{needs}
 use native.Mathlib.Omega.{arith}
 use lib.ListN.{length}
-use Rattle.run_field.proofs.Runs.{fresh-field, fresh-names, seeding-stops, seeding-holds, seeding-names, seeding-goes-on}
+use Rattle.run_field.proofs.Runs.{fresh-field, fresh-names, seeding-stops, seeding-holds, seeding-states, seeding-goes-on}
 use Rattle.run_field.proofs.run_field.Statement.{statement}
 use Rattle.run_field.proofs.run_field.Tie as tie
 
@@ -34,10 +34,10 @@ spread-seeds-requires c κs =
     let f = fine c in
     let q = seeded (f .before) .seed in
     let p = entry (seeded (f .before) .before) .pre in (
-      p .0 .ready,
+      p .0,
       (
         seeding-holds (p .0) (p .1) (q .last .0) (q .last .1 .0) (q .result) (q .ensures) (f .if1 .left),
-        seeding-names (p .0) (p .1) (q .last .0) (q .last .1 .0) (q .result) (q .ensures) (f .if1 .left),
+        seeding-states (p .0) (p .1) (q .last .0) (q .last .1 .0) (q .result) (q .ensures) (f .if1 .left),
       ),
     )
 

@@ -6,7 +6,7 @@ use mathlib.Core.Path.{_≡_, refl, _∙_}
 use Rattle.mesh.specs.Mesh.{meshOf}
 use Rattle.run.specs.Steps as Steps
 use Rattle.run_around.specs.Around.{codes}
-use Rattle.run_state.proofs.Loops.{Alike, alike}
+use Rattle.run_state.proofs.Loops.{Alike, alike-held}
 use Rattle.run_spread.proofs.Spreads.{Spreads, spread-begins, spread-ends, spread-spent, spread-on, spread-stops, counted}
 use Rattle.run_spread.proofs.spread.Statement.{statement}
 use Rattle.run_spread.proofs.spread.Tie as tie
@@ -45,7 +45,7 @@ alike-at : (l : tie.At-loop Inv-loop μ-loop) →
     let o = l .loop in
     let a = entry l .args in
     Alike (o .field) (a .field .now) (o .names) (o .distances) (o .cells) (o .triangles) (a .names .now) (a .distances .now) (a .cells .now) (a .triangles .now)
-alike-at l = alike (l .loop .inv .0 .long) (l .loop .inv .0 .holds) (entry l .pre .1 .0)
+alike-at l = alike-held (l .loop .inv .0 .long) (l .loop .inv .0 .holds) (entry l .pre .1 .0)
 
 alike-behind : (p : tie.After-pop Inv-loop μ-loop) →
     let x = p .pop .last .1 .1 .1 .1 .1 .1 in
@@ -54,10 +54,10 @@ alike-behind : (p : tie.After-pop Inv-loop μ-loop) →
     (a .names .now) (a .distances .now) (a .cells .now) (a .triangles .now)
 alike-behind p =
     let l = head (left (p .before) .before) in
-    alike (p .pop .kept .1 .1 .1 .1 .1 .1 .1 .1 .0 ∙ l .loop .inv .0 .long) (p .pop .ensures .holds) (entry l .pre .1 .0)
+    alike-held (p .pop .kept .1 .1 .1 .1 .1 .1 .1 .1 .0 ∙ l .loop .inv .0 .long) (p .pop .ensures .holds) (entry l .pre .1 .0)
 
 loop-holds : tie.Need-loop-holds Inv-loop μ-loop
-loop-holds c = let s = c .before .before .before .before .before .before .before in (spread-begins (s .pre .1 .1 .0) (s .pre .1 .1 .1) (s .pre .1 .0), refl)
+loop-holds c = let s = c .before .before .before .before .before .before .before in (spread-begins (s .pre .1 .1 .1 .0) (s .pre .1 .1 .1 .1) (s .pre .1 .0) (s .pre .1 .1 .0), refl)
 
 returns : tie.Need-returns Inv-loop μ-loop
 returns c =
@@ -68,7 +68,7 @@ pop-requires : tie.Need-pop-requires Inv-loop μ-loop
 pop-requires c κs =
     let n = left c in
     let l = head (n .before) in
-    (entry l .pre .0, (l .loop .inv .0 .holds, (l .loop .inv .1, waits (n .before) .if1 .taken, omega (arith, fewer n, n .before .struct-known3 .given))))
+    (entry l .pre .0, (l .loop .inv .0 .holds, (l .loop .inv .0 .states, (l .loop .inv .1, waits (n .before) .if1 .taken, omega (arith, fewer n, n .before .struct-known3 .given)))))
 
 returns-2 : tie.Need-returns-2 Inv-loop μ-loop
 returns-2 c =
@@ -86,9 +86,10 @@ loop-again : tie.Need-loop-again Inv-loop μ-loop
 loop-again c =
     let p = popped (c .before) in
     let n = left (p .before) in
-    let i = head (n .before) .loop .inv in
+    let l = head (n .before) in
+    let i = l .loop .inv in
     let kept = p .pop .kept .1 .1 .1 .1 .1 .1 .1 .1 .0 in
-    (spread-on (i .0) (waits (n .before) .if1 .taken) (p .pop .ensures) (fewer n) kept (c .if3 .left), i .1)
+    (spread-on (i .0) (waits (n .before) .if1 .taken) (p .pop .ensures) (entry l .pre .0) (fewer n) kept (c .if3 .left), i .1)
 
 returns-3 : tie.Need-returns-3 Inv-loop μ-loop
 returns-3 c = spread-ends (c .before .before .loop .inv .0) (c .if1 .left)
