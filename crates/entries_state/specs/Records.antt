@@ -1,6 +1,5 @@
 -- How the run over a row of records tells what it did: as crate `run_state` has it, of the row's three projections. Definitions only.
 use Prim.Native.Nat.{ℕ, _+_, _-_}
-use mathlib.Core.Bool.{Bool}
 use mathlib.Core.List.{List}
 use lib.Dec.{eqb}
 use lib.Ieee.{Float}
@@ -11,14 +10,10 @@ use Rattle.mesh.specs.Mesh.{Mesh}
 use Rattle.queue.specs.declared.Entry.{Entry}
 use Rattle.run.specs.Run.{RunInput, State}
 use Rattle.run_state.specs.declared.Progress.{Progress}
-use Rattle.run_state.specs.Told.{refusedBy, stateOf, Holds, GoodIn, Told, ToldByKeys, QueuedCells}
+use Rattle.run_state.specs.Told.{refusedBy, Holds, GoodIn, Told, ToldByKeys, QueuedCells}
 use Rattle.entries.specs.Row.{rowDistances, rowCells, rowTriangles}
 use Rattle.entries_batch.specs.declared.Batch.{Batch}
 use Rattle.entries_batch.specs.Batch.{queueAll}
-
--- the state that a row holds
-abbrev pub stateIn : (Entry → Entry → Bool) → List Float → List ℕ → List Entry → Progress → State
-stateIn le field names row p = stateOf le field names (rowDistances row) (rowCells row) (rowTriangles row) p
 
 -- the slices are of the right lengths and the row holds n waiting entries
 abbrev pub HoldsRow : Grid → List Float → List ℕ → List Entry → ℕ → Type 0
