@@ -1,7 +1,8 @@
 /* The whole job of one checkout's library, under the name JOB, on pointers and numbers alone. It is compiled against that
  * checkout's own sdf.h, and names what every edition of the header has: a record that got a member since is passed and
  * returned as its own library does it, and what stands outside need not know. A header before version 6 knows the plain pass
- * alone: its library runs that, whichever is asked for. */
+ * alone: its library runs that, whichever is asked for. Where `row` is given, three words for each entry, it is the queue, and
+ * else the three lists are. */
 #include "sdf.h"
 
 /* The fields of `Lent` in bench_two.rs, in their order. */
@@ -15,7 +16,7 @@ typedef struct {
     float *field;
     uint32_t *names, *crossings, *rows;
     size_t cells, layers;
-    uint32_t *distances, *queued, *triangles;
+    uint32_t *distances, *queued, *triangles, *row;
     size_t room;
 } lent;
 
@@ -29,10 +30,14 @@ void JOB(const lent *l, uint32_t limit, uint32_t pass, uint32_t *number, uint32_
 #else
     (void)pass;
 #endif
-    sdf_job_answer answer = sdf_generate_grid_sdf(
-        grid, l->vertices, l->coordinate_count, SDF_LIST, SDF_INDICES, l->indices, l->index_count, l->field, l->cells,
-        l->names, l->cells, l->crossings, 3 * l->cells, l->rows, l->layers, l->distances, l->room, l->queued, l->room,
-        l->triangles, l->room, terms);
+    sdf_job_answer answer =
+        l->row ? sdf_generate_grid_sdf_records(grid, l->vertices, l->coordinate_count, SDF_LIST, SDF_INDICES, l->indices,
+                                               l->index_count, l->field, l->cells, l->names, l->cells, l->crossings,
+                                               3 * l->cells, l->rows, l->layers, (sdf_entry *)l->row, l->room, terms)
+               : sdf_generate_grid_sdf(grid, l->vertices, l->coordinate_count, SDF_LIST, SDF_INDICES, l->indices,
+                                       l->index_count, l->field, l->cells, l->names, l->cells, l->crossings,
+                                       3 * l->cells, l->rows, l->layers, l->distances, l->room, l->queued, l->room,
+                                       l->triangles, l->room, terms);
     *number = answer.number;
     *pops = answer.pops;
     *peak = answer.peak;

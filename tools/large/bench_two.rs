@@ -1,8 +1,12 @@
-//! bench-two [ROUNDS [EDGE [PASS]]]: the libraries of two checkouts on the same jobs in one run, call by call in turn, on one thread.
-//! Prints for each workload and size of tools/bench the least time of the crossings and of the whole over the rounds (5; more
-//! where a call is short), in milliseconds of the processor's time, before and after, and after by before. Sizes above EDGE
-//! (100) are left out. PASS is `plain`, or `quick` (the default) where a library has it. Ends with 1 if the two leave another
-//! field, other names or crossings, or count other pops or peak.
+//! bench-two [ROUNDS [EDGE [PASS [QUEUE]]]]: the libraries of two checkouts on the same jobs in one run, call by call in turn, on one
+//! thread. Prints for each workload and size of tools/bench the least time of the spreading, of the crossings and of the whole over
+//! the rounds (5; more where a call is short), in milliseconds of the processor's time, before and after, and after by before. Sizes
+//! above EDGE (100) are left out. PASS is `plain`, or `quick` (the default) where a library has it. QUEUE is `flat` (the default), the
+//! queue in three slices, or `row`, a row of records. Ends with 1 if the two leave another field, other names or crossings, or count
+//! other pops or peak.
+//!
+//! The spreading is what is left of a call before its crossings, less a call whose pop limit is 0: that one is refused by 8 when the
+//! cells are seeded and queued. It is a difference of two calls, so the least times of both are taken before it is.
 //!
 //! The crossings are timed from when their counts are cleared (clock.c) to the end of the call, so the signs and the
 //! rows stand in them, a few thousandths. As the difference of two calls, one of which ends before them, they were uncertain by a
@@ -41,6 +45,7 @@ struct Lent {
     distances: *mut u32,
     queued: *mut u32,
     triangles: *mut u32,
+    row: *mut u32,
     room: usize,
 }
 
@@ -52,6 +57,7 @@ extern "C" {
 }
 
 const SIDES: [Call; 2] = [job_before, job_after];
+const PARTS: [&str; 3] = ["spreading", "crossings", "whole"];
 
 #[derive(Clone, Copy, Default, PartialEq, Debug)]
 struct Answer {
@@ -67,22 +73,25 @@ struct Buffers {
     crossings: Vec<u32>,
     rows: Vec<u32>,
     queue: [Vec<u32>; 3],
+    row: Vec<u32>,
 }
 
 impl Buffers {
-    fn fitting(job: &Job, room: usize) -> Buffers {
+    /// With room for so many entries, in three slices or in a row.
+    fn fitting(job: &Job, room: usize, in_row: bool) -> Buffers {
         let n = job.grid.cells() as usize;
         Buffers {
             field: vec![0.0; n],
             names: vec![0; n],
             crossings: vec![0; 3 * n],
             rows: vec![0; job.grid.count[2] as usize],
-            queue: [0; 3].map(|_| vec![0; room]),
+            queue: [0; 3].map(|_| vec![0; if in_row { 0 } else { room }]),
+            row: vec![0; if in_row { 3 * room } else { 0 }],
         }
     }
 
-    /// The answer, and the milliseconds of the crossings and of the whole call.
-    fn ask(&mut self, side: Call, job: &Job, pass: u32) -> (Answer, [f64; 2]) {
+    /// The answer, and the milliseconds of the crossings and of the whole call. With a limit of 0 there are no crossings.
+    fn ask(&mut self, side: Call, job: &Job, pass: u32, limit: u32) -> (Answer, [f64; 2]) {
         let indices = job.indices.as_deref().unwrap_or(&[]);
         let coordinates = job.vertices.as_flattened();
         let [distances, queued, triangles] = &mut self.queue;
@@ -100,7 +109,8 @@ impl Buffers {
             rows: self.rows.as_mut_ptr(),
             cells: self.field.len(),
             layers: self.rows.len(),
-            room: distances.len(),
+            row: if self.row.is_empty() { std::ptr::null_mut() } else { self.row.as_mut_ptr() },
+            room: distances.len() + self.row.len() / 3,
             distances: distances.as_mut_ptr(),
             queued: queued.as_mut_ptr(),
             triangles: triangles.as_mut_ptr(),
@@ -108,9 +118,9 @@ impl Buffers {
         let mut answer = Answer::default();
         // SAFETY: every pointer is that of a slice or a number, with the slice's own length; none are shared.
         let times = clock::timed(lent.crossings, || unsafe {
-            side(&lent, u32::MAX, pass, &mut answer.number, &mut answer.pops, &mut answer.peak)
+            side(&lent, limit, pass, &mut answer.number, &mut answer.pops, &mut answer.peak)
         });
-        assert_eq!(answer.number, 0, "the job is done");
+        assert_eq!(answer.number, if limit == 0 { 8 } else { 0 }, "the job is done, or refused by its limit");
         (answer, times)
     }
 
@@ -131,45 +141,56 @@ fn main() {
             std::process::exit(2);
         }
     };
+    let in_row = match std::env::args().nth(4).as_deref() {
+        None | Some("flat") => false,
+        Some("row") => true,
+        Some(word) => {
+            eprintln!("bench-two: no such queue: {word}");
+            std::process::exit(2);
+        }
+    };
     println!("load before: {}", load());
     let words = ["workload", "cells", "part", "before, ms", "after, ms", "ratio", "of middles"];
     println!("{:<15}{:>15}  {:<10}{:>12}{:>12}{:>8}{:>12}", words[0], words[1], words[2], words[3], words[4], words[5], words[6]);
-    let (mut ratios, mut differences) = ([const { Vec::new() }; 2], 0);
+    let (mut ratios, mut differences) = ([const { Vec::new() }; 3], 0);
     for workload in workloads::all(largest) {
         let counts = workload.counts();
         let Workload { name: workload, edge, job } = workload;
         // Twice as many entries as cells are enough for these jobs.
-        let mut buffers = Buffers::fitting(&job, 2 * job.grid.cells() as usize);
-        let [before, after] = SIDES.map(|side| (buffers.ask(side, &job, pass).0, buffers.left()));
+        let mut buffers = Buffers::fitting(&job, 2 * job.grid.cells() as usize, in_row);
+        let [before, after] = SIDES.map(|side| (buffers.ask(side, &job, pass, u32::MAX).0, buffers.left()));
         if before != after {
             differences += 1;
             println!("{workload} {counts}: DIFFERENT, {:?} before and {:?} after", before.0, after.0);
         }
-        // The times of the crossings and of the whole, of each side.
-        let mut times = [const { [const { Vec::new() }; 2] }; 2];
+        // The times up to the first pop, up to the crossings, of the crossings and of the whole, of each side.
+        let mut times = [const { [const { Vec::new() }; 4] }; 2];
         for round in 0..rounds * (10_000 / (edge * edge)) {
             for turn in 0..2 {
                 // Each goes first half the time.
                 let side = (round as usize + turn) % 2;
-                for (times, time) in times[side].iter_mut().zip(buffers.ask(SIDES[side], &job, pass).1) {
+                let [_, first] = buffers.ask(SIDES[side], &job, pass, 0).1;
+                let [crossings, whole] = buffers.ask(SIDES[side], &job, pass, u32::MAX).1;
+                for (times, time) in times[side].iter_mut().zip([first, whole - crossings, crossings, whole]) {
                     times.push(time);
                 }
             }
         }
         let of = times.map(|parts| {
-            parts.map(|times| {
+            let [first, before, crossings, whole] = parts.map(|times| {
                 let times = sorted(times);
                 [times[0], middle(&times)]
-            })
+            });
+            [[before[0] - first[0], before[1] - first[1]], crossings, whole]
         });
-        for (part, name) in ["crossings", "whole"].into_iter().enumerate() {
+        for (part, name) in PARTS.into_iter().enumerate() {
             let [[a, middle_a], [b, middle_b]] = of.map(|side| side[part]);
             let of_middles = middle_b / middle_a;
             println!("{workload:<15}{counts:>15}  {name:<10}{a:>12.3}{b:>12.3}{:>8.3}{of_middles:>12.3}", b / a);
             ratios[part].push(b / a);
         }
     }
-    for (part, ratios) in ["crossings", "whole"].into_iter().zip(ratios) {
+    for (part, ratios) in PARTS.into_iter().zip(ratios) {
         let ratios = sorted(ratios);
         let (least, most) = (ratios[0], ratios[ratios.len() - 1]);
         println!("{part}: after by before {least:.3} to {most:.3}, the middle one {:.3}", middle(&ratios));

@@ -9,6 +9,7 @@ use Rattle.grid.specs.declared.Grid.{Grid}
 use Rattle.grid.specs.Index.{total}
 use Rattle.mesh.specs.Mesh.{Mesh}
 use Rattle.queue.specs.declared.Entry.{Entry}
+use Rattle.queue.specs.Order.{byKeys}
 use Rattle.queue.proofs.Uses as Queue
 use Rattle.run.specs.Run.{run}
 use Rattle.run.specs.Input.{runInput}
@@ -82,7 +83,7 @@ module _ (g : Grid) (m : Mesh) (limit : ℕ) (field : List Float) (names crossin
           field-long = l-field ∙ taken .long .field;
           names-long = l-names ∙ taken .long .names;
           empty =
-              Queue.cleared (orderIn m) (rowDistances queue) (rowCells queue) (rowTriangles queue) (rowDistances queue₁) (rowCells queue₁) (rowTriangles queue₁)
+              Queue.cleared byKeys (rowDistances queue) (rowCells queue) (rowTriangles queue) (rowDistances queue₁) (rowCells queue₁) (rowTriangles queue₁)
               (record { cells = taken .long .cells; triangles = taken .long .triangles }) clear;
         }
 

@@ -5,9 +5,9 @@ use mathlib.Core.List.{List}
 use lib.ListN.{replicate}
 use lib.Ieee.{Float}
 use Rattle.float.specs.Arith.{fMax}
+use Rattle.queue.specs.Order.{byKeys}
 use Rattle.queue.proofs.Uses as Queue
 use Rattle.run.specs.Run.{none}
-use Rattle.run_state.specs.Told.{orderIn}
 use Rattle.job_checks.specs.declared.Lengths.{Lengths}
 use Rattle.job_checks.specs.Job.{Job, Lent, lentOf}
 use Rattle.job_checks.specs.Refusals.{refusal, lengthsOf}
@@ -22,13 +22,13 @@ module _ (j : Job) (b : Lent) (h : refusal j b ≡ 0) where
   a = accepted (j .grid) (j .mesh) (lengthsOf b) h
 
   module _ {field : List Float} {names crossings rows ds cs ts : List ℕ} (e : lentOf field names crossings rows ds cs ts ≡ cleared b) where
-    pub fresh : Fresh (j .grid) (j .mesh) field names ds cs ts
+    pub fresh : Fresh (j .grid) field names ds cs ts
     fresh =
         record {
           field-bare = ap (λ (l : Lent). l .field) e ∙ ap (λ (n : ℕ). replicate n fMax) (a .long .field);
           names-bare = ap (λ (l : Lent). l .names) e ∙ ap (λ (n : ℕ). replicate n none) (a .long .names);
           empty =
-              Queue.cleared (orderIn (j .mesh)) (b .distances) (b .cells) (b .triangles) ds cs ts (record { cells = a .long .cells; triangles = a .long .triangles })
+              Queue.cleared byKeys (b .distances) (b .cells) (b .triangles) ds cs ts (record { cells = a .long .cells; triangles = a .long .triangles })
               (record {
                 distances = ap (λ (l : Lent). l .distances) e;
                 cells = ap (λ (l : Lent). l .cells) e;

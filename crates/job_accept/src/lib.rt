@@ -31,8 +31,7 @@ fn cleared_job(
     terms: Terms,
 ) -> Answer
     requires { ⌜ Fit grid (meshOf (now vertices) topology given (now indices)) ⌝ }
-    requires { let m = meshOf (now vertices) topology given (now indices) in
-        ⌜ Fresh grid m (now field) (now names) (now distances) (now cells) (now triangles) ⌝ }
+    requires { ⌜ Fresh grid (now field) (now names) (now distances) (now cells) (now triangles) ⌝ }
     requires { ⌜ Long grid (now crossings) (now rows) ⌝ }
     ensures { λ r.
         let job = jobOf grid (now (vertices .entry)) topology given (now (indices .entry)) terms in

@@ -31,8 +31,7 @@ pub fn conclude(
     ran: Progress,
 ) -> Answer
     requires { ⌜ Fit grid (meshOf (now vertices) topology given (now indices)) ⌝ }
-    requires { let m = meshOf (now vertices) topology given (now indices) in
-        ⌜ Ran grid m (now field) (now names) (now distances) (now cells) (now triangles) ran ⌝ }
+    requires { ⌜ Ran grid (now field) (now names) (now distances) (now cells) (now triangles) ran ⌝ }
     requires { ⌜ Long grid (now crossings) (now rows) ⌝ }
     ensures { λ r.
         let job = jobOf grid (now (vertices .entry)) topology given (now (indices .entry)) terms in

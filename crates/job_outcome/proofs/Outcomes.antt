@@ -9,6 +9,7 @@ use Rattle.lists.specs.Turns.{Turn, goes, refuses, told}
 use Rattle.lists.proofs.Turns.{told-goes, told-refuses}
 use Rattle.grid.specs.declared.Grid.{Grid}
 use Rattle.mesh.specs.Mesh.{Mesh}
+use Rattle.queue.specs.Order.{byKeys}
 use Rattle.queue.specs.Queue.{Held, Cleared}
 use Rattle.queue.proofs.Uses.{left-zero}
 use Rattle.run.specs.Run.{State, run}
@@ -46,11 +47,11 @@ module _ (g : Grid) (m : Mesh) (limit : ℕ) (field : List Float) (names crossin
       rw (told-refuses (p .number) (stateOf (orderIn m) field names ds cs ts p) z)
       (gives (closed .refused z .0) (all-cleared field names crossings layers ds cs ts (closed .refused z .1) q))
 
-  pub gives-done : p .number ≡ 0 → Ran g m field names ds cs ts p
+  pub gives-done : p .number ≡ 0 → Ran g field names ds cs ts p
       → Gives (comesTo g m limit field names crossings layers ds cs ts p) r (lentOf field′ names′ crossings′ layers′ ds cs ts)
   unfolding ended
   gives-done z ran =
-      let h = subst (Held (orderIn m) ds cs ts) (ran .over z) (ran .holds .held) in
+      let h = subst (Held byKeys ds cs ts) (ran .over z) (ran .holds .held) in
       let q = left-zero ds cs ts h in
       let d = closed .done z in
       rw (told-goes (p .number) (stateOf (orderIn m) field names ds cs ts p) z)
