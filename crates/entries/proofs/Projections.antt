@@ -25,6 +25,10 @@ row-even row = record {
 pub long-row : (row : List Entry) → length (rowDistances row) ≡ length row
 long-row row = length-map row (λ e. e .distance)
 
+-- is the same in rows of one length
+pub same-room : (row row′ : List Entry) → length row′ ≡ length row → length (rowDistances row′) ≡ length (rowDistances row)
+same-room row row′ l = long-row row′ ∙ l ∙ sym (long-row row)
+
 module _ {le : Entry → Entry → Bool} where
   -- a heap in the row is one in the three lists, and back
   pub held-of : (row : List Entry) (n : ℕ) → Keeps le blank row n → HeldRow le row n

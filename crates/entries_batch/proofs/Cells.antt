@@ -11,10 +11,12 @@ use borrow.Author.Tests.{lt-ltb, le-ltb}
 use Rattle.float.specs.Arith.{_≺_, fMax, if_then_else_}
 use Rattle.lists.specs.Turns.{Turn, goes, refuses, andThen, turns}
 use Rattle.queue.specs.declared.Entry.{Entry}
+use Rattle.queue.specs.Order.{byKeys}
 use Rattle.run.specs.Run.{State, entry, queue, queueCell}
 use Rattle.run_state.specs.declared.Progress.{Progress}
+use Rattle.run_state.specs.Told.{stateOf, ToldByKeys}
 use Rattle.entries_batch.specs.declared.Batch.{Batch}
-use Rattle.entries_batch.specs.Batch.{entryIn, stopAt, over, Cell, queuedBy}
+use Rattle.entries_batch.specs.Batch.{entryIn, stopAt, queueAll, over, Cell, queuedBy}
 
 -- what is smaller than something is no NaN
 pub less-no-nan : (x y : Float) → (x ≺ y) ≡ true → T (not (isNan x))
@@ -30,7 +32,6 @@ module _ (field : List Float) (names : List ℕ) (c : ℕ) (b : Batch) (z : b .n
   unfolding queueCell turns andThen stopAt
   cell-none t n = record {
     few = omega (arith, n);
-    inside = λ j w. absurd (omega (arith, w, n));
     is = λ g s.
         ap (λ (y : Bool). if y then queue g (entry (getD field c nan) c (getD names c 0)) (over field names s) else goes (over field names s)) t
         ∙ λ i. andThen (turns (λ j. queue g (entryIn b j)) (sym n i) (over field names s)) (stopAt (sym z i));
@@ -40,8 +41,6 @@ module _ (field : List Float) (names : List ℕ) (c : ℕ) (b : Batch) (z : b .n
   unfolding queueCell turns andThen stopAt
   cell-one t n e = record {
     few = omega (arith, n);
-    inside = λ j w. let first : j ≡ 0 = omega (arith, w, n) in
-        (ap (λ (i : ℕ). entryIn b i .cell) first ∙ ap (λ (x : Entry). x .cell) e, ap (λ (i : ℕ). entryIn b i .triangle) first ∙ ap (λ (x : Entry). x .triangle) e, t);
     is = λ g s.
         ap (λ (y : Bool). if y then queue g (entry (getD field c nan) c (getD names c 0)) (over field names s) else goes (over field names s)) t
         ∙ ap (λ (x : Entry). queue g x (over field names s)) (sym e)
@@ -52,6 +51,12 @@ module _ (field : List Float) (names : List ℕ) (c : ℕ) (b : Batch) (z : b .n
       then-goes : (t : Turn State) → andThen t goes ≡ t
       then-goes (goes s) = refl
       then-goes (refuses n) = refl
+
+-- it is queued as its batch is
+pub cell-queued : {field : List Float} {names ds cs ts ds′ cs′ ts′ : List ℕ} {c : ℕ} {b : Batch} {p r : Progress} → Cell field names c b
+    → ToldByKeys (λ g. queueAll g b) field names ds cs ts p field names ds′ cs′ ts′ r → ToldByKeys (λ g. queueCell g c) field names ds cs ts p field names ds′ cs′ ts′ r
+cell-queued {field} {names} {ds} {cs} {ts} {p = p} cell all =
+    record { held = all .held; is = λ g o w. cell .is g (stateOf byKeys field names ds cs ts p) ∙ all .is g o w }
 
 -- ---- the counts
 

@@ -2,12 +2,11 @@
 -- Definitions only.
 use Prim.Native.Nat.{ℕ, zero, suc, _+_, _<_, max}
 use mathlib.Core.Path.{_≡_}
-use mathlib.Core.Bool.{true}
 use mathlib.Core.List.{List}
 use lib.Dec.{ltb}
 use lib.ListN.{getD}
-use lib.Ieee.{Float, nan}
-use Rattle.float.specs.Arith.{_≺_, fMax, if_then_else_}
+use lib.Ieee.{Float}
+use Rattle.float.specs.Arith.{if_then_else_}
 use Rattle.lists.specs.Turns.{Turn, goes, refuses, andThen, turns}
 use Rattle.queue.specs.declared.Entry.{Entry}
 use Rattle.run.specs.Run.{RunInput, State, queue, queueCell}

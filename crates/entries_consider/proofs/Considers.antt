@@ -2,34 +2,25 @@
 -- cell takes it. Assumes nothing.
 use Prim.Native.Nat.{ℕ}
 use mathlib.Core.Path.{_≡_, sym, ap, _∙_}
-use mathlib.Core.Bool.{Bool, true, false, true≢false}
+use mathlib.Core.Bool.{true, false}
 use mathlib.Core.List.{List}
 use lib.ListN.{getD, set}
 use lib.Ieee.{Float, nan, isNan, ne, binary32, toBits}
-use borrow.Author.Tests.{eq-eqb, ne-eqb}
-use Rattle.float.specs.Arith.{_≺_, if_then_else_}
+use Rattle.float.specs.Arith.{_≺_}
 use Rattle.float.specs.RootOf.{rootOf}
 use Rattle.lists.specs.Turns.{Turn}
 use Rattle.queue.specs.declared.Entry.{Entry}
-use Rattle.run.specs.Run.{State, Place, off, at, none, offerAt}
+use Rattle.run.specs.Run.{State, Place, none, offerAt}
 use Rattle.run.proofs.Ways.{offer-nan, offer-passed, offer-taken, is-nan, is-number}
-use Rattle.run_around.specs.Around.{placeOf}
+use Rattle.run_around.specs.Around.{placeOf, offerPlace}
+use Rattle.run_around.proofs.Places.{place-off, place-at}
 use Rattle.entries_batch.specs.Batch.{over}
-use Rattle.entries_consider.specs.Considered.{offerPlace, verdict, Considered}
-
-place-off : (n : ℕ) → n ≡ none → placeOf n ≡ off
-place-off n e = ap (λ (t : Bool). if t then off else at n) (eq-eqb n none e)
-
-pub place-at : (n : ℕ) → (n ≡ none → ⊥) → placeOf n ≡ at n
-place-at n e = ap (λ (t : Bool). if t then off else at n) (ne-eqb n none e)
+use Rattle.entries_consider.specs.Considered.{verdict, Considered}
 
 module _ (k to : ℕ) (q : Float) (field : List Float) (names : List ℕ) where
   pub was-off : to ≡ none → Considered k to q field names field names (record { number = 0; taken = false; distance = 0 })
   unfolding offerPlace verdict
-  was-off e = record {
-    is = λ also s. ap (λ (p : Place). offerPlace also k p (rootOf q) (over field names s)) (place-off to e);
-    inside = λ t. absurd (true≢false (sym t));
-  }
+  was-off e = record { is = λ also s. ap (λ (p : Place). offerPlace also k p (rootOf q) (over field names s)) (place-off to e) }
 
   module _ (on : to ≡ none → ⊥) where
     offered : (also : Entry → State → Turn State) (s : State) → offerPlace also k (placeOf to) (rootOf q) (over field names s) ≡ offerAt also k to (rootOf q) (over field names s)
@@ -38,17 +29,11 @@ module _ (k to : ℕ) (q : Float) (field : List Float) (names : List ℕ) where
 
     pub was-nan : isNan (rootOf q) ≡ isNan q → ne q q ≡ true → Considered k to q field names field names (record { number = 6; taken = false; distance = 0 })
     unfolding verdict
-    was-nan a t = record {
-      is = λ also s. offered also s ∙ offer-nan also k to (rootOf q) (over field names s) (a ∙ is-nan q t);
-      inside = λ w. absurd (true≢false (sym w));
-    }
+    was-nan a t = record { is = λ also s. offered also s ∙ offer-nan also k to (rootOf q) (over field names s) (a ∙ is-nan q t) }
 
     pub was-passed : isNan (rootOf q) ≡ isNan q → ne q q ≡ false → (rootOf q ≺ getD field to nan) ≡ false → Considered k to q field names field names (record { number = 0; taken = false; distance = 0 })
     unfolding verdict
-    was-passed a t l = record {
-      is = λ also s. offered also s ∙ offer-passed also k to (rootOf q) (over field names s) (a ∙ is-number q t) l;
-      inside = λ w. absurd (true≢false (sym w));
-    }
+    was-passed a t l = record { is = λ also s. offered also s ∙ offer-passed also k to (rootOf q) (over field names s) (a ∙ is-number q t) l }
 
     pub was-taken : {d : Float} → isNan (rootOf q) ≡ isNan q → ne q q ≡ false → d ≡ rootOf q → (d ≺ getD field to nan) ≡ true
         → Considered k to q field names (set field to d) (set names to k) (record { number = 0; taken = true; distance = toBits binary32 d })
@@ -58,7 +43,6 @@ module _ (k to : ℕ) (q : Float) (field : List Float) (names : List ℕ) where
           offered also s
           ∙ ap (λ (v : Float). offerAt also k to v (over field names s)) (sym e)
           ∙ offer-taken also k to d (over field names s) (ap isNan e ∙ a ∙ is-number q t) l;
-      inside = λ w z. on z;
     }
 
 -- a test on a value that is another

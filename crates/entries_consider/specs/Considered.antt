@@ -1,15 +1,14 @@
 -- An offer over the field and the names alone, and its verdict. Definitions only.
-use Prim.Native.Nat.{ℕ, zero, suc, _<_}
+use Prim.Native.Nat.{ℕ, zero, suc}
 use mathlib.Core.Path.{_≡_}
 use mathlib.Core.Bool.{Bool, true, false}
 use mathlib.Core.List.{List}
-use lib.ListN.{length}
-use lib.Ieee.{Float, isNan}
+use lib.Ieee.{Float}
 use Rattle.float.specs.RootOf.{rootOf}
 use Rattle.lists.specs.Turns.{Turn, goes, refuses}
 use Rattle.queue.specs.declared.Entry.{Entry}
-use Rattle.run.specs.Run.{State, Place, off, at, none, offerAt}
-use Rattle.run_around.specs.Around.{placeOf}
+use Rattle.run.specs.Run.{State}
+use Rattle.run_around.specs.Around.{placeOf, offerPlace}
 use Rattle.entries_consider.specs.declared.Verdict.{Verdict}
 use Rattle.entries_batch.specs.Batch.{over}
 

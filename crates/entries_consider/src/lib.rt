@@ -1,5 +1,6 @@
 // An offer of a pop, made over the field and the names alone. A part of the port: users call `sdf`.
-ghost use Rattle.entries_consider.specs.Considered.{Passable, Considered};
+ghost use Rattle.run_around.specs.Around.{Passable};
+ghost use Rattle.entries_consider.specs.Considered.{Considered};
 
 // What an offer came to: refused by a number, or taken at a distance, or neither.
 pub struct Verdict {

@@ -7,15 +7,17 @@ use mathlib.Core.Path.{_≡_, refl, sym, ap, _∙_}
 use mathlib.Core.Bool.{Bool, true, false}
 use mathlib.Core.List.{List}
 use lib.Dec.{ltb}
-use lib.ListN.{length}
-use lib.Ieee.{Float}
+use lib.ListN.{length, getD}
+use lib.Ieee.{Float, nan}
 use Rattle.float.specs.Arith.{if_then_else_}
+use Rattle.float.specs.RootOf.{rootOf}
 use Rattle.lists.specs.Turns.{Turn, goes, refuses, andThen, turns}
 use Rattle.lists.proofs.Turns.{turns-same, turns-refused}
 use Rattle.queue.specs.declared.Entry.{Entry}
-use Rattle.run.specs.Run.{RunInput, State, Place, queue, queued}
+use Rattle.run.specs.Run.{RunInput, State, queue, queued}
+use Rattle.run_around.specs.Around.{placeOf, offerPlace}
 use Rattle.entries_batch.specs.Batch.{stopAt, over}
-use Rattle.entries_consider.specs.Considered.{offerPlace, verdict}
+use Rattle.entries_consider.specs.Considered.{verdict}
 use Rattle.entries_gather.specs.Gathered.{countedBy}
 
 -- ---- queueing over another field and other names
@@ -71,9 +73,12 @@ turns-next f k s = ap (λ (n : ℕ). turns f n s) (add-one k)
 
 -- ---- the offers of a pop
 
-module _ (k : ℕ) (place : ℕ → Place) (away : ℕ → Float) (field₀ : List Float) (names₀ : List ℕ) where
+module _ (k : ℕ) (to : List ℕ) (squares : List Float) (field₀ : List Float) (names₀ : List ℕ) where
+  abbrev offered : (Entry → State → Turn State) → ℕ → State → Turn State
+  offered also j = offerPlace also k (placeOf (getD to j 0)) (rootOf (getD squares j nan))
+
   abbrev step : RunInput → ℕ → State → Turn State
-  step g j = offerPlace (queue g) k (place j) (away j)
+  step g = offered (queue g)
 
   -- after j offers the field, the names and the first n entries of f are such that queueing these comes to the same
   pub record Gathers (j : ℕ) (field : List Float) (names : List ℕ) (f : ℕ → Entry) (n : ℕ) : Type 0 where
@@ -135,7 +140,7 @@ module _ (k : ℕ) (place : ℕ → Place) (away : ℕ → Float) (field₀ : Li
 
     -- by a verdict
     module _ (field′ : List Float) (names′ : List ℕ) (number : ℕ) (taken : Bool) (x : Entry)
-        (e : (also : Entry → State → Turn State) (s : State) → offerPlace also k (place j) (away j) (over field names s) ≡ verdict number taken also x (over field′ names′ s)) where
+        (e : (also : Entry → State → Turn State) (s : State) → offered also j (over field names s) ≡ verdict number taken also x (over field′ names′ s)) where
       pub goes-on : {f′ : ℕ → Entry} → number ≡ 0 → ((i : ℕ) → i < n → f i ≡ f′ i) → f′ n ≡ x → Gathers (j + 1) field′ names′ f′ (countedBy n taken)
       unfolding verdict
       goes-on {f′} z same new = go taken refl

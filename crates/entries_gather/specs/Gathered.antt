@@ -3,20 +3,16 @@ use Prim.Native.Nat.{ℕ, _+_, _<_}
 use mathlib.Core.Path.{_≡_}
 use mathlib.Core.Bool.{Bool, true, false}
 use mathlib.Core.List.{List}
-use lib.ListN.{length, getD}
-use lib.Ieee.{Float, nan}
-use Rattle.float.specs.RootOf.{rootOf}
-use Rattle.lists.specs.Turns.{turns}
+use lib.Ieee.{Float}
 use Rattle.grid.specs.declared.Grid.{Grid}
-use Rattle.grid.specs.Index.{total}
 use Rattle.mesh.specs.Mesh.{Mesh}
 use Rattle.queue.specs.declared.Entry.{Entry}
 use Rattle.run.specs.Run.{RunInput, State, queue, spreadAround}
 use Rattle.run.specs.Input.{runInput}
-use Rattle.run_around.specs.Around.{placeOf}
+use Rattle.run.specs.Keys.{keyed}
+use Rattle.run_around.specs.Around.{offerAll}
 use Rattle.entries_batch.specs.declared.Batch.{Batch}
-use Rattle.entries_batch.specs.Batch.{entryIn, queueAll, over}
-use Rattle.entries_consider.specs.Considered.{offerPlace, Passable}
+use Rattle.entries_batch.specs.Batch.{queueAll, over}
 
 -- one more, where it is taken
 abbrev pub countedBy : ℕ → Bool → ℕ

@@ -12,7 +12,8 @@ ghost use lib.ListN.{length};
 ghost use Rattle.grid.specs.Index.{total};
 ghost use Rattle.mesh.specs.Mesh.{meshOf, trianglesIn};
 ghost use Rattle.run_state.specs.Told.{Ready, Known};
-ghost use Rattle.entries_gather.specs.Gathered.{countedBy, PlacesFit, BatchGathered, PopOffered};
+ghost use Rattle.run_around.specs.Around.{PlacesFit};
+ghost use Rattle.entries_gather.specs.Gathered.{countedBy, BatchGathered, PopOffered};
 
 // One more, where it is taken.
 fn counted(n: usize, taken: bool) -> usize

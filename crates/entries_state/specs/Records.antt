@@ -1,27 +1,19 @@
 -- How the run over a row of records tells what it did: as crate `run_state` has it, of the row's three projections. Definitions only.
-use Prim.Native.Nat.{ℕ, zero, suc, _+_, _-_, _<_}
-use mathlib.Core.Path.{_≡_}
-use mathlib.Core.Logic.{_⊎_}
-use mathlib.Core.Bool.{Bool, true}
-use mathlib.Core.List.{List, List·Memᴰ}
+use Prim.Native.Nat.{ℕ, _+_, _-_}
+use mathlib.Core.List.{List}
 use lib.Dec.{eqb}
-use lib.ListN.{length, getD}
-use lib.Ieee.{Float, nan}
-use Rattle.float.specs.Arith.{_≺_, fMax, if_then_else_}
-use Rattle.lists.specs.Turns.{Turn, told}
+use lib.Ieee.{Float}
+use Rattle.float.specs.Arith.{if_then_else_}
+use Rattle.lists.specs.Turns.{Turn}
 use Rattle.grid.specs.declared.Grid.{Grid}
 use Rattle.mesh.specs.Mesh.{Mesh}
 use Rattle.queue.specs.declared.Entry.{Entry}
 use Rattle.run.specs.Run.{RunInput, State}
 use Rattle.run_state.specs.declared.Progress.{Progress}
-use Rattle.run_state.specs.Told.{refusedBy, stateOf, Holds, GoodIn, Told, ToldByKeys, QueuedCells}
-use Rattle.entries.specs.Row.{rowDistances, rowCells, rowTriangles, HeldRow}
+use Rattle.run_state.specs.Told.{refusedBy, Holds, GoodIn, Told, ToldByKeys, QueuedCells}
+use Rattle.entries.specs.Row.{rowDistances, rowCells, rowTriangles}
 use Rattle.entries_batch.specs.declared.Batch.{Batch}
-use Rattle.entries_batch.specs.Batch.{entryIn, queueAll}
-
--- the state that a row holds
-abbrev pub stateIn : (Entry → Entry → Bool) → List Float → List ℕ → List Entry → Progress → State
-stateIn le field names row p = stateOf le field names (rowDistances row) (rowCells row) (rowTriangles row) p
+use Rattle.entries_batch.specs.Batch.{queueAll}
 
 -- the slices are of the right lengths and the row holds n waiting entries
 abbrev pub HoldsRow : Grid → List Float → List ℕ → List Entry → ℕ → Type 0

@@ -28,14 +28,14 @@ loop-holds c = gathering-starts _ _ _ _ _ _ _ refl refl
 consider-requires : tie.Need-consider-requires Inv-loop μ-loop
 consider-requires c κs =
     let turn : tie.In-loop Inv-loop μ-loop = search in
-    may-pass _ _ _ _ _ (turn .before .loop .inv) (entry turn .pre) (turn .loop-test .taken)
+    may-pass _ _ _ _ _ (turn .before .loop .inv) (turn .loop-test .taken) (entry turn .pre)
 
 returns : tie.Need-returns Inv-loop μ-loop
 returns c =
     let considered : tie.After-consider Inv-loop μ-loop = search in
     let turn : tie.In-loop Inv-loop μ-loop = search in
     let verdict = considered .consider in
-    gathering-stops _ _ _ _ _ (turn .before .loop .inv) (entry turn .pre) (turn .loop-test .taken) _ (verdict .ensures) (verdict .kept .0) (verdict .kept .1 .0)
+    gathering-stops _ _ _ _ _ (turn .before .loop .inv) (turn .loop-test .taken) _ (verdict .ensures) (verdict .kept .0) (verdict .kept .1 .0)
     (c .if1 .taken)
 
 loop-again : tie.Need-loop-again Inv-loop μ-loop
@@ -43,7 +43,7 @@ loop-again c =
     let considered : tie.After-consider Inv-loop μ-loop = search in
     let turn : tie.In-loop Inv-loop μ-loop = search in
     let verdict = considered .consider in
-    gathering-on _ _ _ _ _ (turn .before .loop .inv) (entry turn .pre) (turn .loop-test .taken) _ (verdict .ensures) (verdict .kept .0) (verdict .kept .1 .0)
+    gathering-on _ _ _ _ _ (turn .before .loop .inv) (turn .loop-test .taken) _ (verdict .ensures) (verdict .kept .0) (verdict .kept .1 .0)
     (c .before .before .if1 .left) (c .counted .ensures)
 
 returns-2 : tie.Need-returns-2 Inv-loop μ-loop

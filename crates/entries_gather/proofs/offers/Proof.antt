@@ -1,8 +1,7 @@
 -- `offers`: what `gather` tells of the cells around. Assumes nothing.
 use borrow.Author.Needs.{needs}
-use mathlib.Core.Path.{refl}
-use Rattle.entries_consider.proofs.Considers.{place-at}
-use Rattle.entries_gather.proofs.Gathering.{around-listed, all-offered}
+use mathlib.Core.Path.{refl, _∙_}
+use Rattle.run_around.proofs.Places.{places-fit, all-steps}
 use Rattle.entries_gather.proofs.offers.Statement.{statement}
 use Rattle.entries_gather.proofs.offers.Tie as tie
 
@@ -15,14 +14,13 @@ gather-requires : tie.Need-gather-requires
 gather-requires c κs =
     let l = c .before .before .before .before .before .before in
     let s = l .before .before .before .before .before .before .before .before in
-    around-listed _ _ _ _ _ (l .look-around .ensures) _ _ (s .pre .2) (s .pre .3) place-at
+    places-fit (l .look-around .ensures) (s .pre .2) (s .pre .3)
 
 returns : tie.Need-returns
 returns c =
     let g = c .before .before .before .before in
     let l = g .before .before .before .before .before .before .before in
-    let s = l .before .before .before .before .before .before .before .before in
-    all-offered _ _ _ _ _ (l .look-around .ensures) _ _ (s .pre .2) (s .pre .3) (g .gather .ensures)
+    record { few = g .gather .ensures .few; is = λ room any s. all-steps (l .look-around .ensures) room any _ ∙ g .gather .ensures .is _ s }
 
 pub offers-spec : {M : Type 1} → statement M
 offers-spec =

@@ -1,19 +1,17 @@
 -- `entries_run::run_row` meets its contract: a walk of its MIR, by hand. Seeding may have been refused; else the field and the names are shared out while the
 -- cells are queued, and lent on for spreading. Assumes nothing.
-use Rattle.walking.proofs.Prelude.{_≡_, refl, sym, _∙_, _/_, arith, Bool, List, [], _∷_, map, length, URA, Val, SProp, ent, via, Memory, Routine, Heap, Env, WpFn, Tables, Atoms, Fun, givenOf, tables, tablesOf, Given, Sq, prop, runs, atRet, _$_, !, by, move, bin, WpFn-mono, u32, f32, Meets, tripleOf, Triple, entered, cited, needs, walkOf, Walks, ends-at, walked, walk-meets, onEntry}
-use Rattle.walking.proofs.Prelude.{empty, holds, Blocks, envOf, Locals, opd, copies, puts, returns-at, lends-on, enters, returns-if, Slice, taken, holding, fitsAt, Valued, Arg, value, shown, lent, seen, slices, Changes, lefts, Long, fitting, after, bound-to, words, asking, asking-nothing, calls, own-bound, typed, from-entry, to-exit, a-u32, a-usize, Sort, a-value, to-look, to-write, stays, spells, tells, all-go}
-use Rattle.queue.specs.declared.Entry.{Entry}
-use Rattle.queue.specs.Order.{orderOf}
+use Rattle.walking.proofs.Prelude.{refl, sym, _∙_, List, [], _∷_, map, length, URA, Val, SProp, ent, via, Memory, Routine, Heap, Env, WpFn, Tables, Atoms, Fun, givenOf, tables, tablesOf, Given, Sq, prop, runs, atRet, _$_, !, by, move, bin, WpFn-mono, u32, f32, Meets, tripleOf, Triple, entered, cited, needs, walkOf, Walks, ends-at, walked, walk-meets, onEntry}
+use Rattle.walking.proofs.Prelude.{empty, holds, Blocks, envOf, Locals, opd, copies, puts, returns-at, lends-on, enters, returns-if, Slice, taken, holding, Valued, Arg, value, shown, lent, seen, slices, Changes, lefts, Long, fitting, after, bound-to, words, asking, asking-nothing, calls, calls-is, own-bound, typed, from-entry, to-exit, a-u32, Sort, a-value, to-look, to-write, stays, spells, tells, all-go}
 use Rattle.queue.proofs.Entry as E
 use Rattle.mesh.specs.Mesh.{Mesh, meshOf}
 use Rattle.run_state.specs.Told.{Fit}
 use Rattle.run.specs.Run.{spreading}
 use Rattle.entries.proofs.ByValue.{a-topology, a-given}
-use Rattle.entries_state.specs.Records.{QueuedCells, ToldRow}
+use Rattle.entries_state.specs.Records.{ToldRow, QueuedCellsRow}
 use Rattle.entries_state.proofs.ByValue.{a-grid, a-terms, a-progress}
 use Rattle.entries_state.proofs.Counts.{not-zero, is-zero}
 use Rattle.entries_run.specs.Seeded.{Seeded, begunBy}
-use Rattle.entries_run.proofs.Rows.{LeavesRow, cells-few, seeding-refused, nothing-waits, queueing-refused, queueing-holds, none-taken, spreading-ends}
+use Rattle.entries_run.proofs.Rows.{LeavesRow, cells-few, seeding-refused, queueing-refused, queueing-holds, queueing-good, none-taken, spreading-ends}
 use Rattle.entries_run.proofs.begun as begun
 use Rattle.entries_queue.proofs.queue_cells as queue-cells
 use Rattle.entries_spread.proofs.spread as spread
@@ -39,18 +37,12 @@ module _ {M : Type 1} (𝓤 : URA M) (H : Heap 𝓤) (A : Atoms 𝓤) (W : Given
     abbrev mesh : Mesh
     mesh = meshOf (vertices .ref .now) (topology .it) (given .it) (indices .ref .now)
 
-    abbrev count : Valued (a-usize W)
-    count = record { it = length (vertices .ref .now) / 3; is = (refl, omega (arith, fitsAt vertices)) }
-
-    abbrev order : Entry → Entry → Bool
-    order = orderOf (topology .it) (given .it) (indices .ref .now) (count .it)
-
     -- what is passed on
     abbrev to-begun : List (Arg 𝓤 H A)
     to-begun = value _ number ∷ []
 
     abbrev to-queue : Valued (a-progress W) → List (Arg 𝓤 H A)
-    to-queue p = seen field ∷ seen names ∷ lent row ∷ value _ p ∷ value _ topology ∷ value _ given ∷ shown indices ∷ value _ count ∷ []
+    to-queue p = seen field ∷ seen names ∷ lent row ∷ value _ p ∷ []
 
     abbrev to-spread : Slice E.the-row → Valued (a-progress W) → List (Arg 𝓤 H A)
     to-spread row₁ p = value _ grid ∷ shown vertices ∷ value _ topology ∷ value _ given ∷ shown indices ∷ lent field ∷ lent names ∷ lent row₁ ∷ value _ p ∷ value _ terms ∷ []
@@ -69,34 +61,29 @@ module _ {M : Type 1} (𝓤 : URA M) (H : Heap 𝓤) (A : Atoms 𝓤) (W : Given
       goes : Sq W (Locals 𝓤 H En (empty ∷ map holds (words ps)) ∷ slices ps []) (runs (𝓣 .C) (𝓣 .Λ) En f.Code.Mir.t-1 (atRet En Post))
       goes =
           -- what seeding came to
-          calls ! 𝓣 to-begun (a-progress W) (λ r zs. r ≡ begunBy (number .it)) (asking-nothing to-begun (λ n. met .0 (bound-to to-begun n))) refl refl (tt, refl) (λ p₀ _ _ is. puts ! (bin ! (opd ! refl) (opd ! refl) tt) tt (tt, tt) $
+          calls-is ! 𝓣 to-begun (a-progress W) (begunBy (number .it)) (asking-nothing to-begun (λ n. met .0 (bound-to to-begun n))) refl refl (tt, refl) (λ is _ _. puts ! (bin ! (opd ! refl) (opd ! refl) tt) tt (tt, tt) $
           returns-if ! (opd ! refl) (λ d. copies ! refl (tt, refl) $ returns-at ! Post refl refl tt $
-          leaves (field .ref .now, (names .ref .now, (row .ref .now, tt))) (refl, (refl, (refl, tt))) p₀ (seeding-refused (grid .it) mesh (number .it) (field .ref .now) (names .ref .now) (row .ref .now) (pre .0) (pre .1) (terms .it .limit) (p₀ .it) is (not-zero (p₀ .it .number) d))) (λ d.
+          leaves (field .ref .now, (names .ref .now, (row .ref .now, tt))) (refl, (refl, (refl, tt))) (record { it = begunBy (number .it); is = is }) (seeding-refused (pre .0) (pre .1) (terms .it .limit) (not-zero (number .it) d))) (λ d.
           -- the cells are queued
-          copies ! refl (tt, refl) $ puts ! (bin ! (opd ! refl) (opd ! refl) (omega arith)) tt (tt, record { fits = count .is .1 }) $
-          lends-on ! refl refl refl tt tt tt tt $ lends-on ! refl refl refl tt tt tt tt $ lends-on ! refl refl refl tt tt tt tt $ move ! (0 ∷ 3 ∷ 4 ∷ 5 ∷ 2 ∷ []) $
-          calls ! 𝓣 (to-queue p₀) (a-progress W) (λ r zs. QueuedCells order (field .ref .now) (names .ref .now) (row .ref .now) (p₀ .it) (zs .0) r)
-          (asking (to-queue p₀) _ (
-            pre .0 .ready .sound .few,
-            nothing-waits (grid .it) mesh (number .it) (field .ref .now) (names .ref .now) (row .ref .now) (pre .0) (pre .1) (terms .it .limit) (p₀ .it) is,
-            is-zero (p₀ .it .number) d,
-            pre .1 .names-long ∙ sym (pre .1 .field-long),
-            cells-few (grid .it) mesh (number .it) (field .ref .now) (names .ref .now) (row .ref .now) (pre .0) (pre .1) (terms .it .limit),
-          ) (λ n. met .1 (bound-to (to-queue p₀) n))) refl refl (tt, refl) (λ p₁ zs l all.
-          move ! (0 ∷ 5 ∷ 4 ∷ 1 ∷ 2 ∷ 3 ∷ []) $ puts ! (bin ! (opd ! refl) (opd ! refl) tt) tt (tt, tt) $
+          lends-on ! refl refl refl tt tt tt tt $ lends-on ! refl refl refl tt tt tt tt $ lends-on ! refl refl refl tt tt tt tt $ move ! (0 ∷ 3 ∷ 4 ∷ 5 ∷ []) $
+          calls ! 𝓣 (to-queue (record { it = begunBy (number .it); is = is })) (a-progress W) (λ r zs. QueuedCellsRow (field .ref .now) (names .ref .now) (row .ref .now) (begunBy (number .it)) (zs .0) r)
+          (asking (to-queue (record { it = begunBy (number .it); is = is })) _ (pre .1 .empty, is-zero (number .it) d, pre .1 .names-long ∙ sym (pre .1 .field-long), cells-few (pre .0) (pre .1))
+          (λ n. met .1 (bound-to (to-queue (record { it = begunBy (number .it); is = is })) n))) refl refl (tt, refl) (λ p zs l all.
+          move ! (0 ∷ 4 ∷ 5 ∷ 1 ∷ 2 ∷ 3 ∷ []) $ puts ! (bin ! (opd ! refl) (opd ! refl) tt) tt (tt, tt) $
           returns-if ! (opd ! refl) (λ e. copies ! refl (tt, refl) $ returns-at ! Post refl refl tt $
-          leaves (field .ref .now, (names .ref .now, (zs .0, tt))) (refl, (refl, (l .0, tt))) p₁ (queueing-refused (grid .it) mesh (number .it) (field .ref .now) (names .ref .now) (row .ref .now) (pre .0) (pre .1) (terms .it .limit) (p₀ .it) is (is-zero (p₀ .it .number) d) (zs .0) (p₁ .it) (l .0) all (not-zero (p₁ .it .number) e))) (λ e.
+          leaves (field .ref .now, (names .ref .now, (zs .0, tt))) (refl, (refl, (l .0, tt))) p (queueing-refused (pre .0) (pre .1) (is-zero (number .it) d) (zs .0) all (terms .it .limit) (not-zero (p .it .number) e))) (λ e.
           -- and spread
           lends-on ! refl refl refl tt tt tt tt $ lends-on ! refl refl refl tt tt tt tt $ lends-on ! refl refl refl tt tt tt tt $
-          calls ! 𝓣 (to-spread (holding row (zs .0) (l .0)) p₁) (a-progress W) (λ r us. ToldRow (grid .it) mesh (λ g. spreading g (terms .it .limit)) (field .ref .now) (names .ref .now) (zs .0) (p₁ .it) (us .0) (us .1 .0) (us .1 .1 .0) r)
-          (asking (to-spread (holding row (zs .0) (l .0)) p₁) _ (
-            pre .0 .ready,
-            queueing-holds (grid .it) mesh (number .it) (field .ref .now) (names .ref .now) (row .ref .now) (pre .0) (pre .1) (terms .it .limit) (p₀ .it) is (is-zero (p₀ .it .number) d) (zs .0) (p₁ .it) (l .0) all,
-            is-zero (p₁ .it .number) e,
-            none-taken (grid .it) mesh (number .it) (field .ref .now) (names .ref .now) (row .ref .now) (pre .0) (pre .1) (terms .it .limit) (p₀ .it) is (is-zero (p₀ .it .number) d) (zs .0) (p₁ .it) (l .0) all (is-zero (p₁ .it .number) e),
-          ) (λ n. met .2 (bound-to (to-spread (holding row (zs .0) (l .0)) p₁) n))) refl refl (tt, refl) (λ r us k told.
+          calls ! 𝓣 (to-spread (holding row (zs .0) (l .0)) p) (a-progress W) (λ r us. ToldRow (grid .it) mesh (λ g. spreading g (terms .it .limit)) (field .ref .now) (names .ref .now) (zs .0) (p .it) (us .0) (us .1 .0) (us .1 .1 .0) r)
+          (asking (to-spread (holding row (zs .0) (l .0)) p) _ (
+            pre .0,
+            queueing-holds (pre .0) (pre .1) (is-zero (number .it) d) (zs .0) all,
+            queueing-good (pre .0) (pre .1) (is-zero (number .it) d) (zs .0) all (l .0) (is-zero (p .it .number) e),
+            is-zero (p .it .number) e,
+            none-taken (pre .0) (pre .1) (is-zero (number .it) d) (zs .0) all (l .0) (is-zero (p .it .number) e),
+          ) (λ n. met .2 (bound-to (to-spread (holding row (zs .0) (l .0)) p) n))) refl refl (tt, refl) (λ r us k told.
           returns-at ! Post refl refl tt $
-          leaves us (k .0, (k .1 .0, (k .1 .1 .0 ∙ l .0, tt))) r (spreading-ends (grid .it) mesh (number .it) (field .ref .now) (names .ref .now) (row .ref .now) (pre .0) (pre .1) (terms .it .limit) (p₀ .it) is (is-zero (p₀ .it .number) d) (zs .0) (p₁ .it) (l .0) all (us .0) (us .1 .0) (us .1 .1 .0) (r .it) (is-zero (p₁ .it .number) e) told))))))
+          leaves us (k .0, (k .1 .0, (k .1 .1 .0 ∙ l .0, tt))) r (spreading-ends (pre .0) (pre .1) (is-zero (number .it) d) (zs .0) all (l .0) (is-zero (p .it .number) e) (terms .it .limit) (us .0) (us .1 .0) (us .1 .1 .0) (r .it) told))))))
 
     walk : Pre → ent 𝓤 (onEntry 𝓤 H A f.signature (own-bound ps .0 .0) (own-bound ps .0 .1) (own-bound ps .0 .3) (own-bound ps .0 .4)) (WpFn 𝓤 H (𝓣 .C) (𝓣 .Λ) f.Code.function (words ps) Post)
     walk pre = from-entry 𝓤 H A W ps (enters ! (𝓣 .C) (𝓣 .Λ) _ _ f.Code.function (words ps) Post refl (typed ps) (goes pre))

@@ -6,15 +6,17 @@ use Rattle.queue.specs.declared.Entry.{Entry}
 use Rattle.queue.proofs.Entry as E
 use Rattle.mesh.specs.Mesh.{Mesh, meshOf}
 use Rattle.run.specs.Run.{spreading}
-use Rattle.run_state.specs.Told.{Ready, orderIn}
+use Rattle.run_state.specs.Told.{orderIn, Fit}
 use Rattle.entries_gather.specs.Gathered.{PopOffered}
-use Rattle.run_spread.proofs.Spreads.{spread-begins, spread-ends}
-use Rattle.entries.specs.Row.{TakenRow}
+use Rattle.run_pop.proofs.Pops.{first-known}
+use Rattle.run_spread.proofs.Spreads.{Spreads, spread-begins, spread-ends, spread-stops, spread-on, counted}
+use Rattle.entries.specs.Row.{rowDistances, rowCells, rowTriangles, TakenRow}
 use Rattle.entries.proofs.ByValue.{a-topology, a-given, an-entry}
-use Rattle.entries_state.specs.Records.{poppedBy, HoldsRow, ToldRow, QueuedAll}
+use Rattle.entries.proofs.Projections.{same-room}
+use Rattle.entries_state.specs.Records.{poppedBy, HoldsRow, GoodRow, ToldRow, QueuedAll}
 use Rattle.entries_state.proofs.ByValue.{a-grid, a-terms, a-progress, a-batch, waiting-of}
 use Rattle.entries_state.proofs.Counts.{not-zero, is-zero}
-use Rattle.entries_spread.proofs.Popping.{SpreadsRow, taken-known, ends-spent, still-held, after-pop}
+use Rattle.entries_spread.proofs.Popping.{ends-spent, fewer, still-held, pop}
 use Rattle.entries_state.proofs.popped as popped
 use Rattle.entries_take.proofs.take as take
 use Rattle.entries_gather.proofs.offers as offers
@@ -55,14 +57,14 @@ module _ {M : Type 1} (𝓤 : URA M) (H : Heap 𝓤) (A : Atoms 𝓤) (W : Given
     to-offers fs ns e = value _ grid ∷ shown vertices ∷ value _ topology ∷ value _ given ∷ shown indices ∷ lent fs ∷ lent ns ∷ value _ e ∷ value _ terms ∷ []
 
     abbrev to-push : Slice E.the-row → Valued (a-progress W) → Valued (a-batch W) → List (Arg 𝓤 H A)
-    to-push q p b = lent q ∷ value _ p ∷ value _ b ∷ value _ topology ∷ value _ given ∷ shown indices ∷ value _ count ∷ []
+    to-push q p b = lent q ∷ value _ p ∷ value _ b ∷ []
 
     -- the field, the names and the row, and the counts
     abbrev State : Type 0
     State = (zs : Changes ps) × Long ps zs × Valued (a-progress W)
 
     abbrev Pre : Type 0
-    Pre = Ready (grid .it) mesh × HoldsRow (grid .it) mesh (field .ref .now) (names .ref .now) (row .ref .now) (begin .it .waiting) × (begin .it .number ≡ 0) × (begin .it .pops ≡ 0)
+    Pre = Fit (grid .it) mesh × HoldsRow (grid .it) (field .ref .now) (names .ref .now) (row .ref .now) (begin .it .waiting) × GoodRow (grid .it) mesh (field .ref .now) (names .ref .now) (row .ref .now) (begin .it) × (begin .it .number ≡ 0) × (begin .it .pops ≡ 0)
 
     module _ (pre : Pre) (bs : Blocks (f.Code.function .locals)) where
       abbrev En : Env 𝓤 H
@@ -72,7 +74,9 @@ module _ {M : Type 1} (𝓤 : URA M) (H : Heap 𝓤) (A : Atoms 𝓤) (W : Given
       At w = Locals 𝓤 H En ((empty ∷ map holds (words ps)) ++ (holds (a-usize W .val (count .it)) ∷ holds (a-progress W .val (w .2 .it)) ∷ [])) ∷ slices (after ps (w .0) (w .1)) []
 
       abbrev Facts : ℕ → State → Type 0
-      Facts t w = (w .2 .it .pops + t ≡ terms .it .limit) × SpreadsRow (grid .it) mesh (terms .it .limit) (field .ref .now) (names .ref .now) (row .ref .now) (begin .it) (w .0 .0) (w .0 .1 .0) (w .0 .1 .1 .0) (w .2 .it)
+      Facts t w = let zs = w .0 .1 .1 .0 in (w .2 .it .pops + t ≡ terms .it .limit) × Spreads (grid .it) mesh (terms .it .limit)
+          (field .ref .now) (names .ref .now) (rowDistances (row .ref .now)) (rowCells (row .ref .now)) (rowTriangles (row .ref .now)) (begin .it)
+          (w .0 .0) (w .0 .1 .0) (rowDistances zs) (rowCells zs) (rowTriangles zs) (w .2 .it)
 
       leaves : (w : State) → ToldRow (grid .it) mesh (λ g. spreading g (terms .it .limit)) (field .ref .now) (names .ref .now) (row .ref .now) (begin .it) (w .0 .0) (w .0 .1 .0) (w .0 .1 .1 .0) (w .2 .it) → Sq W (At w) (runs (𝓣 .C) (𝓣 .Λ) En f.Code.Mir.t-5 (atRet En Post))
       leaves w told =
@@ -88,25 +92,28 @@ module _ {M : Type 1} (𝓤 : URA M) (H : Heap 𝓤) (A : Atoms 𝓤) (W : Given
           calls ! 𝓣 (to-popped p) (a-progress W) (λ r zs. r ≡ poppedBy (terms .it .limit) (p .it)) (asking (to-popped p) _ (some h, facts .1 .within) (λ n. met .0 (bound-to (to-popped p) n))) refl refl (tt, refl) (λ p₁ _ _ is.
           puts ! (bin ! (opd ! refl) (opd ! refl) tt) tt (tt, tt) $
           breaks ! (opd ! refl) (λ c. exec ! (𝓣 .C) (𝓣 .Λ) En f.Code.Mir.t-5 (atRet En Post) $ keeps-first ! 13 tt $
-          leaves (w .0, w .1, p₁) (ends-spent (grid .it) mesh (terms .it .limit) (field .ref .now) (names .ref .now) (row .ref .now) (begin .it) fs ns zs (p .it) (facts .1) (some h) (p₁ .it) is (not-zero (p₁ .it .number) c))) (λ c.
+          leaves (w .0, w .1, p₁) (ends-spent (facts .1) is (some h) (not-zero (p₁ .it .number) c))) (λ c.
           -- the first is taken
           lends-on ! refl refl refl tt tt tt tt $ move ! (0 ∷ 5 ∷ 2 ∷ []) $
-          calls ! 𝓣 (to-take the-row p) (an-entry W) (λ e us. TakenRow (orderIn mesh) e zs (us .0) (p .it .waiting)) (asking (to-take the-row p) _ (pre .0 .sound .few, facts .1 .holds .held, some h) (λ n. met .1 (bound-to (to-take the-row p) n))) refl refl (tt, refl) (λ e us lr took.
+          calls ! 𝓣 (to-take the-row p) (an-entry W) (λ e us. TakenRow (orderIn mesh) e zs (us .0) (p .it .waiting)) (asking (to-take the-row p) _ (facts .1 .holds .held, some h, facts .1 .states .good 0 .apart) (λ n. met .1 (bound-to (to-take the-row p) n))) refl refl (tt, refl) (λ e us lr took.
           move ! (0 ∷ 3 ∷ 2 ∷ 4 ∷ 5 ∷ 1 ∷ []) $
           -- and offered to the cells around
           lends-on ! refl refl refl tt tt tt tt $ lends-on ! refl refl refl tt tt tt tt $
           calls ! 𝓣 (to-offers the-field the-names e) (a-batch W) (λ b vs. PopOffered (grid .it) mesh (e .it) fs ns (vs .0) (vs .1 .0) b)
-          (asking (to-offers the-field the-names e) _ (pre .0, taken-known (grid .it) mesh fs ns zs (p .it) (facts .1 .holds) (e .it) (us .0) took (lr .0), facts .1 .holds .field-long, facts .1 .holds .names-long) (λ n. met .2 (bound-to (to-offers the-field the-names e) n))) refl refl (tt, refl) (λ b vs lo off.
+          (asking (to-offers the-field the-names e) _ (pre .0 .ready, first-known (p .it) (facts .1 .states) took, facts .1 .holds .field-long, facts .1 .holds .names-long) (λ n. met .2 (bound-to (to-offers the-field the-names e) n))) refl refl (tt, refl) (λ b vs lo off.
           -- what they took up is queued
-          lends-on ! refl refl refl tt tt tt tt $ move ! (0 ∷ 5 ∷ 2 ∷ []) $
-          calls ! 𝓣 (to-push (holding the-row (us .0) (lr .0)) p₁ b) (a-progress W) (λ r qs. QueuedAll (orderIn mesh) (b .it) (us .0) (p₁ .it) (qs .0) r)
-          (asking (to-push (holding the-row (us .0) (lr .0)) p₁ b) _ (pre .0 .sound .few, still-held (grid .it) mesh (terms .it .limit) (field .ref .now) (names .ref .now) (row .ref .now) (begin .it) fs ns zs (p .it) (facts .1) (some h) (p₁ .it) is (is-zero (p₁ .it .number) c) (e .it) (us .0) took (lr .0), is-zero (p₁ .it .number) c, off .few)
+          lends-on ! refl refl refl tt tt tt tt $ move ! (0 ∷ 5 ∷ []) $
+          calls ! 𝓣 (to-push (holding the-row (us .0) (lr .0)) p₁ b) (a-progress W) (λ r qs. QueuedAll (b .it) (us .0) (p₁ .it) (qs .0) r)
+          (asking (to-push (holding the-row (us .0) (lr .0)) p₁ b) _ (still-held (facts .1) is (is-zero (p₁ .it .number) c) took, is-zero (p₁ .it .number) c, off .few)
           (λ n. met .3 (bound-to (to-push (holding the-row (us .0) (lr .0)) p₁ b) n))) refl refl (tt, refl) (λ p₂ qs lq all.
-          knowing ! (after-pop (grid .it) mesh (terms .it .limit) (field .ref .now) (names .ref .now) (row .ref .now) (begin .it) fs ns zs (p .it) (facts .1) (some h) (p₁ .it) is (is-zero (p₁ .it .number) c) (e .it) (us .0) took (lr .0) (vs .0) (vs .1 .0) (b .it) (qs .0) (p₂ .it) (lo .0) (lo .1 .0) off all (lq .0)) (λ so.
-          move ! (0 ∷ 3 ∷ 2 ∷ 4 ∷ 5 ∷ 1 ∷ []) $ puts ! (bin ! (opd ! refl) (opd ! refl) tt) tt (tt, tt) $
-          breaks-last ! (opd ! refl) (λ d. exec ! (𝓣 .C) (𝓣 .Λ) En f.Code.Mir.t-5 (atRet En Post) $ keeps-first ! 13 tt $ leaves (came (vs .0) (vs .1 .0) (qs .0) (lo .0) (lo .1 .0) (lq .0 ∙ lr .0) p₂) (so .0 (not-zero (p₂ .it .number) d))) (λ d.
-          keeps-first ! 13 tt $ knowing ! (so .1 (is-zero (p₂ .it .number) d)) (λ on.
-          again-at ! At Facts t (terms .it .limit - p₂ .it .pops) (came (vs .0) (vs .1 .0) (qs .0) (lo .0) (lo .1 .0) (lq .0 ∙ lr .0) p₂) (omega (arith, facts .0, on .1, on .2)) (omega (arith, on .1, on .2), on .0)))))))))) (λ h.
+          knowing ! (pop (facts .1) is (is-zero (p₁ .it .number) c) took (pre .0) (same-room zs (us .0) (lr .0)) (lo .0) (lo .1 .0) off (all (vs .0) (vs .1 .0))) (λ one.
+          knowing ! (fewer (facts .1) is (is-zero (p₁ .it .number) c)) (λ few.
+          move ! (0 ∷ 2 ∷ 3 ∷ 4 ∷ 5 ∷ 1 ∷ []) $ puts ! (bin ! (opd ! refl) (opd ! refl) tt) tt (tt, tt) $
+          breaks-last ! (opd ! refl) (λ d. exec ! (𝓣 .C) (𝓣 .Λ) En f.Code.Mir.t-5 (atRet En Post) $ keeps-first ! 13 tt $
+          leaves (came (vs .0) (vs .1 .0) (qs .0) (lo .0) (lo .1 .0) (lq .0 ∙ lr .0) p₂) (spread-stops (facts .1) (some h) one few (not-zero (p₂ .it .number) d))) (λ d.
+          keeps-first ! 13 tt $ knowing ! (counted (facts .1) (some h) one (is-zero (p₂ .it .number) d)) (λ more.
+          again-at ! At Facts t (terms .it .limit - p₂ .it .pops) (came (vs .0) (vs .1 .0) (qs .0) (lo .0) (lo .1 .0) (lq .0 ∙ lr .0) p₂) (omega (arith, facts .0, more, few))
+          (omega (arith, more, few), spread-on (facts .1) (some h) one (pre .0) few (same-room zs (qs .0) (lq .0 ∙ lr .0)) (is-zero (p₂ .it .number) d)))))))))))) (λ h.
           exec ! (𝓣 .C) (𝓣 .Λ) En f.Code.Mir.t-5 (atRet En Post) $ keeps-first ! 13 tt $ leaves w (spread-ends (facts .1) (nltb→le 0 (p .it .waiting) h)))
         where
           fs : List Float
@@ -140,7 +147,7 @@ module _ {M : Type 1} (𝓤 : URA M) (H : Heap 𝓤) (A : Atoms 𝓤) (W : Given
       goes : Sq W (Locals 𝓤 H En (empty ∷ map holds (words ps)) ∷ slices ps []) (runs (𝓣 .C) (𝓣 .Λ) En f.Code.Mir.t-1 (atRet En Post))
       goes =
           copies ! refl (tt, refl) $ puts ! (bin ! (opd ! refl) (opd ! refl) (omega arith)) tt (tt, record { fits = count .is .1 }) $ copies ! refl (tt, refl) $ first ! $ blocks ! $ keeps-first ! 13 tt $
-          loops-at ! 𝓣 At Facts turn (terms .it .limit) ((field .ref .now, (names .ref .now, (row .ref .now, tt))), (refl, (refl, (refl, tt))), begin) (omega (arith, pre .3), spread-begins (pre .2) (pre .3) (pre .1))
+          loops-at ! 𝓣 At Facts turn (terms .it .limit) ((field .ref .now, (names .ref .now, (row .ref .now, tt))), (refl, (refl, (refl, tt))), begin) (omega (arith, pre .4), spread-begins (pre .3) (pre .4) (pre .1) (pre .2))
 
     walk : Pre → ent 𝓤 (onEntry 𝓤 H A f.signature (own-bound ps .0 .0) (own-bound ps .0 .1) (own-bound ps .0 .3) (own-bound ps .0 .4)) (WpFn 𝓤 H (𝓣 .C) (𝓣 .Λ) f.Code.function (words ps) Post)
     walk pre = from-entry 𝓤 H A W ps (enters ! (𝓣 .C) (𝓣 .Λ) _ _ f.Code.function (words ps) Post refl (typed ps) (goes pre))

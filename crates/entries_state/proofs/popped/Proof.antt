@@ -1,6 +1,5 @@
 -- `popped`, by its test. Assumes nothing.
 use mathlib.Core.Path.{_∙_}
-use native.Mathlib.Omega.{arith}
 use borrow.Author.Needs.{needs}
 use Rattle.entries_state.proofs.Counts.{spent, one-taken}
 use Rattle.entries_state.proofs.popped.Statement.{statement}
