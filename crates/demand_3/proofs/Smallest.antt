@@ -5,7 +5,7 @@ use Prim.Native.Nat.{ℕ, _≤_, _<_}
 use native.Mathlib.Omega.{arith}
 use mathlib.Core.Path.{_≡_, refl, sym, ap, _∙_, subst}
 use mathlib.Core.Bool.{true}
-use mathlib.Core.List.{List, [], _∷_, List·Memᴰ, List·Memᴰ·head, List·Memᴰ·tail}
+use mathlib.Core.List.{List·Memᴰ, List·Memᴰ·head, List·Memᴰ·tail}
 use lib.ListN.{length}
 use lib.Ieee.{binary32, ofBits}
 use lib.Ieee.Bits.{ofBits-toBits}
@@ -17,7 +17,7 @@ use Rattle.lists.proofs.Turns.{turns-keep}
 use Rattle.lists.proofs.Made.{goes-same}
 use Rattle.queue.specs.declared.Entry.{Entry}
 use Rattle.queue.specs.InOrder.{Total}
-use Rattle.queue.specs.Order.{Apart}
+use Rattle.queue.specs.Keys.{Apart}
 use Rattle.queue.proofs.Meaning.{Sorted, sorted-insert, after-member}
 use Rattle.queue.proofs.Order.{order-of, nearer-first, larger-cell-first}
 use Rattle.mesh_topology.specs.Topology.{trianglesOf, kth}

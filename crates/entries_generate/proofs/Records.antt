@@ -9,7 +9,7 @@ use Rattle.grid.specs.declared.Grid.{Grid}
 use Rattle.grid.specs.Index.{total}
 use Rattle.mesh.specs.Mesh.{Mesh}
 use Rattle.queue.specs.declared.Entry.{Entry}
-use Rattle.queue.specs.Order.{byKeys}
+use Rattle.queue.specs.Keys.{byKeys}
 use Rattle.queue.proofs.Uses as Queue
 use Rattle.run.specs.Run.{run}
 use Rattle.run.specs.Input.{runInput}

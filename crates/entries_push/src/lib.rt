@@ -3,7 +3,7 @@
 use queue::Entry;
 ghost use Prim.Native.Nat.{_<_};
 ghost use lib.ListN.{length};
-ghost use Rattle.queue.specs.Order.{byKeys};
+ghost use Rattle.queue.specs.Keys.{byKeys};
 ghost use Rattle.entries.specs.Row.{HeldRow, PushedRow};
 
 // Adds e to the n entries that wait. There must be room for it.

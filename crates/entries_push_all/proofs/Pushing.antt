@@ -9,7 +9,7 @@ use lib.Ieee.{Float}
 use Rattle.lists.specs.Turns.{Turn, told, turns}
 use Rattle.lists.proofs.Turns.{then-goes, then-refuses, told-goes, told-refuses}
 use Rattle.queue.specs.declared.Entry.{Entry}
-use Rattle.queue.specs.Order.{byKeys}
+use Rattle.queue.specs.Keys.{byKeys}
 use Rattle.run.specs.Run.{RunInput, State, queue}
 use Rattle.run_state.specs.declared.Progress.{Progress}
 use Rattle.run_state.specs.Told.{ToldByKeys}

@@ -4,7 +4,7 @@ use queue::Entry;
 use run_state::Progress;
 ghost use mathlib.Core.Path.{_≡_};
 ghost use Prim.Native.Nat.{_<_};
-ghost use Rattle.queue.specs.Order.{byKeys};
+ghost use Rattle.queue.specs.Keys.{byKeys};
 ghost use Rattle.entries.specs.Row.{HeldRow};
 ghost use Rattle.entries_state.specs.Records.{QueuedAll};
 

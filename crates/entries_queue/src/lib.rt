@@ -4,7 +4,7 @@ use run_state::Progress;
 ghost use mathlib.Core.Path.{_≡_};
 ghost use Prim.Native.Nat.{_≤_};
 ghost use lib.ListN.{length};
-ghost use Rattle.queue.specs.Order.{byKeys};
+ghost use Rattle.queue.specs.Keys.{byKeys};
 ghost use Rattle.entries.specs.Row.{HeldRow};
 ghost use Rattle.entries_state.specs.Records.{QueuedCellsRow};
 

@@ -11,7 +11,7 @@ use Rattle.grid.specs.declared.Grid.{Grid}
 use Rattle.grid.specs.Index.{total}
 use Rattle.mesh.specs.Mesh.{Mesh, trianglesIn}
 use Rattle.queue.specs.declared.Entry.{Entry}
-use Rattle.queue.specs.Order.{byKeys}
+use Rattle.queue.specs.Keys.{byKeys}
 use Rattle.run.specs.Run.{none}
 use Rattle.run_seed_cells.specs.Parts.{seedState, overTriangle}
 use Rattle.run_state.specs.declared.Progress.{Progress}

@@ -11,7 +11,7 @@ use Rattle.lists.specs.Turns.{goes}
 use Rattle.grid.specs.declared.Grid.{Grid}
 use Rattle.mesh.specs.Mesh.{Mesh}
 use Rattle.queue.specs.declared.Entry.{Entry}
-use Rattle.queue.specs.Order.{byKeys}
+use Rattle.queue.specs.Keys.{byKeys}
 use Rattle.queue.specs.Queue.{Held, Taken}
 use Rattle.run.specs.Run.{takeFirst, spreading}
 use Rattle.run.specs.Input.{runInput}

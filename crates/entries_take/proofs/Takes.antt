@@ -10,7 +10,8 @@ use Rattle.mesh_topology.specs.declared.Triangle.{Triangle}
 use Rattle.queue.specs.declared.Entry.{Entry}
 use Rattle.queue.specs.InOrder.{Total, inOrder}
 use Rattle.queue.specs.Heap.{Keeps, Gap, Out}
-use Rattle.queue.specs.Order.{goesFirst, byKeys, Apart}
+use Rattle.queue.specs.Order.{goesFirst}
+use Rattle.queue.specs.Keys.{byKeys, Apart}
 use Rattle.queue.specs.Queue.{blank}
 use Rattle.queue.proofs.Moves.{lowered, taken-some, taken-none}
 use Rattle.queue.proofs.Keys.{agree-back, by-keys, taken-by}

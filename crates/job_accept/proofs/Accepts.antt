@@ -5,7 +5,7 @@ use mathlib.Core.List.{List}
 use lib.ListN.{replicate}
 use lib.Ieee.{Float}
 use Rattle.float.specs.Arith.{fMax}
-use Rattle.queue.specs.Order.{byKeys}
+use Rattle.queue.specs.Keys.{byKeys}
 use Rattle.queue.proofs.Uses as Queue
 use Rattle.run.specs.Run.{none}
 use Rattle.job_checks.specs.declared.Lengths.{Lengths}

@@ -1,7 +1,7 @@
 -- What the end of a run gives: a refusal, or a run that is done; and that it is told by the lengths of the lent buffers alone. Assumes
 -- nothing.
 use Prim.Native.Nat.{ℕ}
-use mathlib.Core.Path.{_≡_, refl, sym, ap, _∙_, subst}
+use mathlib.Core.Path.{_≡_, sym, ap, _∙_, subst}
 use mathlib.Core.List.{List}
 use lib.ListN.{replicate}
 use lib.Ieee.{Float}
@@ -9,7 +9,7 @@ use Rattle.lists.specs.Turns.{Turn, goes, refuses, told}
 use Rattle.lists.proofs.Turns.{told-goes, told-refuses}
 use Rattle.grid.specs.declared.Grid.{Grid}
 use Rattle.mesh.specs.Mesh.{Mesh}
-use Rattle.queue.specs.Order.{byKeys}
+use Rattle.queue.specs.Keys.{byKeys}
 use Rattle.queue.specs.Queue.{Held, Cleared}
 use Rattle.queue.proofs.Uses.{left-zero}
 use Rattle.run.specs.Run.{State, run}

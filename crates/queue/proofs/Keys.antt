@@ -14,7 +14,8 @@ use Rattle.queue.specs.declared.Entry.{Entry}
 use Rattle.queue.specs.InOrder.{insert, inOrder}
 use Rattle.queue.specs.Heap.{Heap}
 use Rattle.queue.specs.Queue.{blank, entries, waiting, Held, Taken}
-use Rattle.queue.specs.Order.{goesFirst, Differ, Apart, byKeys}
+use Rattle.queue.specs.Order.{goesFirst}
+use Rattle.queue.specs.Keys.{Differ, Apart, byKeys}
 use Rattle.queue.proofs.Meaning.{in-insert, still-in}
 use Rattle.queue.proofs.Order.{hands-on}
 

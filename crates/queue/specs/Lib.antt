@@ -1,4 +1,5 @@
 pub mod Heap
 pub mod InOrder
+pub mod Keys
 pub mod Order
 pub mod Queue

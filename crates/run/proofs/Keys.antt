@@ -1,19 +1,18 @@
 -- The triple never decides in a run: from a good state every turn comes to the same where entries go by what lies in them alone. A turn
 -- uses the order only where it queues an entry, and a new entry differs in distance or cell from all that wait. Assumes nothing but what
 -- `Fair` asks of the input, and that its order goes by distance and cell first.
-use Prim.Native.Nat.{ℕ, _<_}
+use Prim.Native.Nat.{ℕ, _+_, _<_, max}
 use mathlib.Core.Path.{_≡_, refl, ap}
 use mathlib.Core.Bool.{Bool, true, false, cond}
 use mathlib.Core.List.{List, []}
 use lib.Dec.{ltb}
 use lib.ListN.{length}
 use lib.Ieee.{Float, isNan}
-use Prim.Native.Nat.{_+_, max}
 use Rattle.float.specs.Arith.{_≺_, fMax}
 use Rattle.lists.specs.Turns.{Turn, goes, refuses}
 use Rattle.lists.proofs.Turns.{turns-alike}
 use Rattle.queue.specs.declared.Entry.{Entry}
-use Rattle.queue.specs.Order.{byKeys}
+use Rattle.queue.specs.Keys.{byKeys}
 use Rattle.queue.proofs.Keys.{FromAll, Agree, same-insert}
 use Rattle.run.specs.Run.{RunInput, Place, off, at, State, held, named, entry, takes, offerAt, offer, queue, queueCell, queueing, spreadTo, spreadAround}
 use Rattle.run.specs.Good.{Good}

@@ -9,7 +9,7 @@ use mathlib.Core.List.{[], List·Memᴰ, List·Memᴰ·not-nil}
 use lib.ListN.{getD, set, replicate, getD-replicate}
 use Rattle.lists.specs.Turns.{Turn, goes}
 use Rattle.lists.proofs.Made.{goes-same, Made, turns-lead, turns-made, between-lead, between-made}
-use Rattle.queue.specs.Order.{Apart}
+use Rattle.queue.specs.Keys.{Apart}
 use Rattle.run.specs.Run.{RunInput, State, Box, none, atFirst, named, offer, nothingElse, seedLine, seedPlane, seedTriangle, seeding}
 use Rattle.run.specs.Good.{FieldSound, Falls, Good}
 use Rattle.run.proofs.Values.{Fair, Met, met-on, Took, sound-bare, took, passes-met}

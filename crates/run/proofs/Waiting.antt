@@ -14,7 +14,7 @@ use lib.Ieee.{Float, nan}
 use Rattle.lists.specs.Turns.{goes}
 use Rattle.queue.specs.declared.Entry.{Entry}
 use Rattle.queue.specs.InOrder.{insert}
-use Rattle.queue.specs.Order.{Differ, Apart}
+use Rattle.queue.specs.Keys.{Differ, Apart}
 use Rattle.queue.proofs.Keys.{FromAll}
 use Rattle.queue.proofs.Meaning.{length-insert, in-insert, still-in, from-insert}
 use Rattle.run.specs.Run.{RunInput, State, named, entry, takes, offer, queued, queue, taken}

@@ -10,7 +10,7 @@ use lib.ListN.{length, getD}
 use lib.Ieee.{Float, nan, isNan, binary32, toBits}
 use Rattle.float.specs.Arith.{_≺_, fMax}
 use Rattle.queue.specs.declared.Entry.{Entry}
-use Rattle.queue.specs.Order.{Apart}
+use Rattle.queue.specs.Keys.{Apart}
 use Rattle.run.specs.Run.{RunInput, State, none}
 
 -- the number by which distances are compared, their bit pattern

@@ -1,6 +1,6 @@
 -- The run whose entries go by what lies in them alone, as the code compares them. No one need believe that it is the run: proofs/Keys.antt
 -- shows that no turn of it comes to anything else. Definitions only.
-use Rattle.queue.specs.Order.{byKeys}
+use Rattle.queue.specs.Keys.{byKeys}
 use Rattle.run.specs.Run.{RunInput}
 
 -- the same input, with the entries in the order by keys

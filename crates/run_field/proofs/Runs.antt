@@ -13,7 +13,7 @@ use Rattle.grid.specs.declared.Grid.{Grid}
 use Rattle.grid.specs.Index.{total}
 use Rattle.mesh.specs.Mesh.{Mesh, trianglesIn}
 use Rattle.queue.specs.declared.Entry.{Entry}
-use Rattle.queue.specs.Order.{byKeys}
+use Rattle.queue.specs.Keys.{byKeys}
 use Rattle.queue.proofs.Uses.{none-waits, how-many-by}
 use Rattle.run.specs.Run.{RunInput, State, none, atFirst, seeding, queueCell, queueing, spreading, run}
 use Rattle.run.specs.Input.{runInput}

@@ -9,7 +9,7 @@ use Rattle.lists.specs.Turns.{Turn, told}
 use Rattle.grid.specs.declared.Grid.{Grid}
 use Rattle.grid.specs.Index.{total}
 use Rattle.mesh.specs.Mesh.{Mesh}
-use Rattle.queue.specs.Order.{byKeys}
+use Rattle.queue.specs.Keys.{byKeys}
 use Rattle.queue.specs.Queue.{Held}
 use Rattle.run.specs.Run.{State, none}
 use Rattle.run_state.specs.declared.Progress.{Progress}

@@ -11,7 +11,7 @@ use Rattle.float.specs.Arith.{_≺_}
 use Rattle.float.specs.RootOf.{rootOf}
 use Rattle.lists.specs.Turns.{told}
 use Rattle.lists.proofs.Turns.{told-goes}
-use Rattle.queue.specs.Order.{byKeys}
+use Rattle.queue.specs.Keys.{byKeys}
 use Rattle.queue.specs.Queue.{Held}
 use Rattle.run.specs.Run.{Place, none, entry, queue, offerAt}
 use Rattle.run.proofs.Ways.{offer-nan, offer-passed, offer-taken, is-nan, is-number}

@@ -7,7 +7,7 @@ ghost use Prim.Native.Nat.{_<_};
 ghost use lib.ListN.{length};
 ghost use lib.Ieee.{isNan};
 ghost use Rattle.float.specs.RootOf.{rootOf};
-ghost use Rattle.queue.specs.Order.{byKeys};
+ghost use Rattle.queue.specs.Keys.{byKeys};
 ghost use Rattle.queue.specs.Queue.{Held};
 ghost use Rattle.run.specs.Run.{queue, offerAt};
 ghost use Rattle.run_around.specs.Around.{placeOf, offerPlace, offerAll, Passable, PlacesFit};

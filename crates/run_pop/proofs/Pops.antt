@@ -10,7 +10,7 @@ use Rattle.grid.specs.declared.Grid.{Grid}
 use Rattle.grid.specs.Index.{total}
 use Rattle.mesh.specs.Mesh.{Mesh, trianglesIn}
 use Rattle.queue.specs.declared.Entry.{Entry}
-use Rattle.queue.specs.Order.{byKeys}
+use Rattle.queue.specs.Keys.{byKeys}
 use Rattle.queue.specs.Queue.{Held, Taken, waiting}
 use Rattle.queue.proofs.Keys.{held-by}
 use Rattle.run.specs.Run.{taken, spreadAround, takeFirst}

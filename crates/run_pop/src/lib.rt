@@ -7,7 +7,6 @@ use mesh_topology::Topology;
 use run_state::Progress;
 ghost use mathlib.Core.Path.{_≡_};
 ghost use Prim.Native.Nat.{_<_};
-ghost use lib.ListN.{length};
 ghost use Rattle.lists.specs.Turns.{goes};
 ghost use Rattle.mesh.specs.Mesh.{meshOf};
 ghost use Rattle.run.specs.Run.{takeFirst};

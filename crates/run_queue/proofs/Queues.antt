@@ -12,7 +12,7 @@ use Rattle.lists.specs.Turns.{goes, refuses, told}
 use Rattle.lists.proofs.Turns.{told-goes}
 use Rattle.queue.specs.declared.Entry.{Entry}
 use Rattle.queue.specs.InOrder.{insert}
-use Rattle.queue.specs.Order.{byKeys}
+use Rattle.queue.specs.Keys.{byKeys}
 use Rattle.queue.specs.Queue.{Held, Pushed, waiting}
 use Rattle.queue.proofs.Uses.{how-many}
 use Rattle.run.specs.Run.{RunInput, State, held, named, entry, queue, queued, queueCell}

@@ -5,7 +5,7 @@ use run_state::Progress;
 ghost use mathlib.Core.Path.{_≡_};
 ghost use Prim.Native.Nat.{_≤_, _<_, max};
 ghost use lib.ListN.{length};
-ghost use Rattle.queue.specs.Order.{byKeys};
+ghost use Rattle.queue.specs.Keys.{byKeys};
 ghost use Rattle.queue.specs.Queue.{Held};
 ghost use Rattle.run.specs.Run.{queueCell};
 ghost use Rattle.run_state.specs.Told.{ToldByKeys, Queued, QueuedCells};

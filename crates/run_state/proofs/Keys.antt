@@ -3,7 +3,7 @@
 use Prim.Native.Nat.{ℕ}
 use native.Mathlib.Omega.{arith}
 use native.Mathlib.Decide.{ℕ-discrete}
-use mathlib.Core.Path.{_≡_, refl, sym, ap, _∙_, subst}
+use mathlib.Core.Path.{_≡_, ap, _∙_}
 use mathlib.Core.List.{List, []}
 use lib.ListN.{length}
 use lib.Ieee.{Float}
@@ -14,7 +14,7 @@ use Rattle.grid.specs.Index.{total}
 use Rattle.grid.proofs.Facts.{bounds-of, on-axis}
 use Rattle.mesh.specs.Mesh.{Mesh, trianglesIn}
 use Rattle.queue.specs.declared.Entry.{Entry}
-use Rattle.queue.specs.Order.{Apart, byKeys}
+use Rattle.queue.specs.Keys.{Apart, byKeys}
 use Rattle.queue.specs.Queue.{waiting}
 use Rattle.queue.proofs.Keys.{Agree, agree-back, by-keys, same-waiting}
 use Rattle.queue.proofs.Uses.{none-waits}

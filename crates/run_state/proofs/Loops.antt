@@ -9,7 +9,7 @@ use lib.Ieee.{Float}
 use Rattle.lists.specs.Turns.{Turn, goes, told, turns}
 use Rattle.lists.proofs.Turns.{told-goes, turns-none, turns-on, turns-stop}
 use Rattle.grid.specs.declared.Grid.{Grid}
-use Rattle.queue.specs.Order.{byKeys}
+use Rattle.queue.specs.Keys.{byKeys}
 use Rattle.queue.specs.Queue.{Held}
 use Rattle.run.specs.Run.{RunInput, State}
 use Rattle.run_state.specs.declared.Progress.{Progress}

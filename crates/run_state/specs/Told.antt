@@ -12,7 +12,8 @@ use Rattle.grid.specs.Index.{total}
 use Rattle.grid.specs.Bounds.{inBounds}
 use Rattle.mesh.specs.Mesh.{Mesh, Sound, vertexCount, trianglesIn}
 use Rattle.queue.specs.declared.Entry.{Entry}
-use Rattle.queue.specs.Order.{orderOf, byKeys}
+use Rattle.queue.specs.Order.{orderOf}
+use Rattle.queue.specs.Keys.{byKeys}
 use Rattle.queue.specs.Queue.{Held, waiting}
 use Rattle.run.specs.Run.{RunInput, State, queue, queueCell}
 use Rattle.run.specs.Input.{runInput}

@@ -3,7 +3,7 @@
 use Rattle.walking.proofs.Prelude.{_≡_, refl, _∙_, ℕ, _+_, _-_, _^_, _<_, _≤_, arith, List, [], _∷_, _++_, map, length, ltb, T, ltb→lt, nltb→le, URA, Val, SProp, ent, via, Memory, Routine, Heap, Env, WpFn, Tables, afterTurn, Atoms, Fun, givenOf, tables, tablesOf, Given, Item, Sq, runs, atRet, _$_, !, by, move, bin, first, blocks, exec, WpFn-mono, u32, f32, Meets, tripleOf, Triple, entered, cited, needs, walkOf, Walks, ends-at, walked, walk-meets, onEntry}
 use Rattle.walking.proofs.Prelude.{empty, holds, Blocks, envOf, Locals, opd, copies, puts, puts-last, returns-at, lends-on, keeps-first, enters, whiles, breaks, Slice, taken, holding, Valued, Arg, value, shown, lent, slices, lefts, fitting, after, bound-to, words, asking, calls, own-bound, typed, from-entry, to-exit, in-turn, again-at, loops-at, a-usize, Sort, a-value, to-look, to-write, stays, spells, tells, all-go}
 use Rattle.queue.specs.declared.Entry.{Entry}
-use Rattle.queue.specs.Order.{byKeys}
+use Rattle.queue.specs.Keys.{byKeys}
 use Rattle.queue.proofs.Entry as E
 use Rattle.run.specs.Run.{queueCell}
 use Rattle.run_state.proofs.Loops.{begins, goes-on, stops, ends}

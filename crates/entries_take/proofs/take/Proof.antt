@@ -5,7 +5,8 @@ use Rattle.walking.proofs.Prelude.{empty, holds, Blocks, envOf, Locals, opd, co
 use Rattle.mesh_topology.specs.declared.Triangle.{Triangle}
 use Rattle.mesh_topology.specs.Topology.{trianglesOf, kth}
 use Rattle.queue.specs.declared.Entry.{Entry}
-use Rattle.queue.specs.Order.{goesFirst, byKeys, Apart}
+use Rattle.queue.specs.Order.{goesFirst}
+use Rattle.queue.specs.Keys.{byKeys, Apart}
 use Rattle.queue.specs.Queue.{blank}
 use Rattle.queue.specs.Heap.{Gap}
 use Rattle.queue.proofs.Entry as E

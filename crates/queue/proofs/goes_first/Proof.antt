@@ -1,6 +1,6 @@
 -- `queue::goes_first` meets its contract: each return is a case of `byKeys`, by the tests that led to it. Assumes nothing.
 use borrow.Author.Tests.{lt-ltb, le-ltb}
-use Rattle.queue.specs.Order.{byKeys}
+use Rattle.queue.specs.Keys.{byKeys}
 use Rattle.queue.proofs.goes_first.Statement.{statement}
 use Rattle.queue.proofs.goes_first.Tie as tie
 

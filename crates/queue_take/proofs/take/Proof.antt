@@ -6,7 +6,8 @@ use mathlib.Core.List.{List}
 use denote.Ref.{now}
 use lib.ListN.{length}
 use Rattle.queue.specs.declared.Entry.{Entry}
-use Rattle.queue.specs.Order.{orderOf, byKeys}
+use Rattle.queue.specs.Order.{orderOf}
+use Rattle.queue.specs.Keys.{byKeys}
 use Rattle.queue.specs.Queue.{blank, entries, Taken}
 use Rattle.queue.proofs.Order.{keys-order}
 use Rattle.queue.proofs.Keys.{agree-back, by-keys, taken-by}
