@@ -1,7 +1,7 @@
 -- `entries_generate::generate_grid_sdf_records` meets its contract: a walk of its MIR, by hand, with no loop. The refusals that change nothing, the row cleared,
 -- the run, what follows it, and the row cleared again where the run was refused. Assumes nothing.
 use Rattle.walking.proofs.Prelude.{refl, _∙_, subst, List, [], _∷_, map, length, eqb→eq, URA, Val, SProp, ent, emp, via, fst∗, Memory, Routine, Heap, Env, WpFn, Tables, Atoms, Fun, givenOf, tables, tablesOf, Given, Sq, prop, runs, atRet, _$_, !, by, move, bin, WpFn-mono, u32, f32, Meets, tripleOf, Triple, entered, cited, walkOf, Walks, ends-at, walked, walk-meets, onEntry}
-use Rattle.walking.proofs.Prelude.{empty, holds, Blocks, envOf, Locals, opd, copies, puts, returns-at, lends-on, enters, knowing, returns-if, Slice, taken, holding, Valued, Arg, value, shown, lent, slices, Changes, lefts, Long, fitting, after, bound-to, words, asking, asking-nothing, calls, calls-is, own-bound, typed, from-entry, to-exit, a-u32, a-usize, a-unit, Sort, a-value, to-look, to-write, stays, spells, tells, all-go}
+use Rattle.walking.proofs.Prelude.{empty, holds, Blocks, envOf, Locals, opd, copies, puts, returns-at, lends-on, enters, knowing, returns-if, Slice, taken, holding, Valued, Arg, value, shown, lent, slices, Changes, lefts, Long, fitting, after, bound-to, words, asking, asking-nothing, calls, calls-is, own-bound, typed, from-entry, to-exit, a-usize, a-unit, Sort, a-value, to-look, to-write, stays, spells, tells, all-go}
 use Rattle.queue.proofs.Entry as E
 use Rattle.mesh.specs.Mesh.{Mesh, meshOf}
 use Rattle.job_begin.specs.Begins.{Begins}
