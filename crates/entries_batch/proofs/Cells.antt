@@ -1,12 +1,11 @@
 -- What a cell queues in step 2, by its test; and the counts, by theirs. Assumes nothing.
 use Prim.Native.Nat.{ℕ, _<_, _≤_, _+_, max}
 use native.Mathlib.Omega.{arith}
-use mathlib.Core.Path.{_≡_, refl, sym, ap, _∙_, subst}
-use mathlib.Core.Bool.{Bool, true, false, not}
+use mathlib.Core.Path.{_≡_, refl, sym, ap, _∙_}
+use mathlib.Core.Bool.{Bool, true, false}
 use mathlib.Core.List.{List}
-use lib.Dec.{T}
 use lib.ListN.{getD}
-use lib.Ieee.{Float, nan, inf, fin, isNan, lt}
+use lib.Ieee.{Float, nan}
 use borrow.Author.Tests.{lt-ltb, le-ltb}
 use Rattle.float.specs.Arith.{_≺_, fMax, if_then_else_}
 use Rattle.lists.specs.Turns.{Turn, goes, refuses, andThen, turns}
@@ -17,13 +16,6 @@ use Rattle.run_state.specs.declared.Progress.{Progress}
 use Rattle.run_state.specs.Told.{stateOf, ToldByKeys}
 use Rattle.entries_batch.specs.declared.Batch.{Batch}
 use Rattle.entries_batch.specs.Batch.{entryIn, stopAt, queueAll, over, Cell, queuedBy}
-
--- what is smaller than something is no NaN
-pub less-no-nan : (x y : Float) → (x ≺ y) ≡ true → T (not (isNan x))
-unfolding isNan lt
-less-no-nan nan y h = absurd (subst T (sym h) tt)
-less-no-nan (inf s) y h = tt
-less-no-nan (fin s m e) y h = tt
 
 -- ---- a cell of step 2
 

@@ -9,7 +9,8 @@ ghost use Rattle.queue.specs.Keys.{byKeys, Apart};
 ghost use Rattle.entries.specs.Row.{waitingIn, HeldRow, TakenRow};
 
 // Takes the first of the n entries that wait, and leaves zero in the room that this frees. No two of them may agree in
-// distance and cell: then the first by these two keys is the first by all three, and no triple is read.
+// distance and cell: then the first by these two keys is the first by all three. The mesh stands in the promise alone, and
+// no triple of vertex numbers is read.
 pub fn take(
     row: &mut [Entry],
     n: usize,

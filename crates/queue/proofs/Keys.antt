@@ -39,7 +39,7 @@ by-keys corners x y d = hands-on (x .distance) (y .distance) _ _ (λ e. hands-on
 
 -- what was put in differs from the others, which are apart
 module _ (le : Entry → Entry → Bool) where
-  pub apart-put : (x : Entry) (l : List Entry) → Apart (insert le x l) → FromAll x l × Apart l
+  apart-put : (x : Entry) (l : List Entry) → Apart (insert le x l) → FromAll x l × Apart l
   unfolding insert
   apart-put x [] h = h
   apart-put x (y ∷ l) h = go (apart-put x l) (le x y) h

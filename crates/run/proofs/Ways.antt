@@ -2,9 +2,9 @@
 -- definition with its tests put in. Assumes nothing.
 use Prim.Native.Nat.{ℕ}
 use mathlib.Core.Path.{_≡_, refl, sym, ap, subst}
-use mathlib.Core.Bool.{true, false}
+use mathlib.Core.Bool.{true, false, not}
 use lib.Dec.{T}
-use lib.Ieee.{Float, nan, inf, fin, isNan, ne}
+use lib.Ieee.{Float, nan, inf, fin, isNan, ne, lt}
 use lib.Ieee.Compare.{differs-from-itself}
 use Rattle.float.specs.Arith.{_≺_}
 use Rattle.lists.specs.Turns.{Turn, goes, refuses}
@@ -34,3 +34,10 @@ unfolding ne isNan
 is-number nan h = h
 is-number (inf s) h = refl
 is-number (fin s m e) h = refl
+
+-- what is smaller than something is no NaN
+pub less-no-nan : (x y : Float) → (x ≺ y) ≡ true → T (not (isNan x))
+unfolding isNan lt
+less-no-nan nan y h = absurd (subst T (sym h) tt)
+less-no-nan (inf s) y h = tt
+less-no-nan (fin s m e) y h = tt

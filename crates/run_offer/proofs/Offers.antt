@@ -1,10 +1,9 @@
 -- An offer: a NaN is refused by 6, a triangle that is no nearer leaves all as it is, and a nearer one is taken and queued. The square
 -- tells a NaN, and a square that shows that no root is needed tells that the triangle is no nearer. Assumes nothing.
 use Prim.Native.Nat.{ℕ}
-use mathlib.Core.Path.{_≡_, sym, ap, _∙_, subst}
-use mathlib.Core.Bool.{Bool, true, false, not}
+use mathlib.Core.Path.{_≡_, sym, ap, _∙_}
+use mathlib.Core.Bool.{true, false}
 use mathlib.Core.List.{List}
-use lib.Dec.{T}
 use lib.ListN.{getD, set}
 use lib.Ieee.{Float, nan, isNan, ne}
 use Rattle.float.specs.Arith.{_≺_}
@@ -19,9 +18,6 @@ use Rattle.run_state.specs.declared.Progress.{Progress}
 use Rattle.run_state.specs.Told.{refusedBy, stateOf, ToldByKeys, Queued}
 use Rattle.run_around.specs.Around.{placeOf, offerPlace}
 use Rattle.run_around.proofs.Places.{place-off, place-at}
-
-pub no-nan : (x : Float) → isNan x ≡ false → T (not (isNan x))
-no-nan x h = subst (λ (t : Bool). T (not t)) (sym h) tt
 
 -- a test on a value that is another
 pub not-below : {d x : Float} (h : Float) → d ≡ x → (d ≺ h) ≡ false → (x ≺ h) ≡ false

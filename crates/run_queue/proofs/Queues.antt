@@ -1,11 +1,11 @@
 -- An entry that is queued: the room is full and 7 is told, or the queue's `push` puts it in. Assumes nothing.
 use Prim.Native.Nat.{ℕ, _+_, _≤_, _<_, max}
-use mathlib.Core.Path.{_≡_, sym, ap, _∙_, subst}
-use mathlib.Core.Bool.{Bool, true, false, not}
+use mathlib.Core.Path.{_≡_, sym, ap, _∙_}
+use mathlib.Core.Bool.{Bool, true, false}
 use mathlib.Core.List.{List}
-use lib.Dec.{T, ltb}
+use lib.Dec.{ltb}
 use lib.ListN.{length, getD}
-use lib.Ieee.{Float, nan, inf, fin, isNan, lt}
+use lib.Ieee.{Float, nan}
 use borrow.Author.Tests.{lt-ltb, le-ltb}
 use Rattle.float.specs.Arith.{_≺_, fMax, if_then_else_}
 use Rattle.lists.specs.Turns.{goes, refuses, told}
@@ -77,12 +77,3 @@ module _ {field : List Float} {names ds cs ts : List ℕ} {at : Progress} (c : �
       → ToldByKeys (λ g. queueCell g c) field names ds cs ts at field names ds′ cs′ ts′ r
   cell-queued t q =
       record { held = q field names .held; is = λ g o r. cell-below c g (stateOf byKeys field names ds cs ts at) t ∙ q field names .is g o r }
-
--- ---- numbers
-
--- what is smaller than something is no NaN
-pub less-no-nan : (x y : Float) → (x ≺ y) ≡ true → T (not (isNan x))
-unfolding isNan lt
-less-no-nan nan y h = absurd (subst T (sym h) tt)
-less-no-nan (inf s) y h = tt
-less-no-nan (fin s m e) y h = tt

@@ -1,7 +1,6 @@
 -- A loop of turns that are told by keys, over the lent slices: it begins, goes on, stops or ends. The laws are those of `turns`; what is
 -- added is that the slices keep their lengths and the queue goes on holding what waits. Assumes nothing.
-use Prim.Native.Nat.{ℕ, _+_, _≤_, _<_}
-use native.Mathlib.Omega.{arith}
+use Prim.Native.Nat.{ℕ, _+_, _<_}
 use mathlib.Core.Path.{_≡_, refl, sym, _∙_, subst}
 use mathlib.Core.List.{List}
 use lib.ListN.{length}
@@ -108,7 +107,3 @@ module _ (f : RunInput → ℕ → State → Turn State) where
             subst (λ (n : ℕ). turns (f g) n (stateOf byKeys field₀ names₀ ds₀ cs₀ ts₀ r₀) ≡ goes u) e (a .is g o w)
             ∙ sym (told-goes (r .number) u (a .fine));
       }
-
--- a loop over the cells is at its end
-pub at-end : (c n t : ℕ) → n ≡ t → c ≤ n → n ≤ c → c ≡ t
-at-end c n t e l h = omega arith

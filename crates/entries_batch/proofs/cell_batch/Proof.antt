@@ -1,7 +1,8 @@
 -- `cell_batch`: the test is the definition's, and the entry is what the cell holds. Assumes nothing.
 use borrow.Author.Needs.{needs}
 use mathlib.Core.Path.{refl}
-use Rattle.entries_batch.proofs.Cells.{less-no-nan, cell-none, cell-one}
+use Rattle.run.proofs.Ways.{less-no-nan}
+use Rattle.entries_batch.proofs.Cells.{cell-none, cell-one}
 use Rattle.entries_batch.proofs.cell_batch.Statement.{statement}
 use Rattle.entries_batch.proofs.cell_batch.Tie as tie
 

@@ -3,7 +3,7 @@ use Prim.Native.Nat.{_<_}
 use borrow.Author.Needs.{needs}
 use native.Mathlib.Omega.{arith}
 use lib.ListN.{length}
-use Rattle.entries_batch.proofs.Cells.{less-no-nan}
+use Rattle.run.proofs.Ways.{less-no-nan}
 use Rattle.entries_consider.proofs.Considers.{was-off, was-nan, was-passed, was-taken, not-below}
 use Rattle.entries_consider.proofs.consider.Statement.{statement}
 use Rattle.entries_consider.proofs.consider.Tie as tie

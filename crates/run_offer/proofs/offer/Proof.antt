@@ -1,6 +1,6 @@
 -- `offer`: the tests on the square and on the root are those of an offer. Assumes nothing.
 use borrow.Author.Needs.{needs}
-use Rattle.run_queue.proofs.Queues.{less-no-nan}
+use Rattle.run.proofs.Ways.{less-no-nan}
 use Rattle.run_offer.proofs.Offers.{not-below, offered-nan, offered-passed, offered-taken}
 use Rattle.run_offer.proofs.offer.Statement.{statement}
 use Rattle.run_offer.proofs.offer.Tie as tie

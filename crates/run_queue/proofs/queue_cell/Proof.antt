@@ -1,7 +1,8 @@
 -- `queue_cell`: the test is the definition's, and the entry is what the cell holds. Assumes nothing.
 use borrow.Author.Needs.{needs}
 use native.Mathlib.Omega.{arith}
-use Rattle.run_queue.proofs.Queues.{less-no-nan, cell-passed, cell-queued}
+use Rattle.run.proofs.Ways.{less-no-nan}
+use Rattle.run_queue.proofs.Queues.{cell-passed, cell-queued}
 use Rattle.run_queue.proofs.queue_cell.Statement.{statement}
 use Rattle.run_queue.proofs.queue_cell.Tie as tie
 
