@@ -1,17 +1,18 @@
 -- What a cell queues in step 2, by its test; and the counts, by theirs. Assumes nothing.
 use Prim.Native.Nat.{ℕ, _<_, _≤_, _+_, max}
 use native.Mathlib.Omega.{arith}
-use mathlib.Core.Path.{_≡_, refl, sym, ap, _∙_}
+use mathlib.Core.Path.{_≡_, sym, ap, _∙_}
 use mathlib.Core.Bool.{Bool, true, false}
 use mathlib.Core.List.{List}
 use lib.ListN.{getD}
 use lib.Ieee.{Float, nan}
 use borrow.Author.Tests.{lt-ltb, le-ltb}
 use Rattle.float.specs.Arith.{_≺_, fMax, if_then_else_}
-use Rattle.lists.specs.Turns.{Turn, goes, refuses, andThen, turns}
+use Rattle.lists.specs.Turns.{goes, andThen, turns}
+use Rattle.lists.proofs.Turns.{then-nothing}
 use Rattle.queue.specs.declared.Entry.{Entry}
 use Rattle.queue.specs.Keys.{byKeys}
-use Rattle.run.specs.Run.{State, entry, queue, queueCell}
+use Rattle.run.specs.Run.{entry, queue, queueCell}
 use Rattle.run_state.specs.declared.Progress.{Progress}
 use Rattle.run_state.specs.Told.{stateOf, ToldByKeys}
 use Rattle.entries_batch.specs.declared.Batch.{Batch}
@@ -36,13 +37,9 @@ module _ (field : List Float) (names : List ℕ) (c : ℕ) (b : Batch) (z : b .n
     is = λ g s.
         ap (λ (y : Bool). if y then queue g (entry (getD field c nan) c (getD names c 0)) (over field names s) else goes (over field names s)) t
         ∙ ap (λ (x : Entry). queue g x (over field names s)) (sym e)
-        ∙ sym (then-goes (queue g (entryIn b 0) (over field names s)))
+        ∙ sym (then-nothing (queue g (entryIn b 0) (over field names s)))
         ∙ λ i. andThen (turns (λ j. queue g (entryIn b j)) (sym n i) (over field names s)) (stopAt (sym z i));
   }
-    where
-      then-goes : (t : Turn State) → andThen t goes ≡ t
-      then-goes (goes s) = refl
-      then-goes (refuses n) = refl
 
 -- it is queued as its batch is
 pub cell-queued : {field : List Float} {names ds cs ts ds′ cs′ ts′ : List ℕ} {c : ℕ} {b : Batch} {p r : Progress} → Cell field names c b

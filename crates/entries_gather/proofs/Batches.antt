@@ -12,7 +12,7 @@ use lib.Ieee.{Float, nan}
 use Rattle.float.specs.Arith.{if_then_else_}
 use Rattle.float.specs.RootOf.{rootOf}
 use Rattle.lists.specs.Turns.{Turn, goes, refuses, andThen, turns}
-use Rattle.lists.proofs.Turns.{turns-same, turns-refused}
+use Rattle.lists.proofs.Turns.{then-nothing, then-alike, turns-same, turns-refused}
 use Rattle.queue.specs.declared.Entry.{Entry}
 use Rattle.run.specs.Run.{RunInput, State, queue, queued}
 use Rattle.run_around.specs.Around.{placeOf, offerPlace}
@@ -33,19 +33,12 @@ then-after f (goes s) k h e = e s
 then-after f (refuses n) k h e = refl
 
 then-same : (t : Turn State) (k h : State → Turn State) → ((s : State) → k s ≡ h s) → andThen t k ≡ andThen t h
-unfolding andThen
-then-same (goes s) k h e = e s
-then-same (refuses n) k h e = refl
+then-same t k h e = then-alike t k h (λ s w. e s)
 
 then-from : (f : State → State) (t : Turn State) (k : State → Turn State) → andThen (after f t) k ≡ andThen t (λ s. k (f s))
 unfolding andThen
 then-from f (goes s) k = refl
 then-from f (refuses n) k = refl
-
-then-goes : (t : Turn State) → andThen t goes ≡ t
-unfolding andThen
-then-goes (goes s) = refl
-then-goes (refuses n) = refl
 
 module _ (g : RunInput) (field : List Float) (names : List ℕ) where
   queue-over : (e : Entry) (s : State) → queue g e (over field names s) ≡ after (over field names) (queue g e s)
@@ -101,7 +94,7 @@ module _ (k : ℕ) (to : List ℕ) (squares : List Float) (field₀ : List Float
           next g s
           ∙ then-same (turns (λ i. queue g (f i)) n s) _ (λ u. goes (over field′ names′ u)) (e g)
           ∙ sym (under g field′ names′ f n s goes)
-          ∙ then-goes (turns (λ i. queue g (f i)) n (over field′ names′ s))
+          ∙ then-nothing (turns (λ i. queue g (f i)) n (over field′ names′ s))
           ∙ turns-same (λ i. queue g (f i)) (λ i. queue g (f′ i)) n (over field′ names′ s) (λ i t w. ap (λ (y : Entry). queue g y t) (same i w));
     }
 
@@ -171,4 +164,4 @@ module _ (k : ℕ) (to : List ℕ) (squares : List Float) (field₀ : List Float
       → (g : RunInput) (s : State) → turns (step g) end (over field₀ names₀ s) ≡ andThen (turns (λ i. queue g (f i)) n (over field names s)) (stopAt 0)
   unfolding stopAt
   all-made {j} {end} {field} {names} {f} {n} e h g s =
-      ap (λ (i : ℕ). turns (step g) i (over field₀ names₀ s)) (sym e) ∙ h .is g s ∙ sym (then-goes (turns (λ i. queue g (f i)) n (over field names s)))
+      ap (λ (i : ℕ). turns (step g) i (over field₀ names₀ s)) (sym e) ∙ h .is g s ∙ sym (then-nothing (turns (λ i. queue g (f i)) n (over field names s)))

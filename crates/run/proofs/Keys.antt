@@ -1,26 +1,27 @@
 -- The triple never decides in a run: from a good state every turn comes to the same where entries go by what lies in them alone. A turn
 -- uses the order only where it queues an entry, and a new entry differs in distance or cell from all that wait. Assumes nothing but what
 -- `Fair` asks of the input, and that its order goes by distance and cell first.
-use Prim.Native.Nat.{ℕ, _+_, _<_, max}
-use mathlib.Core.Path.{_≡_, refl, ap}
+use Prim.Native.Nat.{ℕ, zero, suc, _+_, _<_, max}
+use mathlib.Core.Path.{_≡_, refl, ap, _∙_}
 use mathlib.Core.Bool.{Bool, true, false, cond}
-use mathlib.Core.List.{List, []}
+use mathlib.Core.List.{List, [], _∷_}
 use lib.Dec.{ltb}
 use lib.ListN.{length}
 use lib.Ieee.{Float, isNan}
 use Rattle.float.specs.Arith.{_≺_, fMax}
-use Rattle.lists.specs.Turns.{Turn, goes, refuses}
-use Rattle.lists.proofs.Turns.{turns-alike}
+use Rattle.lists.specs.Turns.{Turn, goes, refuses, andThen}
+use Rattle.lists.proofs.Turns.{then-alike, turns-alike}
 use Rattle.queue.specs.declared.Entry.{Entry}
 use Rattle.queue.specs.Keys.{byKeys}
 use Rattle.queue.proofs.Keys.{FromAll, Agree, same-insert}
-use Rattle.run.specs.Run.{RunInput, Place, off, at, State, held, named, entry, takes, offerAt, offer, queue, queueCell, queueing, spreadTo, spreadAround}
+use Rattle.run.specs.Run.{RunInput, Place, off, at, State, held, named, entry, takes, offerAt, offer, seedLine, seedPlane, seedTriangle, seeding, queue, queueCell, queueing, spreadTo, spreadAround, taken, takeFirst, spreading, run}
 use Rattle.run.specs.Good.{Good}
 use Rattle.run.specs.Keys.{keyed}
 use Rattle.run.proofs.Values.{Fair}
-use Rattle.run.proofs.Waiting.{new-differs as new-offered-differs}
-use Rattle.run.proofs.Queueing.{QueuedTo, none-queued, cell-queued, new-differs}
-use Rattle.run.proofs.Spreading.{turnOf, turn-leads}
+use Rattle.run.proofs.Waiting.{good-taken, new-differs as new-offered-differs}
+use Rattle.run.proofs.Seeding.{seeding-good, seeding-empty}
+use Rattle.run.proofs.Queueing.{QueuedTo, none-queued, cell-queued, new-differs, queueing-to}
+use Rattle.run.proofs.Spreading.{turnOf, turn-leads, around-leads}
 
 module _ (g : RunInput) (F : Fair g) (agree : Agree (g .goesFirst) byKeys) where
   -- an entry that differs from all that wait is queued
@@ -84,3 +85,31 @@ module _ (g : RunInput) (F : Fair g) (agree : Agree (g .goesFirst) byKeys) where
     same-queueing G e =
         turns-alike (QueuedTo g s) (queueCell g) (queueCell (keyed g)) (g .cells) s (none-queued g F s G e)
         (λ i u v l P h. cell-queued g F s i u v l P h) (λ i t l P. same-cell i t l P)
+
+  -- ---- to the end of the run
+
+  same-spreading : (left : ℕ) (s : State) → Good g s → spreading g left s ≡ spreading (keyed g) left s
+  unfolding spreading takeFirst
+  same-spreading zero s G = refl
+  same-spreading (suc left) s G = pop (same-spreading left) (s .waiting) refl
+    where
+      pop : ((t : State) → Good g t → spreading g left t ≡ spreading (keyed g) left t)
+          → (w : List Entry) → s .waiting ≡ w → takeFirst g (spreading g left) w s ≡ takeFirst (keyed g) (spreading (keyed g) left) w s
+      pop later [] q = refl
+      pop later (e ∷ w) q =
+          let T = good-taken g e w s G q in
+          then-alike (spreadAround g e (taken w s)) (spreading g left) (spreading (keyed g) left)
+          (λ t h. later t (around-leads g F e (T .1 .cell-on) (T .1 .triangle-is) (taken w s) t (T .0) h .good))
+          ∙ ap (λ o. andThen o (spreading (keyed g) left)) (same-around e (T .1 .cell-on) (T .1 .triangle-is) (taken w s) (T .0))
+
+  -- the whole run comes to the same
+  pub never-decides : run g ≡ run (keyed g)
+  unfolding run seeding seedTriangle seedPlane seedLine offer
+  never-decides =
+      then-alike (seeding g) (λ s. andThen (queueing g s) (spreading g (g .limit))) (λ s. andThen (queueing (keyed g) s) (spreading (keyed g) (g .limit)))
+      (λ s h.
+      let G = seeding-good g F s h in
+      let none = seeding-empty g F s h in
+      then-alike (queueing g s) (spreading g (g .limit)) (spreading (keyed g) (g .limit))
+      (λ t w. same-spreading (g .limit) t (queueing-to g F s t G none w .good))
+      ∙ ap (λ o. andThen o (spreading (keyed g) (g .limit))) (same-queueing s G none))

@@ -1,5 +1,5 @@
 -- The run whose entries go by what lies in them alone, as the code compares them. No one need believe that it is the run: proofs/Keys.antt
--- shows that no turn of it comes to anything else. Definitions only.
+-- shows that from a good state no turn of it comes to anything else. Definitions only.
 use Rattle.queue.specs.Keys.{byKeys}
 use Rattle.run.specs.Run.{RunInput}
 

@@ -1,11 +1,12 @@
 -- A pop: what waits is apart, so that the entry is taken that goes first by all three keys; it is known, what is left is a good state, and
 -- taking it and spreading it is one turn of spreading. Assumes nothing.
 use Prim.Native.Nat.{ℕ, _+_, _-_}
-use mathlib.Core.Path.{_≡_, refl, sym, ap, _∙_, subst}
+use mathlib.Core.Path.{_≡_, sym, ap, _∙_, subst}
 use mathlib.Core.List.{List}
 use lib.ListN.{length}
 use lib.Ieee.{Float}
-use Rattle.lists.specs.Turns.{Turn, goes, refuses, andThen, told}
+use Rattle.lists.specs.Turns.{Turn, goes, andThen, told}
+use Rattle.lists.proofs.Turns.{then-nothing}
 use Rattle.grid.specs.declared.Grid.{Grid}
 use Rattle.grid.specs.Index.{total}
 use Rattle.mesh.specs.Mesh.{Mesh, trianglesIn}
@@ -22,13 +23,8 @@ use Rattle.run_state.specs.declared.Progress.{Progress}
 use Rattle.run_state.specs.Told.{orderIn, stateOf, Fit, Known, Holds, GoodIn, Told}
 use Rattle.run_state.proofs.Keys.{agrees, around-told}
 
-then-all : {S : Type 0} (o : Turn S) → andThen o goes ≡ o
-unfolding andThen
-then-all (goes s) = refl
-then-all (refuses n) = refl
-
 pub then-then : {S : Type 0} (o : Turn S) (f : S → Turn S) → andThen (andThen o goes) f ≡ andThen o f
-then-then o f = ap (λ t. andThen t f) (then-all o)
+then-then o f = ap (λ t. andThen t f) (then-nothing o)
 
 -- the counts with one taken
 abbrev pub oneTaken : Progress → Progress
@@ -60,7 +56,7 @@ module _ {g : Grid} {m : Mesh} {field : List Float} {names ds cs ts ds₁ cs₁ 
         holds = holds;
         is = λ any.
             ap (λ (v : List Entry). takeFirst (runInput g m (length ds) any) goes v s) (t .waits)
-            ∙ then-all (spreadAround (runInput g m (length ds) any) e (taken w s))
+            ∙ then-nothing (spreadAround (runInput g m (length ds) any) e (taken w s))
             ∙ ap (λ (k : ℕ). spreadAround (runInput g m k any) e (taken w s)) (sym l)
             ∙ around-told fit (length ds₁) any field names ds₁ cs₁ ts₁ (oneTaken at)
             (subst (λ (k : ℕ). Good (runInput g m k any) (stateOf (orderIn m) field names ds₁ cs₁ ts₁ (oneTaken at))) (sym l) (parted any .0))

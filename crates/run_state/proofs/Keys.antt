@@ -18,7 +18,7 @@ use Rattle.queue.specs.Keys.{Apart, byKeys}
 use Rattle.queue.specs.Queue.{waiting}
 use Rattle.queue.proofs.Keys.{Agree, agree-back, by-keys, same-waiting}
 use Rattle.queue.proofs.Uses.{none-waits}
-use Rattle.run.specs.Run.{RunInput, State, queueing, spreadAround}
+use Rattle.run.specs.Run.{RunInput, State, queueing, spreadAround, run}
 use Rattle.run.specs.Input.{runInput}
 use Rattle.run.specs.Good.{Good}
 use Rattle.run.specs.Keys.{keyed}
@@ -26,7 +26,7 @@ use Rattle.run.proofs.Values.{Fair}
 use Rattle.run.proofs.Inputs.{fair-input}
 use Rattle.run.proofs.Queueing.{queueing-to}
 use Rattle.run.proofs.Spreading.{around-leads}
-use Rattle.run.proofs.Keys.{same-around, same-queueing}
+use Rattle.run.proofs.Keys.{same-around, same-queueing, never-decides}
 use Rattle.run_state.specs.declared.Progress.{Progress}
 use Rattle.run_state.specs.Told.{orderIn, stateOf, Fit, Known}
 
@@ -61,6 +61,10 @@ module _ {g : Grid} {m : Mesh} (fit : Fit g m) (room any : ℕ) where
   goes-by : Agree (G .goesFirst) byKeys
   unfolding runInput
   goes-by = by-keys _
+
+  -- the third key never decides in the run of a job: without it the whole run comes to the same
+  pub third-never-decides : run G ≡ run (keyed G)
+  third-never-decides = never-decides G fair goes-by
 
   module _ (field : List Float) (names ds cs ts : List ℕ) (at : Progress) (good : Good G (stateOf (orderIn m) field names ds cs ts at))
       (field′ : List Float) (names′ ds′ cs′ ts′ : List ℕ) (r : Progress) where

@@ -60,7 +60,7 @@ pub record Holds (g : Grid) (field : List Float) (names ds cs ts : List ℕ) (n 
 pub record GoodIn (g : Grid) (m : Mesh) (field : List Float) (names ds cs ts : List ℕ) (p : Progress) : Type 0 where
   pub good : (any : ℕ) → Good (runInput g m (length ds) any) (stateOf (orderIn m) field names ds cs ts p)
 
--- the same where a run has ended: nothing waits unless it was refused
+-- the slices where a run has ended: nothing waits unless it was refused
 pub record Ran (g : Grid) (field : List Float) (names ds cs ts : List ℕ) (p : Progress) : Type 0 where
   pub holds : Holds g field names ds cs ts (p .waiting)
   pub over : p .number ≡ 0 → p .waiting ≡ 0
