@@ -17,7 +17,7 @@ use Rattle.run.specs.Input.{runInput}
 use Rattle.run_state.specs.declared.Progress.{Progress}
 use Rattle.run_state.specs.Told.{Fit}
 use Rattle.run_field.specs.Running.{Leaves, Fresh, before, seeded}
-use Rattle.run_field.proofs.Runs.{as-left, queueing-told-of, queueing-states, rest-stops, rest-begins, rest-goes-on, seeding-stops, seeding-states, seeding-goes-on}
+use Rattle.run_field.proofs.Runs.{as-left, cells-told, queueing-states, rest-stops, rest-begins, rest-goes-on, seeding-stops, seeding-states, seeding-goes-on}
 use Rattle.entries.specs.Row.{rowDistances, rowCells, rowTriangles}
 use Rattle.entries.proofs.Projections.{long-row, same-room}
 use Rattle.entries_state.specs.Records.{HoldsRow, GoodRow, ToldRow, QueuedCellsRow}
@@ -54,7 +54,7 @@ module _ {g : Grid} {m : Mesh} {number : ℕ} {field : List Float} {names : List
     queued : Leaves g m (λ any. queueing (runInput g m (length row) any) begins) field names (rowDistances row₁) (rowCells row₁) (rowTriangles row₁) p
     queued =
         subst (λ (n : ℕ). Leaves g m (λ any. queueing (runInput g m n any) begins) field names (rowDistances row₁) (rowCells row₁) (rowTriangles row₁) p)
-        (long-row row) (as-left (queueing-told-of fit states from-none))
+        (long-row row) (as-left (cells-told fit states from-none))
 
     pub queueing-refused : (limit : ℕ) → (p .number ≡ 0 → ⊥) → LeavesRow g m (length row) limit field names row₁ p
     queueing-refused limit y = seeding-goes-on fit fresh field names number (s .seeds) z (length row) limit (rest-stops begins (length row) limit queued y)

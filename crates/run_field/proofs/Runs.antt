@@ -82,9 +82,9 @@ module _ {g : Grid} {m : Mesh} where
         (ap (λ (n : ℕ). turns (queueCell (keyed (runInput g m (length ds) any))) n (stateOf byKeys field names ds cs ts before)) (sym (states .good any .sound .field-long))
         ∙ q .is (keyed (runInput g m (length ds) any)) refl refl)
 
-    pub queueing-told-of : Told g m queueing field names ds cs ts before field names ds′ cs′ ts′ r
+    pub cells-told : Told g m queueing field names ds cs ts before field names ds′ cs′ ts′ r
     unfolding runInput
-    queueing-told-of =
+    cells-told =
         let s = states .good 0 .sound in
         record { holds = record { field-long = s .field-long; names-long = s .names-long; held = q .held }; is = queueing-is }
 

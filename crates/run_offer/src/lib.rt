@@ -27,11 +27,12 @@ fn offer(
     q: f32,
 ) -> Progress
     requires { ⌜ Held byKeys (now distances) (now cells) (now triangles) (at .waiting) ⌝ }
-    requires { ⌜ (at .number ≡ 0) × (c < length (now field)) × (length (now names) ≡ length (now field)) × (isNan (rootOf q) ≡ isNan q) ⌝ }
+    requires { ⌜ (at .number ≡ 0) × (c < length (now field)) × (length (now names) ≡ length (now field)) ×
+        (isNan (rootOf q) ≡ isNan q) ⌝ }
     ensures { λ r.
-        ⌜ ToldByKeys (λ g. offerAt (queue g) k c (rootOf q)) (now (field .entry)) (now (names .entry)) (now (distances .entry)) (now (cells .entry))
-        (now (triangles .entry)) at (now (field .exit)) (now (names .exit)) (now (distances .exit))
-        (now (cells .exit)) (now (triangles .exit)) r ⌝ }
+        ⌜ ToldByKeys (λ g. offerAt (queue g) k c (rootOf q))
+        (now (field .entry)) (now (names .entry)) (now (distances .entry)) (now (cells .entry)) (now (triangles .entry)) at
+        (now (field .exit)) (now (names .exit)) (now (distances .exit)) (now (cells .exit)) (now (triangles .exit)) r ⌝ }
 {
     if q != q {
         return at.refused(6);
@@ -71,9 +72,9 @@ fn offer_to(
     requires { ⌜ Held byKeys (now distances) (now cells) (now triangles) (at .waiting) ⌝ }
     requires { ⌜ (at .number ≡ 0) × Passable to q (now field) (now names) ⌝ }
     ensures { λ r.
-        ⌜ ToldByKeys (λ g. offerPlace (queue g) k (placeOf to) (rootOf q)) (now (field .entry)) (now (names .entry)) (now (distances .entry)) (now (cells .entry))
-        (now (triangles .entry)) at (now (field .exit)) (now (names .exit)) (now (distances .exit))
-        (now (cells .exit)) (now (triangles .exit)) r ⌝ }
+        ⌜ ToldByKeys (λ g. offerPlace (queue g) k (placeOf to) (rootOf q))
+        (now (field .entry)) (now (names .entry)) (now (distances .entry)) (now (cells .entry)) (now (triangles .entry)) at
+        (now (field .exit)) (now (names .exit)) (now (distances .exit)) (now (cells .exit)) (now (triangles .exit)) r ⌝ }
 {
     if to == run_around::NOWHERE {
         return at;
@@ -96,9 +97,9 @@ pub fn offer_around(
     requires { ⌜ Held byKeys (now distances) (now cells) (now triangles) (at .waiting) ⌝ }
     requires { ⌜ (at .number ≡ 0) × PlacesFit (now to) (now squares) (now field) (now names) ⌝ }
     ensures { λ r.
-        ⌜ ToldByKeys (λ g. offerAll (queue g) k (now (to .entry)) (now (squares .entry))) (now (field .entry)) (now (names .entry)) (now (distances .entry)) (now (cells .entry))
-        (now (triangles .entry)) at (now (field .exit)) (now (names .exit)) (now (distances .exit))
-        (now (cells .exit)) (now (triangles .exit)) r ⌝ }
+        ⌜ ToldByKeys (λ g. offerAll (queue g) k (now (to .entry)) (now (squares .entry)))
+        (now (field .entry)) (now (names .entry)) (now (distances .entry)) (now (cells .entry)) (now (triangles .entry)) at
+        (now (field .exit)) (now (names .exit)) (now (distances .exit)) (now (cells .exit)) (now (triangles .exit)) r ⌝ }
 {
     let mut reached = at;
     let mut j = 0;

@@ -9,7 +9,7 @@ use Rattle.mesh.specs.Mesh.{Mesh, meshOf}
 use Rattle.run.specs.Run.{State, queueing}
 use Rattle.run.specs.Input.{runInput}
 use Rattle.run_field.specs.Running.{Leaves, seeded}
-use Rattle.run_field.proofs.Runs.{as-left, queueing-told-of, queueing-states, rest-stops, rest-begins, rest-goes-on}
+use Rattle.run_field.proofs.Runs.{as-left, cells-told, queueing-states, rest-stops, rest-begins, rest-goes-on}
 use Rattle.run_field.proofs.spread_seeds.Statement.{statement}
 use Rattle.run_field.proofs.spread_seeds.Tie as tie
 
@@ -50,7 +50,7 @@ queue-cells-requires c κs =
 all-queued : (q : tie.After-queue-cells) → let a = entry (q .before) .args in
     Leaves (a .grid) (mesh q) (λ any. queueing (runInput (a .grid) (mesh q) (room q) any) (seeds q))
     (a .field .now) (a .names .now) (q .queue-cells .last .1 .1 .0) (q .queue-cells .last .1 .1 .1 .0) (q .queue-cells .last .1 .1 .1 .1 .0) (q .queue-cells .result)
-all-queued q = let s = entry (q .before) in as-left (queueing-told-of (s .pre .0) (s .pre .1 .1) (q .queue-cells .ensures))
+all-queued q = let s = entry (q .before) in as-left (cells-told (s .pre .0) (s .pre .1 .1) (q .queue-cells .ensures))
 
 returns : tie.Need-returns
 returns c = let q = queued (c .before) in rest-stops (seeds q) (room q) (limit q) (all-queued q) (c .if1 .taken)
