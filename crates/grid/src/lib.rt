@@ -190,21 +190,7 @@ impl Grid {
         if !self.in_bounds() {
             return BoxAnswer::Refused(1);
         }
-        let first = self.first_cell;
-        let size = self.cell_size;
-        let filled = BoundingBox {
-            min: Point {
-                x: grid_axis::low_on(first.x, size.x),
-                y: grid_axis::low_on(first.y, size.y),
-                z: grid_axis::low_on(first.z, size.z),
-            },
-            max: Point {
-                x: grid_axis::high_on(first.x, size.x, self.count_x),
-                y: grid_axis::high_on(first.y, size.y, self.count_y),
-                z: grid_axis::high_on(first.z, size.z, self.count_z),
-            },
-        };
-        BoxAnswer::Is(filled)
+        BoxAnswer::Is(parts::get_bounding_box(self))
     }
 
     pub fn get_cell_idx(self, cell: Cell) -> NumberAnswer

@@ -1,6 +1,7 @@
 // What the grid's questions answer with, for a caller who has asked for the bounds before: these functions refuse
 // nothing, and some ask their caller for the bounds. The port's own code calls them, with a grid that
 // the job was not refused for; `sdf` does not show them.
+use crate::BoundingBox;
 use crate::Cell;
 use crate::Grid;
 use crate::Snap;
@@ -79,6 +80,26 @@ pub fn get_cell_center(grid: Grid, cell: Cell) -> Point
         x: grid_axis::centre_on(first.x, size.x, cell.x),
         y: grid_axis::centre_on(first.y, size.y, cell.y),
         z: grid_axis::centre_on(first.z, size.z, cell.z),
+    }
+}
+
+// The corners of the box that the cells fill.
+pub fn get_bounding_box(grid: Grid) -> BoundingBox
+    ensures { λ r. ⌜ r ≡ Place.gridBox grid ⌝ }
+{
+    let first = grid.first_cell;
+    let size = grid.cell_size;
+    BoundingBox {
+        min: Point {
+            x: grid_axis::low_on(first.x, size.x),
+            y: grid_axis::low_on(first.y, size.y),
+            z: grid_axis::low_on(first.z, size.z),
+        },
+        max: Point {
+            x: grid_axis::high_on(first.x, size.x, grid.count_x),
+            y: grid_axis::high_on(first.y, size.y, grid.count_y),
+            z: grid_axis::high_on(first.z, size.z, grid.count_z),
+        },
     }
 }
 

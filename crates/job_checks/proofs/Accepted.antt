@@ -1,4 +1,4 @@
--- What a job that no number below 6 refuses is known to be. Each test of the list that did not apply is a fact. Assumes nothing.
+-- What a job that is not refused before the run is known to be. Each test of the list that did not apply is a fact. Assumes nothing.
 use mathlib.Core.Path.{_≡_, refl}
 use mathlib.Core.Bool.{Bool, true, false, not, _||_, true≢false}
 use mathlib.Core.List.{List}
@@ -13,11 +13,12 @@ use Rattle.grid.specs.declared.Grid.{Grid}
 use Rattle.grid.specs.Index.{total}
 use Rattle.grid.specs.Layers.{layers}
 use Rattle.grid.specs.Bounds.{inBounds}
-use Rattle.mesh.specs.Mesh.{Mesh, vertexCount, trianglesIn}
+use Rattle.mesh.specs.Mesh.{Mesh, Sound, vertexCount, trianglesIn}
 use Rattle.mesh_topology.specs.Refusals.{allBelowCount}
+use Rattle.mesh_off_grid.specs.OffGrid.{allOnGrid}
 use Rattle.run_state.specs.Told.{Fit}
 use Rattle.job_checks.specs.declared.Lengths.{Lengths}
-use Rattle.job_checks.specs.Refusals.{allCoordinates, wrongGrid, wrongVertices, wrongTriangles, wrongIndices, wrongLengths, checks, refusalBy}
+use Rattle.job_checks.specs.Refusals.{allCoordinates, wrongGrid, wrongVertices, wrongTriangles, wrongIndices, wrongPlaces, wrongLengths, checks, refusalBy}
 
 neither : (a b : Bool) → (a || b) ≡ false → (a ≡ false) × (b ≡ false)
 neither true b h = absurd (true≢false h)
@@ -28,6 +29,13 @@ few-vertices vs h =
     let uneven = not (eqb (length vs % 3) 0) in
     let many = ltb 393216 (vertexCount vs) in
     ltb-false 393216 (vertexCount vs) (neither uneven many (neither (uneven || many) (not (allCoordinates vs)) h .0) .1)
+
+pub sound-of : (m : Mesh) → wrongVertices (m .vertices) ≡ false → wrongIndices m ≡ false → Sound m
+sound-of m vertices-right indices-right =
+    record {
+      few = omega (arith, few-vertices (m .vertices) vertices-right);
+      below = not-false (allBelowCount (vertexCount (m .vertices)) (trianglesIn m)) indices-right;
+    }
 
 -- ---- the lengths
 
@@ -68,6 +76,7 @@ fits g l h =
 
 pub record Accepted (g : Grid) (m : Mesh) (l : Lengths) : Type 0 where
   pub fit : Fit g m
+  pub on-grid : allOnGrid g m ≡ true
   pub long : Fits g l
 
 -- no check has the number 0
@@ -83,17 +92,16 @@ accepted g m l h =
     let vertices-right : wrongVertices (m .vertices) ≡ false = search p in
     let triangles-right : wrongTriangles m ≡ false = search p in
     let indices-right : wrongIndices m ≡ false = search p in
+    let places-right : wrongPlaces g m ≡ false = search p in
     let lengths-right : wrongLengths g l ≡ false = search p in
     record {
       fit = record {
         ready = record {
           bounded = not-false (inBounds g) grid-right;
-          sound = record {
-            few = omega (arith, few-vertices (m .vertices) vertices-right);
-            below = not-false (allBelowCount (vertexCount (m .vertices)) (trianglesIn m)) indices-right;
-          };
+          sound = sound-of m vertices-right indices-right;
         };
         few = ltb-false 131072 (length (trianglesIn m)) triangles-right;
       };
+      on-grid = not-false (allOnGrid g m) places-right;
       long = fits g l lengths-right;
     }

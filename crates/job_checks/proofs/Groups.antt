@@ -1,33 +1,34 @@
--- The checks group by group: what the list comes to is what the grid's group does, or else the mesh's, or else the lengths'. So the groups may be
--- asked in turn, and the first that gives a number ends it. Assumes nothing.
-use mathlib.Core.Path.{_≡_, ap, _∙_}
+-- The checks group by group: the grid's, the mesh's, those of where it lies, the lengths'. Past the groups that gave 0 the next is asked, and the first that
+-- gives a number ends it. Assumes nothing.
+use mathlib.Core.Path.{_≡_, _∙_}
 use mathlib.Core.List.{_++_}
-use Prim.Native.Nat.{ℕ}
 use native.Mathlib.Omega.{arith}
-use Rattle.lists.specs.Checks.{firstThatApplies, orElse}
-use Rattle.lists.proofs.Checks.{first-of-append, or-kept}
+use Rattle.lists.specs.Checks.{firstThatApplies}
+use Rattle.lists.proofs.Checks.{past-group, by-group}
 use Rattle.grid.specs.declared.Grid.{Grid}
 use Rattle.mesh.specs.Mesh.{Mesh}
 use Rattle.job_checks.specs.declared.Lengths.{Lengths}
-use Rattle.job_checks.specs.Refusals.{gridChecks, meshChecks, lengthChecks, refusalBy}
+use Rattle.job_checks.specs.Refusals.{gridChecks, meshChecks, placeChecks, lengthChecks, refusalBy}
 
 module _ (g : Grid) (m : Mesh) (l : Lengths) where
-  by-groups : refusalBy g m l ≡ orElse (firstThatApplies (gridChecks g)) (orElse (firstThatApplies (meshChecks m)) (firstThatApplies (lengthChecks g l)))
-  unfolding refusalBy
-  by-groups =
-      first-of-append (gridChecks g) (meshChecks m ++ lengthChecks g l) (omega arith)
-      ∙ ap (orElse (firstThatApplies (gridChecks g))) (first-of-append (meshChecks m) (lengthChecks g l) (omega arith))
-
-  -- past the groups that gave 0
-  past-grid : firstThatApplies (gridChecks g) ≡ 0 → refusalBy g m l ≡ orElse (firstThatApplies (meshChecks m)) (firstThatApplies (lengthChecks g l))
-  past-grid e = by-groups ∙ ap (λ (n : ℕ). orElse n (orElse (firstThatApplies (meshChecks m)) (firstThatApplies (lengthChecks g l)))) e
-
-  pub past-mesh : firstThatApplies (gridChecks g) ≡ 0 → firstThatApplies (meshChecks m) ≡ 0 → refusalBy g m l ≡ firstThatApplies (lengthChecks g l)
-  past-mesh e f = past-grid e ∙ ap (λ (n : ℕ). orElse n (firstThatApplies (lengthChecks g l))) f
-
-  -- a group that gives a number ends it
   pub by-grid : (firstThatApplies (gridChecks g) ≡ 0 → ⊥) → refusalBy g m l ≡ firstThatApplies (gridChecks g)
-  by-grid h = by-groups ∙ or-kept (firstThatApplies (gridChecks g)) (orElse (firstThatApplies (meshChecks m)) (firstThatApplies (lengthChecks g l))) (omega (arith, h))
+  unfolding refusalBy
+  by-grid h = by-group (gridChecks g) (meshChecks m ++ placeChecks g m ++ lengthChecks g l) h
 
-  pub by-mesh : firstThatApplies (gridChecks g) ≡ 0 → (firstThatApplies (meshChecks m) ≡ 0 → ⊥) → refusalBy g m l ≡ firstThatApplies (meshChecks m)
-  by-mesh e h = past-grid e ∙ or-kept (firstThatApplies (meshChecks m)) (firstThatApplies (lengthChecks g l)) (omega (arith, h))
+  module _ (grid-passed : firstThatApplies (gridChecks g) ≡ 0) where
+    past-grid : refusalBy g m l ≡ firstThatApplies (meshChecks m ++ placeChecks g m ++ lengthChecks g l)
+    unfolding refusalBy
+    past-grid = past-group (gridChecks g) (meshChecks m ++ placeChecks g m ++ lengthChecks g l) (omega arith) grid-passed
+
+    pub by-mesh : (firstThatApplies (meshChecks m) ≡ 0 → ⊥) → refusalBy g m l ≡ firstThatApplies (meshChecks m)
+    by-mesh h = past-grid ∙ by-group (meshChecks m) (placeChecks g m ++ lengthChecks g l) h
+
+    module _ (mesh-passed : firstThatApplies (meshChecks m) ≡ 0) where
+      past-mesh : refusalBy g m l ≡ firstThatApplies (placeChecks g m ++ lengthChecks g l)
+      past-mesh = past-grid ∙ past-group (meshChecks m) (placeChecks g m ++ lengthChecks g l) (omega arith) mesh-passed
+
+      pub by-place : (firstThatApplies (placeChecks g m) ≡ 0 → ⊥) → refusalBy g m l ≡ firstThatApplies (placeChecks g m)
+      by-place h = past-mesh ∙ by-group (placeChecks g m) (lengthChecks g l) h
+
+      pub past-place : firstThatApplies (placeChecks g m) ≡ 0 → refusalBy g m l ≡ firstThatApplies (lengthChecks g l)
+      past-place z = past-mesh ∙ past-group (placeChecks g m) (lengthChecks g l) (omega arith) z

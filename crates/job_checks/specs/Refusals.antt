@@ -1,5 +1,5 @@
--- "Reply numbers. Checked in this order; the first that applies is given, and no number is given otherwise." (document 01). The five
--- that are checked before the run. Definitions only.
+-- "Reply numbers. Checked in this order; the first that applies is given, and no number is given otherwise." (document 01). Those that are
+-- checked before the run: document 01's 1 to 5, and 10, "after 4 and before 5" (document 02, §6). Definitions only.
 use Prim.Native.Nat.{ℕ, _*_, _%_}
 use mathlib.Core.Bool.{Bool, not, _||_}
 use mathlib.Core.List.{List, [], _∷_, _++_}
@@ -15,6 +15,7 @@ use Rattle.grid_axis.specs.AxisBounds.{isCoordinate}
 use Rattle.grid.specs.Bounds.{inBounds}
 use Rattle.mesh_topology.specs.Refusals.{tooManyTriangles, allBelowCount}
 use Rattle.mesh.specs.Mesh.{Mesh, vertexCount, trianglesIn}
+use Rattle.mesh_off_grid.specs.OffGrid.{allOnGrid}
 use Rattle.job_checks.specs.declared.Lengths.{Lengths}
 use Rattle.job_checks.specs.Job.{Job, Lent}
 
@@ -37,6 +38,10 @@ wrongTriangles m = tooManyTriangles (trianglesIn m)
 -- 4: "an index used by a triangle is not below the vertex count"
 abbrev pub wrongIndices : Mesh → Bool
 wrongIndices m = not (allBelowCount (vertexCount (m .vertices)) (trianglesIn m))
+
+-- 10: "on some axis, a triangle's unpadded corners all lie below the grid box's minimum or all lie above its maximum" (document 02, §6)
+abbrev pub wrongPlaces : Grid → Mesh → Bool
+wrongPlaces g m = not (allOnGrid g m)
 
 -- 5: "field, names, crossings or rows not exactly cells, cells, 3 × cells (x, y, z of each cell in turn), z count long; or queue
 -- buffers of unequal length"
@@ -62,7 +67,7 @@ lengthsOf b =
       triangles = length (b .triangles);
     }
 
--- the checks of the grid, of the mesh, and of the lent buffers
+-- the checks of the grid, of the mesh, of where it lies, and of the lent buffers
 abbrev pub gridChecks : Grid → List Check
 gridChecks g = record { applies = wrongGrid g; number = 1 } ∷ []
 
@@ -73,12 +78,15 @@ meshChecks m =
     record { applies = wrongIndices m; number = 4 } ∷
     []
 
+abbrev pub placeChecks : Grid → Mesh → List Check
+placeChecks g m = record { applies = wrongPlaces g m; number = 10 } ∷ []
+
 abbrev pub lengthChecks : Grid → Lengths → List Check
 lengthChecks g l = record { applies = wrongLengths g l; number = 5 } ∷ []
 
 -- "checked in this order"
 abbrev pub checks : Grid → Mesh → Lengths → List Check
-checks g m l = gridChecks g ++ meshChecks m ++ lengthChecks g l
+checks g m l = gridChecks g ++ meshChecks m ++ placeChecks g m ++ lengthChecks g l
 
 -- "the first that applies is given", and 0 where none does
 unfoldable pub refusalBy : Grid → Mesh → Lengths → ℕ

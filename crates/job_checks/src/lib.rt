@@ -1,15 +1,15 @@
-// The refusals that are checked before the run, in document 01's order ("Reply numbers", 1 to 5). A part of the
-// port: users call `sdf`.
+// The refusals that are checked before the run, in their order: 1 to 4, 10 and 5 (document 01, "Reply numbers", and
+// document 02, §6). A part of the port: users call `sdf`.
 ghost use mathlib.Core.Path.{_≡_};
 ghost use mathlib.Core.Bool.{true};
 ghost use Prim.Native.Nat.{_+_, _*_, _%_, _<_};
 ghost use lib.ListN.{length};
 ghost use Rattle.grid_axis.specs.AxisBounds.{isCoordinate};
 ghost use Rattle.grid.specs.Bounds.{inBounds};
-ghost use Rattle.mesh.specs.Mesh.{meshOf};
+ghost use Rattle.mesh.specs.Mesh.{Sound, meshOf};
 ghost use Rattle.lists.specs.Checks.{firstThatApplies};
 ghost use Rattle.job_checks.specs.Refusals.{allCoordinates, wrongVertices, wrongLengths};
-ghost use Rattle.job_checks.specs.Refusals.{gridChecks, meshChecks, lengthChecks, refusalBy};
+ghost use Rattle.job_checks.specs.Refusals.{gridChecks, meshChecks, placeChecks, lengthChecks, refusalBy};
 use grid::Grid;
 use mesh_topology::Indices;
 use mesh_topology::Topology;
@@ -104,6 +104,26 @@ fn mesh_refusal(vertices: &[f32], topology: Topology, given: Indices, indices: &
     0
 }
 
+// 10 where a triangle lies off the grid, and 0 where none does.
+fn place_refusal(
+    grid: Grid,
+    vertices: &[f32],
+    topology: Topology,
+    given: Indices,
+    indices: &[u32],
+) -> u32
+    requires { ⌜ Sound (meshOf (now vertices) topology given (now indices)) ⌝ }
+    ensures { λ r.
+        let m = meshOf (now (vertices .entry)) topology given (now (indices .entry)) in
+        ⌜ r ≡ firstThatApplies (placeChecks grid m) ⌝ }
+{
+    let on_grid = mesh_off_grid::all_on_grid(grid, vertices, topology, given, indices);
+    if !on_grid {
+        return 10;
+    }
+    0
+}
+
 // 5 where a lent buffer has a wrong length, and 0 where none has.
 fn length_refusal(grid: Grid, l: Lengths) -> u32
     requires { ⌜ inBounds grid ≡ true ⌝ }
@@ -116,7 +136,7 @@ fn length_refusal(grid: Grid, l: Lengths) -> u32
     0
 }
 
-// The first of the numbers 1 to 5 that applies, and 0 where none does.
+// The first number that applies before the run, and 0 where none does.
 pub fn first_refusal(
     grid: Grid,
     vertices: &[f32],
@@ -134,6 +154,10 @@ pub fn first_refusal(
     let by_mesh = mesh_refusal(vertices, topology, given, indices);
     if by_mesh != 0 {
         return by_mesh;
+    }
+    let by_place = place_refusal(grid, vertices, topology, given, indices);
+    if by_place != 0 {
+        return by_place;
     }
     length_refusal(grid, l)
 }

@@ -1,12 +1,12 @@
--- Where the first that applies is 0, none applies; no number is given but 0 and those of the checks; and the checks of two groups come to those of
--- the first group, or else to those of the second. By induction on the checks. Assumes nothing.
-use Prim.Native.Nat.{ℕ, zero, suc, _<_}
+-- Where the first that applies is 0, none applies; no number is given but 0 and those of the checks; and two groups may be asked in turn: a number
+-- of the first ends it, and past 0 it is the second's. By induction on the checks. Assumes nothing.
+use Prim.Native.Nat.{ℕ, _<_}
 use native.Mathlib.Omega.{arith}
-use mathlib.Core.Path.{_≡_, refl, sym}
+use mathlib.Core.Path.{_≡_, refl}
 use mathlib.Core.Logic.{_⊎_, inl, inr}
 use mathlib.Core.Bool.{Bool, true, false, cond}
 use mathlib.Core.List.{List, [], _∷_, _++_, List·Memᴰ, List·Memᴰ·head, List·Memᴰ·tail}
-use Rattle.lists.specs.Checks.{Check, firstThatApplies, numbersOf, orElse}
+use Rattle.lists.specs.Checks.{Check, firstThatApplies, numbersOf}
 
 -- no check has the number 0; none of them applies
 abbrev pub Numbered : List Check → Type 0
@@ -42,15 +42,20 @@ first-is (c ∷ cs) = go (c .applies) (first-is cs)
 
 -- ---- two groups
 
--- what is not 0 is kept
-pub or-kept : (n m : ℕ) → 0 < n → orElse n m ≡ n
-or-kept zero m h = absurd (omega arith)
-or-kept (suc n) m h = refl
+-- past a group that gave 0 the next is asked
+pub past-group : (cs ds : List Check) → Numbered cs → firstThatApplies cs ≡ 0 → firstThatApplies (cs ++ ds) ≡ firstThatApplies ds
+past-group [] ds n z = refl
+past-group (c ∷ cs) ds n z =
+    let p = passed (c .applies) (c .number) (n .0) z in
+    rw (p .0, past-group cs ds (n .1) (p .1))
 
-pub first-of-append : (cs ds : List Check) → Numbered cs → firstThatApplies (cs ++ ds) ≡ orElse (firstThatApplies cs) (firstThatApplies ds)
-first-of-append [] ds n = refl
-first-of-append (c ∷ cs) ds n = go (c .applies) (firstThatApplies (cs ++ ds)) (firstThatApplies cs) (first-of-append cs ds (n .1))
+-- a group that gives a number ends it
+pub by-group : (cs ds : List Check) → (firstThatApplies cs ≡ 0 → ⊥) → firstThatApplies (cs ++ ds) ≡ firstThatApplies cs
+by-group [] ds h = absurd (h refl)
+by-group (c ∷ cs) ds h = go (c .applies) (by-group cs ds) h
   where
-    go : (b : Bool) (all rest : ℕ) → all ≡ orElse rest (firstThatApplies ds) → cond b (c .number) all ≡ orElse (cond b (c .number) rest) (firstThatApplies ds)
-    go true all rest e = sym (or-kept (c .number) (firstThatApplies ds) (n .0))
-    go false all rest e = e
+    go : (b : Bool) → ((firstThatApplies cs ≡ 0 → ⊥) → firstThatApplies (cs ++ ds) ≡ firstThatApplies cs)
+        → (cond b (c .number) (firstThatApplies cs) ≡ 0 → ⊥)
+        → cond b (c .number) (firstThatApplies (cs ++ ds)) ≡ cond b (c .number) (firstThatApplies cs)
+    go true later h′ = refl
+    go false later h′ = later h′

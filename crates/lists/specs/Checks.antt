@@ -1,5 +1,5 @@
 -- Checks that are made in an order: the first that applies gives its number. Definitions only.
-use Prim.Native.Nat.{ℕ, zero, suc}
+use Prim.Native.Nat.{ℕ}
 use mathlib.Core.Bool.{Bool, cond}
 use mathlib.Core.List.{List, [], _∷_, map}
 
@@ -16,8 +16,3 @@ firstThatApplies (c ∷ cs) = cond (c .applies) (c .number) (firstThatApplies cs
 -- the numbers that they may give
 abbrev pub numbersOf : List Check → List ℕ
 numbersOf cs = map (λ c. c .number) cs
-
--- n, or m where n is 0
-abbrev pub orElse : ℕ → ℕ → ℕ
-orElse zero m = m
-orElse (suc n) m = suc n

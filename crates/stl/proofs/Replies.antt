@@ -1,14 +1,14 @@
 -- Which number is given, by what a file and a buffer are: one law for each check, and what holds where none applies. Assumes nothing.
 use Prim.Native.Nat.{ℕ, zero, suc, _*_, _/_, _%_, _≤_, _<_}
 use native.Mathlib.Omega.{arith}
-use mathlib.Core.Path.{_≡_, refl, _∙_}
+use mathlib.Core.Path.{_≡_, refl}
 use mathlib.Core.Bool.{Bool, true, false, not, _||_}
 use mathlib.Core.List.{List, _++_}
 use lib.Dec.{ltb, eqb}
 use lib.ListN.{length}
 use borrow.Author.Tests.{ltb-false, not-false, eqb-true, lt-ltb, le-ltb, eq-eqb, ne-eqb}
 use Rattle.lists.specs.Checks.{firstThatApplies}
-use Rattle.lists.proofs.Checks.{none-applies, first-of-append, or-kept}
+use Rattle.lists.proofs.Checks.{none-applies, past-group, by-group}
 use Rattle.stl.specs.declared.StlAnswer.the-variants.{Refused, Facets}
 use Rattle.stl.specs.File.{countIn, lengthFor}
 use Rattle.stl.specs.Reply.{fileChecks, bufferChecks, writingChecks, answerBy, outcomeBy, FileGives}
@@ -49,7 +49,7 @@ module _ (file : List ℕ) where
 
 module _ (file : List ℕ) (f : firstThatApplies (fileChecks file) ≡ 0) (numbers : ℕ) where
   reading-is : firstThatApplies (fileChecks file ++ bufferChecks file numbers) ≡ firstThatApplies (bufferChecks file numbers)
-  reading-is = rw (first-of-append (fileChecks file) (bufferChecks file numbers) (omega arith, (omega arith, tt)), f)
+  reading-is = past-group (fileChecks file) (bufferChecks file numbers) (omega arith, (omega arith, tt)) f
 
   pub unlent : (numbers ≡ 9 * countIn file → ⊥) → firstThatApplies (fileChecks file ++ bufferChecks file numbers) ≡ 5
   unlent e = rw (reading-is, ne-eqb numbers (9 * countIn file) e)
@@ -60,9 +60,7 @@ module _ (file : List ℕ) (f : firstThatApplies (fileChecks file) ≡ 0) (numbe
 -- a file that is refused is refused whatever was lent
 pub refused-first : (file : List ℕ) (numbers : ℕ) → (firstThatApplies (fileChecks file) ≡ 0 → ⊥)
     → firstThatApplies (fileChecks file ++ bufferChecks file numbers) ≡ firstThatApplies (fileChecks file)
-refused-first file numbers h =
-    first-of-append (fileChecks file) (bufferChecks file numbers) (omega arith, (omega arith, tt))
-    ∙ or-kept (firstThatApplies (fileChecks file)) _ (omega arith)
+refused-first file numbers h = by-group (fileChecks file) (bufferChecks file numbers) h
 
 -- ---- what is to be written
 

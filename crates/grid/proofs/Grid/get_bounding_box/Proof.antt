@@ -1,25 +1,12 @@
--- `Grid::get_bounding_box`: refused by the test of the grid, else the six sides of the definition. Assumes nothing.
-use Rattle.grid.specs.Place.{boxMin, boxMax}
+-- `Grid::get_bounding_box`: refused by the test of the grid, else the box of `parts`. Assumes nothing.
 use Rattle.grid.proofs.Facts.{fails, passes}
 use Rattle.grid.proofs.Grid.get_bounding_box.Statement.{statement}
 use Rattle.grid.proofs.Grid.get_bounding_box.Tie as tie
 
 pub get-bounding-box-spec : {M : Type 1} → statement M
-unfolding boxMin boxMax
 get-bounding-box-spec =
     tie.close (tie.spec
     (λ c κs. tt)
     (λ c. rw (fails (c .before .in-bounds .ensures) (c .if1 .taken)))
-    (λ c κs. tt) (λ c κs. tt) (λ c κs. tt) (λ c κs. tt) (λ c κs. tt) (λ c κs. tt)
-    (λ c.
-    let low = c .before .before .before in
-    let asked = low .before .before .before .before .before in
-    rw (
-      passes (asked .before .in-bounds .ensures) (asked .if1 .left),
-      low .before .before .low-on .ensures,
-      low .before .low-on2 .ensures,
-      low .low-on3 .ensures,
-      c .before .before .high-on .ensures,
-      c .before .high-on2 .ensures,
-      c .high-on3 .ensures,
-    )))
+    (λ c κs. tt)
+    (λ c. rw (passes (c .before .before .in-bounds .ensures) (c .before .if1 .left), c .get-bounding-box .ensures)))
