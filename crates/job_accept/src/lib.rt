@@ -72,7 +72,7 @@ fn cleared_job(
     )
 }
 
-// A job that none of the numbers 1 to 5 refuses.
+// A job that is not refused before the run.
 pub fn accepted_job(
     grid: Grid,
     vertices: &[f32],

@@ -28,7 +28,7 @@ lengthsWith field names crossings rows room =
       triangles = room;
     }
 
--- The field and the names become field′ and names′: as they were where a number below 6 refuses, else seeded from bare ones.
+-- The field and the names become field′ and names′: as they were where a number of the checks refuses, else seeded from bare ones.
 pub record Begins (g : Grid) (m : Mesh) (crossings rows room : ℕ) (field : List Float) (names : List ℕ) (field′ : List Float) (names′ : List ℕ) (r : Begun) : Type 0 where
   pub refused-is : r .refused ≡ refusalBy g m (lengthsWith field names crossings rows room)
   pub unchanged : (r .refused ≡ 0 → ⊥) → (field′ ≡ field) × (names′ ≡ names)

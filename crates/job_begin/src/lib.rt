@@ -1,5 +1,5 @@
-// What comes before the queue is filled (document 01, "Reply numbers", 1 to 5, and "The run", 1): the refusals that
-// change nothing, then the field and the names cleared and seeded. A part of the port: users call `sdf`.
+// What comes before the queue is filled (document 01, "Reply numbers", and "The run", 1): the refusals that change
+// nothing, then the field and the names cleared and seeded. A part of the port: users call `sdf`.
 use grid::Grid;
 use job_checks::Lengths;
 use mesh_topology::Indices;

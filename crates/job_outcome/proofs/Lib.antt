@@ -1,3 +1,4 @@
 -- Laws of the proofs, and of the crates above.
 pub mod Outcomes
 pub mod Numbers
+pub mod OnGrid

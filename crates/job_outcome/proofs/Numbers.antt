@@ -1,11 +1,10 @@
--- No number is given otherwise: a job is done, or refused by a number of the checks or of the run; so a refusal's number is 1 to 8, and
+-- No number is given otherwise: a job is done, or refused by a number of the checks or of the run; so a refusal's number is one of the nine, and
 -- number 0 means that the job is done. Assumes nothing.
 use Prim.Native.Nat.{ℕ, zero, suc, _≤_}
 use native.Mathlib.Omega.{arith}
 use mathlib.Core.Path.{_≡_, refl, sym, ap, _∙_}
 use mathlib.Core.Logic.{_⊎_, inl, inr}
-use mathlib.Core.Bool.{true, _&&_, and-eq-true-iff}
-use mathlib.Core.List.{List, List·Memᴰ, List·Memᴰ·head, List·Memᴰ·tail}
+use mathlib.Core.List.{List·Memᴰ, List·Memᴰ·head, List·Memᴰ·tail, Memᴰ·cast, Memᴰ·append-left, Memᴰ·append-right}
 use lib.Dec.{leb}
 use borrow.Author.Tests.{leb-true}
 use Rattle.lists.specs.Turns.{Turn, goes, refuses}
@@ -19,14 +18,14 @@ use Rattle.job_checks.specs.Refusals.{refusal, refusalBy, lengthsOf, checks}
 use Rattle.lists.proofs.Checks.{first-is}
 use Rattle.job_outcome.specs.declared.Answer.the-variants.{Refused}
 use Rattle.job_outcome.specs.Outcome.{tallyOf, ended, runOf, unlessRefused, outcome, numberOf}
-use Rattle.job_outcome.specs.Numbers.{checkNumbers, runNumbers, IsDone, Replies, done, beforeTheRun, inTheRun}
+use Rattle.job_outcome.specs.Numbers.{checkNumbers, runNumbers, refusalNumbers, IsDone, Replies, done, beforeTheRun, inTheRun}
 
--- "the checks by 1 to 5": what the checks come to is 0 or one of their numbers
+-- the checks: what the checks come to is 0 or one of their numbers
 check-given : (j : Job) (b : Lent) → (refusal j b ≡ 0) ⊎ List·Memᴰ (refusal j b) (checkNumbers j b)
 unfolding refusalBy
 check-given j b = first-is (checks (j .grid) (j .mesh) (lengthsOf b))
 
--- "the run by 6, 7 or 8"
+-- the run: by 6, 7 or 8
 run-given : (j : Job) (b : Lent) → OnlyBy (λ n. List·Memᴰ n runNumbers) (runOf j b)
 run-given j b =
     run-by (λ n. List·Memᴰ n runNumbers) _
@@ -49,29 +48,21 @@ replies j b = check (refusal j b) (check-given j b)
 
 -- ---- the numbers
 
-within : (lo hi n : ℕ) (l : List ℕ) → every (λ k. leb lo k && leb k hi) l ≡ true → List·Memᴰ n l → (lo ≤ n) × (n ≤ hi)
-within lo hi n l h m =
-    let t = and-eq-true-iff (leb lo n) (leb n hi) .0 (every-member (λ k. leb lo k && leb k hi) n l h m) in
-    (leb-true lo n (t .0), leb-true n hi (t .1))
-
-pub before-the-run : (j : Job) (b : Lent) (n : ℕ) → List·Memᴰ n (checkNumbers j b) → (1 ≤ n) × (n ≤ 5)
-unfolding every
-before-the-run j b n m = within 1 5 n (checkNumbers j b) refl m
-
-pub in-the-run : (n : ℕ) → List·Memᴰ n runNumbers → (6 ≤ n) × (n ≤ 8)
-unfolding every
-in-the-run n m = within 6 8 n runNumbers refl m
-
 refused-same : {m n : ℕ} → Refused m ≡ Refused n → m ≡ n
 refused-same e = cc
 
-pub refused-1-to-8 : (j : Job) (b : Lent) (n : ℕ) → outcome j b .answer ≡ Refused n → (1 ≤ n) × (n ≤ 8)
-refused-1-to-8 j b n h = go (replies j b)
+pub refused-by : (j : Job) (b : Lent) (n : ℕ) → outcome j b .answer ≡ Refused n → List·Memᴰ n refusalNumbers
+refused-by j b n h = go (replies j b)
   where
-    go : Replies j b (outcome j b) → (1 ≤ n) × (n ≤ 8)
+    go : Replies j b (outcome j b) → List·Memᴰ n refusalNumbers
     go (done d) = absurd (let e = d .is in let z : _≡_ {A = ℕ} 0 1 = cc in omega arith)
-    go (beforeTheRun k m e l) = let w = before-the-run j b k m in let s = refused-same (sym e ∙ h) in (omega arith, omega arith)
-    go (inTheRun k m e l) = let w = in-the-run k m in let s = refused-same (sym e ∙ h) in (omega arith, omega arith)
+    go (beforeTheRun k m e l) = Memᴰ·append-left runNumbers (Memᴰ·cast (refused-same (sym h ∙ e)) m)
+    go (inTheRun k m e l) = Memᴰ·append-right (checkNumbers j b) (Memᴰ·cast (refused-same (sym h ∙ e)) m)
+
+-- none of them is 0
+above-0 : (n : ℕ) → List·Memᴰ n refusalNumbers → 1 ≤ n
+unfolding every
+above-0 n m = leb-true 1 n (every-member (leb 1) n refusalNumbers refl m)
 
 -- number 0 means that the job is done
 pub number-0 : (j : Job) (b : Lent) → numberOf (outcome j b .answer) ≡ 0 → IsDone (outcome j b .answer)
@@ -79,5 +70,5 @@ number-0 j b h = go (replies j b)
   where
     go : Replies j b (outcome j b) → IsDone (outcome j b .answer)
     go (done d) = d
-    go (beforeTheRun k m e l) = absurd (let w = before-the-run j b k m in omega (arith, ap numberOf e))
-    go (inTheRun k m e l) = absurd (let w = in-the-run k m in omega (arith, ap numberOf e))
+    go (beforeTheRun k m e l) = absurd (let w = above-0 k (refused-by j b k e) in omega (arith, ap numberOf e))
+    go (inTheRun k m e l) = absurd (let w = above-0 k (refused-by j b k e) in omega (arith, ap numberOf e))

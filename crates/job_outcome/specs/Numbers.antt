@@ -1,4 +1,4 @@
--- "Reply numbers. Checked in this order; the first that applies is given, and no number is given otherwise." (document 01). Which
+-- "Reply numbers. Checked in this order; the first that applies is given, and no number is given otherwise." (document 01; document 02 adds 10). Which
 -- numbers a job may be answered, and what each leaves in the lent buffers. Definitions only; proofs/Numbers.antt shows it of every job
 -- (`replies`).
 use Prim.Native.Nat.{ℕ}
@@ -13,13 +13,17 @@ use Rattle.job_outcome.specs.declared.Answer.the-variants.{Refused, Done
 use Rattle.job_outcome.specs.declared.Tally.{Tally}
 use Rattle.job_outcome.specs.Outcome.{Outcome}
 
--- the numbers of the checks before the run, as their list has them: 1 to 5
+-- the numbers of the checks before the run, as their list has them: 1 to 4, 10 and 5
 abbrev pub checkNumbers : Job → Lent → List ℕ
 checkNumbers j b = numbersOf (checks (j .grid) (j .mesh) (lengthsOf b))
 
 -- the numbers that are met in the run
 abbrev pub runNumbers : List ℕ
 runNumbers = 6 ∷ 7 ∷ 8 ∷ []
+
+-- all of them, in the order in which they are checked
+abbrev pub refusalNumbers : List ℕ
+refusalNumbers = 1 ∷ 2 ∷ 3 ∷ 4 ∷ 10 ∷ 5 ∷ runNumbers
 
 pub record IsDone (a : Answer) : Type 0 where
   pub tally : Tally
