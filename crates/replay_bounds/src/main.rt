@@ -1,53 +1,17 @@
-// Each refusal of document 01 ("Reply numbers") at its exact bound: the public job is asked on both sides of
+// Each refusal of document 01 ("Reply numbers"), and 10 of document 02, at its exact bound: the public job is asked on both sides of
 // it, and what it answers is printed beside what was asked. The file `stdout` has the numbers that the
-// tables of document 01 give. Refusals 7 and 8 at their bounds are jobs of the sample that `replay_jobs` runs.
+// tables of document 01, and of document 02, give. Refusals 7 and 8 at their bounds are jobs of the sample that `replay_jobs` runs.
 mod counting;
+mod off_grid;
 mod trial;
 
 use sdf::Grid;
 use sdf::Indices;
 use sdf::Point;
 use sdf::Topology;
-ghost use mathlib.Core.Path.{_≡_};
+use trial::one_cell;
+use trial::tell;
 ghost use Prim.Native.Nat.{_≤_};
-ghost use Rattle.job_checks.specs.Job.{jobOf};
-ghost use Rattle.job_outcome.specs.Outcome.{outcome, numberOf};
-ghost use Rattle.replay_bounds.specs.Trials.{lentLong, onePop};
-
-fn tell(name: &[u8], number: u32) {
-    io::print_decimal(1, number as u64);
-    io::write_all(1, b" ");
-    io::write_all(1, name);
-    io::write_all(1, b"\n");
-}
-
-// The number that a job over the buffers of one cell, with room for one entry, is answered by.
-fn one_cell(
-    grid: Grid,
-    vertices: &[f32],
-    topology: Topology,
-    given: Indices,
-    indices: &[u32],
-) -> u32
-    ensures { λ r.
-        let job = jobOf grid (now (vertices .entry)) topology given (now (indices .entry)) onePop in
-        ⌜ r ≡ numberOf (outcome job (lentLong 1 1 3 1 1 1 1) .answer) ⌝ }
-{
-    trial::asked(
-        grid,
-        vertices,
-        topology,
-        given,
-        indices,
-        1,
-        1,
-        3,
-        1,
-        1,
-        1,
-        1,
-    )
-}
 
 // ---- 1: the grid. One cell is lent, so a grid of several cells that is not out of bounds is answered 5.
 
@@ -226,6 +190,19 @@ fn try_indices(name: &[u8], topology: Topology, many: &[u32], k: usize) {
     try_mesh(name, &vertices, topology, Indices::Given, &many[..n]);
 }
 
+// The same with that vertex off the grid: 3 comes before 10.
+fn try_indices_off(name: &[u8], many: &[u32], k: usize) {
+    let vertices = [9.0f32; 3];
+    let n = counting::indices(many, k);
+    try_mesh(
+        name,
+        &vertices,
+        Topology::TriangleList,
+        Indices::Given,
+        &many[..n],
+    );
+}
+
 fn triangle_counts(many: &[u32]) {
     try_indices(
         b"list of 393215 indices",
@@ -269,6 +246,8 @@ fn triangle_counts(many: &[u32]) {
         many,
         131075,
     );
+    try_indices_off(b"list of 393216 indices, off the grid", many, 393216);
+    try_indices_off(b"list of 393219 indices, off the grid", many, 393219);
 }
 
 fn triangle_bounds() {
@@ -392,6 +371,7 @@ fn main() {
     vertex_bounds();
     triangle_bounds();
     index_bounds();
+    off_grid::trials();
     length_bounds();
     not_a_number();
 }
