@@ -41,7 +41,7 @@ extern "C" {
 #endif
 
 /* Raised whenever a function, a record or a number below is no longer what it was. */
-#define SDF_VERSION 6
+#define SDF_VERSION 7
 
 /* The numbers of the whole job [4.1], in the order in which they are checked; the first that applies is given. A
  * question asked by itself [4.4] gives 1 for the grid, 2 for a coordinate that is not finite or above 2,097,152 in
@@ -54,6 +54,9 @@ enum {
                              an unused vertex too) not finite or above 1,048,576 in magnitude */
     SDF_TRIANGLES = 3,    /* more than 131,072 triangles */
     SDF_INDEX = 4,        /* an index that a triangle uses is not below the count of vertices */
+    SDF_OFF_GRID = 10,    /* a triangle lies off the grid: on some axis all three of its corners are below the minimum of
+                             sdf_grid_box, or all three above its maximum. Touching is allowed. Only triangles count: a vertex that
+                             none uses may lie anywhere. Move or drop the triangle, or ask for more cells on that side */
     SDF_LENGTHS = 5,      /* a buffer's length is not the one that the grid asks for, or the queue's three lengths differ
                              (a queue that is a row of records has one length) */
     SDF_NOT_A_NUMBER = 6, /* a distance met in seeding or spreading is a NaN: two corners a hair apart */
@@ -196,7 +199,7 @@ enum { SDF_PLAIN = 0, SDF_QUICK = 1 };
  *
  * What is left in the buffers that are written, whatever they held before [4.3]:
  *   0            field, names, crossings and rows as above; the queue all zero
- *   1 to 5       nothing was changed
+ *   1 to 5, 10   nothing was changed
  *   6 to 8       the field all FLT_MAX (of <float.h>), the names all SDF_NONE, crossings, rows and queue all zero
  * With no triangle the answer is 0, the field all FLT_MAX and the names all SDF_NONE. A cell is left so too, though there
  * are triangles, if every distance offered to it was infinite; inside it holds -FLT_MAX, and its row counts it.
@@ -283,7 +286,7 @@ sdf_point_answer sdf_grid_size(sdf_grid grid);
 sdf_cell_answer sdf_grid_counts(sdf_grid grid);
 /* How many cells there are: the length of field and names. */
 sdf_number_answer sdf_grid_total(sdf_grid grid);
-/* The box that the cells fill. */
+/* The box that the cells fill. A triangle that lies off it is refused by 10 (SDF_OFF_GRID). */
 sdf_box_answer sdf_grid_box(sdf_grid grid);
 /* The index of a cell, z fastest: where it stands in field and names. Refuses by 4 after 1. */
 sdf_number_answer sdf_grid_index(sdf_grid grid, sdf_cell cell);

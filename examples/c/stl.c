@@ -26,6 +26,9 @@ static const char *in_words(uint32_t number) {
                "within 1,048,576 of zero, a cell's size from 1/1,024 to 1,024: correct the numbers on the command line";
     case SDF_COORDINATES:
         return "a corner is not finite, or beyond 1,048,576: repair the scan, or write it in a larger unit";
+    case SDF_OFF_GRID:
+        return "a facet lies off the grid: on some axis all three of its corners are beyond the cells. Give a first centre and "
+               "counts whose cells reach round all of the scan, or cut off what does not belong to the tank";
     case SDF_NOT_A_NUMBER:
         return "a distance came out as NaN, since two corners of a facet are a hair apart: drop or merge that facet, as "
                "mesh programs do ('remove degenerate facets')";

@@ -1,9 +1,9 @@
 -- The checks group by group: the grid's, the mesh's, those of where it lies, the lengths'. Past the groups that gave 0 the next is asked, and the first that
 -- gives a number ends it. Assumes nothing.
-use mathlib.Core.Path.{_≡_, _∙_}
-use mathlib.Core.List.{_++_}
+use mathlib.Core.Path.{_≡_, refl, _∙_}
+use mathlib.Core.List.{List, _++_}
 use native.Mathlib.Omega.{arith}
-use Rattle.lists.specs.Checks.{firstThatApplies}
+use Rattle.lists.specs.Checks.{Check, firstThatApplies}
 use Rattle.lists.proofs.Checks.{past-group, by-group}
 use Rattle.grid.specs.declared.Grid.{Grid}
 use Rattle.mesh.specs.Mesh.{Mesh}
@@ -11,21 +11,30 @@ use Rattle.job_checks.specs.declared.Lengths.{Lengths}
 use Rattle.job_checks.specs.Refusals.{gridChecks, meshChecks, placeChecks, lengthChecks, refusalBy}
 
 module _ (g : Grid) (m : Mesh) (l : Lengths) where
-  pub by-grid : (firstThatApplies (gridChecks g) ≡ 0 → ⊥) → refusalBy g m l ≡ firstThatApplies (gridChecks g)
+  -- the groups that follow the grid's, and the mesh's
+  abbrev after-grid : List Check
+  after-grid = meshChecks m ++ placeChecks g m ++ lengthChecks g l
+
+  abbrev after-mesh : List Check
+  after-mesh = placeChecks g m ++ lengthChecks g l
+
+  in-order : refusalBy g m l ≡ firstThatApplies (gridChecks g ++ after-grid)
   unfolding refusalBy
-  by-grid h = by-group (gridChecks g) (meshChecks m ++ placeChecks g m ++ lengthChecks g l) h
+  in-order = refl
+
+  pub by-grid : (firstThatApplies (gridChecks g) ≡ 0 → ⊥) → refusalBy g m l ≡ firstThatApplies (gridChecks g)
+  by-grid h = in-order ∙ by-group (gridChecks g) after-grid h
 
   module _ (grid-passed : firstThatApplies (gridChecks g) ≡ 0) where
-    past-grid : refusalBy g m l ≡ firstThatApplies (meshChecks m ++ placeChecks g m ++ lengthChecks g l)
-    unfolding refusalBy
-    past-grid = past-group (gridChecks g) (meshChecks m ++ placeChecks g m ++ lengthChecks g l) (omega arith) grid-passed
+    past-grid : refusalBy g m l ≡ firstThatApplies after-grid
+    past-grid = in-order ∙ past-group (gridChecks g) after-grid (omega arith) grid-passed
 
     pub by-mesh : (firstThatApplies (meshChecks m) ≡ 0 → ⊥) → refusalBy g m l ≡ firstThatApplies (meshChecks m)
-    by-mesh h = past-grid ∙ by-group (meshChecks m) (placeChecks g m ++ lengthChecks g l) h
+    by-mesh h = past-grid ∙ by-group (meshChecks m) after-mesh h
 
     module _ (mesh-passed : firstThatApplies (meshChecks m) ≡ 0) where
-      past-mesh : refusalBy g m l ≡ firstThatApplies (placeChecks g m ++ lengthChecks g l)
-      past-mesh = past-grid ∙ past-group (meshChecks m) (placeChecks g m ++ lengthChecks g l) (omega arith) mesh-passed
+      past-mesh : refusalBy g m l ≡ firstThatApplies after-mesh
+      past-mesh = past-grid ∙ past-group (meshChecks m) after-mesh (omega arith) mesh-passed
 
       pub by-place : (firstThatApplies (placeChecks g m) ≡ 0 → ⊥) → refusalBy g m l ≡ firstThatApplies (placeChecks g m)
       by-place h = past-mesh ∙ by-group (placeChecks g m) (lengthChecks g l) h
