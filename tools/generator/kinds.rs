@@ -282,7 +282,7 @@ fn box_around_grid(r: &mut Random) -> Job {
 }
 
 /// A floor through a layer of centres, alone or as the lid of a box, whose walls lie between the outermost centres and the sides
-/// of the grid's box: distances of 0, and −0.
+/// of the grid's box: distances of 0.
 fn flat_floor(r: &mut Random) -> Job {
     let grid = grid(r);
     let axis = r.below(3) as usize;
@@ -581,9 +581,26 @@ fn zeros_and_subnormals(r: &mut Random) -> Job {
     job
 }
 
-/// Corners that are alike as numbers and not as bits: +0 and −0.
+/// Corners that are alike as numbers and not as bits: +0 and −0. Where that takes a triangle off the grid, grid and mesh are moved
+/// to where 0 is within the grid, and the same corners are set.
 fn signed_zero_corners(r: &mut Random) -> Job {
     let mut job = if r.once_in(5) { soup_lattice(r) } else { soup(r) };
+    let (before, mut same) = (job.clone(), r.clone());
+    set_signed_zeros(&mut job, r);
+    if bounds::check(&job, LANDED) == Err(10) {
+        job = before;
+        for axis in 0..3 {
+            let cell = r.between(0, job.grid.count[axis] - 1);
+            let by = job.grid.centre_on(axis, cell) + 0.4 * r.unit() * job.grid.size[axis];
+            job.grid.first[axis] -= by;
+            job.vertices.iter_mut().for_each(|v| v[axis] -= by);
+        }
+        set_signed_zeros(&mut job, &mut same);
+    }
+    job
+}
+
+fn set_signed_zeros(job: &mut Job, r: &mut Random) {
     for t in 0..job.vertices.len() / 3 {
         let [one, other] = r.turn(&[[0, 1], [1, 2], [0, 2]]).map(|corner| 3 * t + corner);
         let axis = r.below(3) as usize;
@@ -591,7 +608,6 @@ fn signed_zero_corners(r: &mut Random) -> Job {
         job.vertices[other] = job.vertices[one];
         job.vertices[other][axis] = -job.vertices[one][axis];
     }
-    job
 }
 
 /// Two corners alike and a third a hair away: the squared length of the segment is 0. Where the point lies beside
