@@ -1,6 +1,6 @@
 //! Kinds whose triangles all lie within the grid's box, so that no job of them is refused for lying off the grid
-//! (document 02, §6): what the other requests of document 02 turn on stands here too, and stays answered when §6 lands.
-//! One kind, `hull-one-ulp-out`, lies off the box by the least that a float can.
+//! (document 02, §6): what the other requests of document 02 turn on stands here too. One kind, `hull-one-ulp-out`, lies off the
+//! box by the least that a float can.
 
 use crate::kinds::{body, grid, job, join, shuffle, Make};
 use crate::random::Random;
@@ -39,7 +39,7 @@ pub const KINDS: [(&str, Make); 14] = [
 ];
 
 /// A grid of some cells along each axis, with centres that are plain numbers two times of three.
-fn roomy_grid(r: &mut Random) -> Grid {
+pub fn roomy_grid(r: &mut Random) -> Grid {
     let mut grid = grid(r);
     grid.count = [0; 3].map(|_| r.between(2, 6));
     if !r.once_in(3) {
@@ -50,12 +50,12 @@ fn roomy_grid(r: &mut Random) -> Grid {
 }
 
 /// From a to b in cell units, drawn in so far that rounding keeps it off the sides of the grid's box.
-fn within(grid: &Grid, axis: usize, at: f64) -> f64 {
+pub fn within(grid: &Grid, axis: usize, at: f64) -> f64 {
     at.clamp(-0.49, f64::from(grid.count[axis]) - 0.51)
 }
 
 /// Low and high of a box that lies within the grid's, its sides off the centres.
-fn ends(grid: &Grid, r: &mut Random) -> ([f64; 3], [f64; 3]) {
+pub fn ends(grid: &Grid, r: &mut Random) -> ([f64; 3], [f64; 3]) {
     let mut ends = ([0.0; 3], [0.0; 3]);
     for axis in 0..3 {
         let n = f64::from(grid.count[axis]);
@@ -90,7 +90,7 @@ fn plane_inside(r: &mut Random, axis: usize) -> Job {
 }
 
 /// A plate across the axis: a cuboid without height has it twice, and flat sides; the first alone is kept.
-fn plate(low: [f64; 3], high: [f64; 3], axis: usize) -> Mesh {
+pub fn plate(low: [f64; 3], high: [f64; 3], axis: usize) -> Mesh {
     let mut plate = shapes::cuboid(low, high);
     plate.triangles = plate.triangles[shapes::cuboid_face(axis)].to_vec();
     plate
@@ -164,7 +164,7 @@ fn hull_one_ulp_out(r: &mut Random) -> Job {
 }
 
 /// The next float above.
-fn next_up(x: f32) -> f32 {
+pub fn next_up(x: f32) -> f32 {
     match x.to_bits() {
         0x8000_0000 => f32::from_bits(1),
         bits if x < 0.0 => f32::from_bits(bits - 1),
@@ -275,7 +275,7 @@ fn long_tank(r: &mut Random, axis: usize) -> Job {
 }
 
 /// A closed tank or a box within the grid.
-fn hull(r: &mut Random) -> (Grid, Mesh) {
+pub fn hull(r: &mut Random) -> (Grid, Mesh) {
     let grid = roomy_grid(r);
     let mesh = if r.once_in(2) {
         let (low, high) = ends(&grid, r);

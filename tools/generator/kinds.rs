@@ -2,11 +2,12 @@
 
 use crate::damage;
 use crate::inside;
+use crate::off_grid;
 use crate::random::Random;
 use crate::shapes::{self, Mesh};
 use model::grid::Grid;
 use model::topology::Topology;
-use model::{text, Job};
+use model::{bounds, text, Job, LANDED};
 
 const BOUND: f32 = 1_048_576.0;
 const LEAST_SIZE: f32 = 1.0 / 1_024.0;
@@ -115,21 +116,50 @@ pub const BASE: [(&str, Make); 69] = [
     ("damaged-small", one_triangle),
 ];
 
-/// The kinds that take turns: those of a set, `base` or `inside`, or of both.
+/// Kinds that lie off the grid by design, beside those of the set `off-grid`.
+const OFF_GRID: [&str; 2] = ["box-around-grid", "hull-one-ulp-out"];
+/// How often another kind draws again.
+const DRAWINGS: u32 = 500;
+
+/// The kinds that take turns: those of a set, `base`, `inside` or `off-grid`, or of all three.
 pub fn of_set(set: Option<&str>) -> Vec<&'static str> {
     let names = |kinds: &'static [(&'static str, Make)]| kinds.iter().map(|(name, _)| *name);
     match set {
         Some("base") => names(&BASE).collect(),
         Some("inside") => names(&inside::KINDS).collect(),
-        _ => names(&BASE).chain(names(&inside::KINDS)).collect(),
+        Some("off-grid") => names(&off_grid::KINDS).collect(),
+        _ => names(&BASE).chain(names(&inside::KINDS)).chain(names(&off_grid::KINDS)).collect(),
     }
 }
 
 /// The text of one job of the kind.
+///
+/// The kinds of the base came before document 02, §6, and many of their meshes stick out of the grid: what each was made to show
+/// would be lost in refusals by 10. So where the first drawing is refused so, it is kept once in four, and else the kind draws
+/// until one is not. What was not refused so stays word for word what it was: no number is drawn before it.
 pub fn make(kind: &str, r: &mut Random) -> Option<Vec<u8>> {
-    let (_, make) = BASE.iter().chain(&inside::KINDS).chain(&ALONE).find(|(name, _)| *name == kind)?;
+    let all = BASE.iter().chain(&inside::KINDS).chain(&off_grid::KINDS).chain(&ALONE);
+    let (_, make) = all.clone().find(|(name, _)| *name == kind)?;
+    let first = draw(kind, *make, r);
+    let by_design = OFF_GRID.contains(&kind) || off_grid::KINDS.iter().any(|(name, _)| *name == kind);
+    let limits = !kind.starts_with("large-");
+    if by_design || !refused_by_10(&first, limits) || r.once_in(4) {
+        return Some(first);
+    }
+    let again = (0..DRAWINGS).map(|_| draw(kind, *make, r)).find(|text| !refused_by_10(text, limits));
+    Some(again.unwrap_or(first))
+}
+
+/// Whether the job program answers a text by 10, or the library does, which has not its limits.
+fn refused_by_10(text: &[u8], limits: bool) -> bool {
+    let job = text::read(text).filter(|job| !limits || text::within_limits(job));
+    job.is_some_and(|job| bounds::check(&job, LANDED) == Err(10))
+}
+
+/// One drawing of a kind.
+fn draw(kind: &str, make: Make, r: &mut Random) -> Vec<u8> {
     let text = text::write(&make(r));
-    Some(match kind {
+    match kind {
         // The two begin at different ways, so that together they show all of them sooner.
         "damaged" => damage::damage(r.turn(&damage::WAYS), &text, r),
         "damaged-small" => {
@@ -138,7 +168,7 @@ pub fn make(kind: &str, r: &mut Random) -> Option<Vec<u8>> {
             damage::damage(r.turn(&ways), &text, r)
         }
         _ => text.into(),
-    })
+    }
 }
 
 // Grids.
@@ -251,12 +281,13 @@ fn box_around_grid(r: &mut Random) -> Job {
     job(grid, &shapes::cuboid([-0.5 - margin; 3], high), r)
 }
 
-/// A floor through a layer of centres, alone or as the lid of a box: distances of 0, and −0.
+/// A floor through a layer of centres, alone or as the lid of a box, whose walls lie between the outermost centres and the sides
+/// of the grid's box: distances of 0.
 fn flat_floor(r: &mut Random) -> Job {
     let grid = grid(r);
     let axis = r.below(3) as usize;
-    let mut low = [-0.75; 3];
-    let mut high = span(&grid).map(|x| x + 0.25);
+    let mut low = [-0.25; 3];
+    let mut high = span(&grid).map(|x| x - 0.25);
     high[axis] = f64::from(r.between(0, grid.count[axis] - 1));
     if r.once_in(3) {
         low[axis] = high[axis];
@@ -352,12 +383,25 @@ fn soup_lattice(r: &mut Random) -> Job {
     job
 }
 
+/// Triangles that reach far beyond the grid on all sides, so that snapping clamps, and are off it on no axis.
 fn soup_beyond(r: &mut Random) -> Job {
     let grid = grid(r);
     let n = r.between(1, 6);
     let far = r.pick(&[5.0, 50.0, 5000.0]);
     let mesh = shapes::soup(r, -far, [far; 3], n);
-    job(grid, &mesh, r)
+    let mut job = job(grid, &mesh, r);
+    draw_off_grid_again(&mut job, -far, [far; 3], r);
+    job
+}
+
+/// Draws those triangles of a soup again that lie off the grid, until none does.
+fn draw_off_grid_again(job: &mut Job, low: f64, high: [f64; 3], r: &mut Random) {
+    for triangle in job.vertices.chunks_exact_mut(3) {
+        while bounds::off_grid(&job.grid, [triangle[0], triangle[1], triangle[2]]) {
+            let again = shapes::soup(r, low, high, 1);
+            triangle.iter_mut().zip(again.vertices).for_each(|(v, at)| *v = place(&job.grid, at));
+        }
+    }
 }
 
 /// Large triangles over hundreds of cells.
@@ -537,9 +581,26 @@ fn zeros_and_subnormals(r: &mut Random) -> Job {
     job
 }
 
-/// Corners that are alike as numbers and not as bits: +0 and −0.
+/// Corners that are alike as numbers and not as bits: +0 and −0. Where that takes a triangle off the grid, grid and mesh are moved
+/// to where 0 is within the grid, and the same corners are set.
 fn signed_zero_corners(r: &mut Random) -> Job {
     let mut job = if r.once_in(5) { soup_lattice(r) } else { soup(r) };
+    let (before, mut same) = (job.clone(), r.clone());
+    set_signed_zeros(&mut job, r);
+    if bounds::check(&job, LANDED) == Err(10) {
+        job = before;
+        for axis in 0..3 {
+            let cell = r.between(0, job.grid.count[axis] - 1);
+            let by = job.grid.centre_on(axis, cell) + 0.4 * r.unit() * job.grid.size[axis];
+            job.grid.first[axis] -= by;
+            job.vertices.iter_mut().for_each(|v| v[axis] -= by);
+        }
+        set_signed_zeros(&mut job, &mut same);
+    }
+    job
+}
+
+fn set_signed_zeros(job: &mut Job, r: &mut Random) {
     for t in 0..job.vertices.len() / 3 {
         let [one, other] = r.turn(&[[0, 1], [1, 2], [0, 2]]).map(|corner| 3 * t + corner);
         let axis = r.below(3) as usize;
@@ -547,7 +608,6 @@ fn signed_zero_corners(r: &mut Random) -> Job {
         job.vertices[other] = job.vertices[one];
         job.vertices[other][axis] = -job.vertices[one][axis];
     }
-    job
 }
 
 /// Two corners alike and a third a hair away: the squared length of the segment is 0. Where the point lies beside
@@ -875,10 +935,19 @@ fn at_limit(r: &mut Random, which: u32) -> Job {
         }
         1 => {
             let n = MOST_VERTICES + over;
-            job.vertices = (0..n).map(|i| job.vertices[i as usize % 3].map(|x| x + i as f32 * 0.125)).collect();
+            let corners = job.vertices;
+            let stairs =
+                |step: f32| (0..n).map(|i| corners[i as usize % 3].map(|x| x + i as f32 * step)).collect::<Vec<_>>();
+            job.vertices = stairs(0.125);
             if r.once_in(2) {
                 job.indices = None;
                 job.topology = r.pick(&[Topology::List, Topology::Strip]);
+            }
+            // Steps that lead off the grid are made shorter.
+            for halvings in 1..20 {
+                if over == 0 && bounds::check(&job, LANDED) == Err(10) {
+                    job.vertices = stairs(0.125 / (1 << halvings) as f32);
+                }
             }
         }
         2 => {
@@ -985,8 +1054,11 @@ fn large_tank(r: &mut Random) -> Job {
 fn large_soup(r: &mut Random) -> Job {
     let grid = large_grid(r);
     let n = r.between(50, 1_500);
-    let mesh = shapes::soup(r, -2.0, span(&grid), n);
-    lift(job(grid, &mesh, r))
+    let high = span(&grid);
+    let mesh = shapes::soup(r, -2.0, high, n);
+    let mut job = job(grid, &mesh, r);
+    draw_off_grid_again(&mut job, -2.0, high, r);
+    lift(job)
 }
 
 /// One triangle more than a job may have, or just as many.

@@ -1,5 +1,6 @@
 //! Seeded random numbers (splitmix64): the same seed gives the same numbers on every machine.
 
+#[derive(Clone)]
 pub struct Random {
     state: u64,
     /// How many of the kind came before: where a few choices are to be met soon, they take turns.

@@ -5,12 +5,16 @@
 //! `small` all four.
 //!
 //!   small    the kinds of tools/jobs within the job program's limits, and lent buffers of other lengths: every
-//!            answer 0 to 8, with every buffer, against the model of document 01; then against the Rust
+//!            answer 0 to 8 and 10, with every buffer, against the model of document 01; then against the Rust
 //!   middle   to 64 x 64 x 64 cells and 6,000 triangles
 //!   large    to 100 x 100 x 100 cells and 20,000 triangles (the default); the crossing counts of every second
 //!            job, since the Rust works them out again for it
-//!   bounds   one job at each bound of document 01, and one whose rays that graze pass 32 bits; with N = 0 the library alone,
+//!   bounds   one job at each bound of document 01, and one whose rays that graze pass 32 bits; then jobs of as many triangles as there
+//!            may be, whose last alone is off the grid by one float, or touches its box; with N = 0 the library alone,
 //!            which takes a minute where the Rust takes many; SEED does not matter
+//!
+//! In `middle` and `large` every job is accepted. One in twelve is asked for with a ladder off the grid too (document 02, §6): that
+//! is refused by 10, in all four ways and over buffers of a wrong length as well, and each buffer stays as it was lent.
 //!
 //! The Rust has no reply for a ray that grazes (document 02, §3). The total of `small` is the model's; that of the others is
 //! counted here, every ray with every triangle, by the model's ray test; in `large` where the crossings are held too. In `bounds`
@@ -23,6 +27,8 @@ mod inside;
 #[path = "../generator/kinds.rs"]
 mod kinds;
 mod meshes;
+#[path = "../generator/off_grid.rs"]
+mod off_grid;
 mod port;
 #[path = "../generator/random.rs"]
 mod random;
@@ -45,6 +51,8 @@ struct Seen {
     kinds: BTreeMap<String, u64>,
     answers: BTreeMap<u32, u64>,
     to_rust: u64,
+    /// Jobs that were refused by 10 over buffers of right and of wrong lengths: 10 comes before 5.
+    off_grid: [u64; 2],
     /// Jobs that were asked for in each of the four ways.
     asked: [u64; 4],
     /// Jobs whose rays that graze were counted here; those with any, how many in all, the most.
@@ -106,6 +114,22 @@ impl Seen {
         Ok(())
     }
 
+    /// A job with a triangle off the grid is refused by 10 in all four ways, over buffers of right and of wrong lengths that hold
+    /// noise, and they are as they were lent.
+    fn hold_off_grid(&mut self, job: &Job, r: &mut Random) -> Result<(), String> {
+        let (cells, room) = (job.grid.cells() as usize, 4_096);
+        let lengths = [cells, cells, 3 * cells, job.grid.count[2] as usize, room, room, room];
+        for wrong in [None, Some((r.below(7) as usize, r.once_in(2)))] {
+            let before = noise(lengths, wrong, r).lent;
+            for by in By::ALL {
+                self.hold_again(job, job.vertices.as_flattened(), before.clone(), u32::MAX, by, refused(10), &before)?;
+            }
+            self.off_grid[usize::from(wrong.is_some())] += 1;
+        }
+        *self.answers.entry(10).or_default() += 1;
+        Ok(())
+    }
+
     fn tell(&mut self, by: By) {
         self.asked[2 * usize::from(by.records) + usize::from(by.quick)] += 1;
     }
@@ -139,6 +163,8 @@ impl Seen {
             "rays that graze, counted one by one: {} jobs, {} of them with any, {} in all, the most {}",
             self.counted, self.with_grazed, self.grazed, self.most_grazed
         );
+        let [right, wrong] = self.off_grid;
+        println!("refused by 10, with every buffer as it was lent: {right} over buffers of right lengths, {wrong} of wrong ones");
         let [plain, quick, records_plain, records_quick] = self.asked;
         println!(
             "with the same answer and buffers: over three lists {plain} by the plain pass and {quick} by the quick, \
@@ -254,13 +280,12 @@ fn hold_to_model(job: &Job, r: &mut Random, seen: &mut Seen) -> Result<u32, Stri
     let [first, others @ ..] = By::ALL;
     let answer = port::ask_with(job, coordinates, &mut lent, job.pops, first);
     *seen.answers.entry(answer.number).or_default() += 1;
-    let refused = |number: u32| Answer { number, ..Answer::default() };
     let (model, left) = match owed {
         Ok(done) => {
             let tally = Answer { number: 0, pops: done.pops, peak: done.peak as usize, grazed: done.grazed };
             (tally, filled(done, kept))
         }
-        Err(number) if number < 6 => (refused(number), kept),
+        Err(number) if number < 6 || number == 10 => (refused(number), kept),
         Err(number) => (refused(number), cleared(kept)),
     };
     let number = model.number;
@@ -270,11 +295,23 @@ fn hold_to_model(job: &Job, r: &mut Random, seen: &mut Seen) -> Result<u32, Stri
     if lent.bits() != left.bits() {
         return Err(format!("answer {number}, and a buffer is not as the model leaves it"));
     }
+    if number == 10 {
+        seen.off_grid[usize::from(before.lengths != lengths)] += 1;
+    }
     seen.tell(first);
     for by in others {
         seen.hold_again(job, coordinates, before.lent.clone(), job.pops, by, answer, &left)?;
     }
     Ok(if uneven || before.lengths != lengths { 5 } else { number })
+}
+
+fn refused(number: u32) -> Answer {
+    Answer { number, ..Answer::default() }
+}
+
+/// The job is accepted, by the model: if not, it is this tool's mistake, and the library's answer says nothing.
+fn accepted(job: &Job) -> Result<(), String> {
+    bounds::check(job, model::LANDED).map_err(|number| format!("the model refuses the job by {number}"))
 }
 
 /// Document 01's answer. A job's text lends no buffers and has whole vertices: those two are added here.
@@ -358,9 +395,16 @@ fn large(
     let grid = meshes::grid(count, r);
     let mut lent = Lent::fitting(&grid, 2 * grid.cells() as usize + 4_096);
     let job = meshes::make(kind, grid, triangles, r);
-    let verdict = seen.hold(&job, &mut lent, in_turn(index), with_crossings);
-    let verdict = verdict.map(|held| *seen.answers.entry(held.answer.number).or_default() += 1);
-    (meshes::KINDS[kind].0.to_string(), verdict)
+    let mut verdict = || {
+        accepted(&job)?;
+        let held = seen.hold(&job, &mut lent, in_turn(index), with_crossings)?;
+        *seen.answers.entry(held.answer.number).or_default() += 1;
+        if index % 12 == 11 {
+            seen.hold_off_grid(&meshes::with_ladder(&job, r), r)?;
+        }
+        Ok(())
+    };
+    (meshes::KINDS[kind].0.to_string(), verdict())
 }
 
 // One job at each bound.
@@ -385,37 +429,77 @@ fn at_bounds(with_rust: bool, seen: &mut Seen) {
         let job = meshes::plain(grid, mesh);
         seen.jobs += 1;
         let by = By { records: false, quick: true };
-        let verdict = if with_rust {
-            seen.hold(&job, &mut lent, by, false)
-        } else {
-            let held = rust::alone(&job, &mut lent, by);
-            seen.hold_other(&job, by, &held, &lent).map(|()| held)
-        };
+        let verdict = hold_at_bound(&job, &mut lent, by, with_rust, seen);
         let [x, y, z] = count.map(u64::from);
         let points = (y * z + x * z + x * y) * u64::from(triangles);
         let verdict = verdict.and_then(|held| match held.answer.grazed {
             grazed if reach == 0.0 && grazed != points => Err(format!("grazed {grazed}, and {points} do")),
             _ => Ok(held),
         });
-        match verdict {
-            Ok(held) => {
-                let Answer { number, pops, peak, grazed } = held.answer;
-                *seen.answers.entry(number).or_default() += 1;
-                let words = job.vertices.len() * 3
-                    + job.indices.map_or(0, |list| list.len())
-                    + lent.field.len() * 5
-                    + lent.rows.len()
-                    + 3 * peak;
-                println!(
-                    "{count:?} | {triangles} | {number} | {pops} | {peak} | {grazed} | {:.2} | {:.2} | {:.1}",
-                    held.ours,
-                    held.theirs,
-                    (4 * words) as f64 / 1e6
-                );
-            }
+        tell_at_bound(&job, &lent, verdict, seen);
+    }
+    last_off_grid(with_rust, seen);
+}
+
+fn hold_at_bound(job: &Job, lent: &mut Lent, by: By, with_rust: bool, seen: &mut Seen) -> Result<Held, String> {
+    accepted(job)?;
+    if with_rust {
+        return seen.hold(job, lent, by, false);
+    }
+    let held = rust::alone(job, lent, by);
+    seen.hold_other(job, by, &held, lent)?;
+    Ok(held)
+}
+
+fn tell_at_bound(job: &Job, lent: &Lent, verdict: Result<Held, String>, seen: &mut Seen) {
+    let (count, triangles) = (job.grid.count, topology::triangles(job).len());
+    match verdict {
+        Ok(held) => {
+            let Answer { number, pops, peak, grazed } = held.answer;
+            *seen.answers.entry(number).or_default() += 1;
+            let words = job.vertices.len() * 3
+                + job.indices.as_ref().map_or(0, |list| list.len())
+                + lent.field.len() * 5
+                + lent.rows.len()
+                + 3 * peak;
+            println!(
+                "{count:?} | {triangles} | {number} | {pops} | {peak} | {grazed} | {:.2} | {:.2} | {:.1}",
+                held.ours,
+                held.theirs,
+                (4 * words) as f64 / 1e6
+            );
+        }
+        Err(words) => {
+            seen.differences += 1;
+            println!("{count:?} | {triangles} | {words}");
+        }
+    }
+}
+
+/// As many triangles as there may be, and the last of them touches a side of the box with all corners: the job is done. Then it lies
+/// one float out, the others where they were: 10. On each side in turn, over few cells.
+fn last_off_grid(with_rust: bool, seen: &mut Seen) {
+    for (axis, high) in AXES.into_iter().flat_map(|axis| [(axis, false), (axis, true)]) {
+        let mut r = Random::new(2 + axis as u64, u64::from(high));
+        let grid = meshes::grid([6, 5, 4], &mut r);
+        let mesh = meshes::soup_of(&grid, 131_072, 0.3, &mut r);
+        let (low, up) = (grid.box_minimum()[axis], grid.box_maximum()[axis]);
+        let (side, out) = if high { (up, inside::next_up(up)) } else { (low, -inside::next_up(-low)) };
+        let mut lent = Lent::fitting(&grid, 4_096);
+        let mut job = meshes::plain(grid, mesh);
+        // The corners of each triangle are vertices of its own, in order.
+        let last = job.vertices.len() - 3;
+        job.vertices[last..].iter_mut().for_each(|v| v[axis] = side);
+        seen.jobs += 1;
+        let verdict = hold_at_bound(&job, &mut lent, By { records: false, quick: true }, with_rust, seen);
+        tell_at_bound(&job, &lent, verdict, seen);
+        job.vertices[last..].iter_mut().for_each(|v| v[axis] = out);
+        seen.jobs += 1;
+        match seen.hold_off_grid(&job, &mut r) {
+            Ok(()) => println!("{:?} | 131072, the last one float off | 10", job.grid.count),
             Err(words) => {
                 seen.differences += 1;
-                println!("{count:?} | {triangles} | {words}");
+                println!("{:?} | 131072, the last one float off | {words}", job.grid.count);
             }
         }
     }

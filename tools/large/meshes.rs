@@ -1,9 +1,11 @@
-//! Large jobs of every kind that a tank's scan may be: closed, noisy, open, without order, degenerate.
+//! Large jobs of every kind that a tank's scan may be: closed, noisy, open, without order, degenerate. None has a triangle off the
+//! grid (document 02, §6), but for the ladder that `with_ladder` puts into one.
 
 use crate::random::Random;
 use crate::shapes::{self, Mesh};
-use model::grid::Grid;
-use model::topology::Topology;
+use model::bounds::off_grid;
+use model::grid::{Grid, AXES};
+use model::topology::{self, Topology};
 use model::Job;
 
 pub const KINDS: [(&str, fn(&Grid, u32, &mut Random) -> Mesh); 10] = [
@@ -16,7 +18,7 @@ pub const KINDS: [(&str, fn(&Grid, u32, &mut Random) -> Mesh); 10] = [
     ("sphere", sphere),
     ("strip", strip),
     ("lattice-tank", lattice),
-    ("tank-beyond-grid", |grid, n, r| tank(grid, n, 1.4, r)),
+    ("tank-cut-at-box", |grid, n, r| cut(grid, tank(grid, n, 1.4, r))),
 ];
 
 /// A job of the kind, of about so many triangles.
@@ -24,6 +26,7 @@ pub fn make(kind: usize, grid: Grid, triangles: u32, r: &mut Random) -> Job {
     let (name, mesh) = KINDS[kind];
     let Mesh { vertices, mut triangles } = mesh(&grid, triangles, r);
     let mut vertices: Vec<[f32; 3]> = vertices.iter().map(|v| place(&grid, *v)).collect();
+    bring_to_box(&grid, &mut vertices, &triangles);
     if name == "strip" {
         // Its mesh has a triangle for each vertex number after the second, in order.
         let indices = r.once_in(2).then(|| (0..vertices.len() as u32).collect());
@@ -41,6 +44,55 @@ pub fn make(kind: usize, grid: Grid, triangles: u32, r: &mut Random) -> Job {
     }
     let indices = triangles.into_iter().flatten().collect();
     lifted(grid, Topology::List, vertices, Some(indices))
+}
+
+/// What lies off the grid comes to touch its box: on such an axis all three corners go to the side. That takes no vertex out
+/// of the box, so no other triangle off it. Tanks near the box and noisy scans have a few such facets; a closed hull stays closed by
+/// it, and facets that stick out still do.
+fn bring_to_box(grid: &Grid, vertices: &mut [[f32; 3]], triangles: &[[u32; 3]]) {
+    let (low, high) = (grid.box_minimum(), grid.box_maximum());
+    for triangle in triangles {
+        for axis in AXES {
+            let all = |test: &dyn Fn(f32) -> bool| triangle.iter().all(|&v| test(vertices[v as usize][axis]));
+            let side = if all(&|x| x < low[axis]) {
+                low[axis]
+            } else if all(&|x| x > high[axis]) {
+                high[axis]
+            } else {
+                continue;
+            };
+            triangle.iter().for_each(|&v| vertices[v as usize][axis] = side);
+        }
+    }
+}
+
+/// The job with one triangle more, a cell beyond the grid's box, as a ladder that was placed too far. It is the first, the last or any
+/// other. In a strip, triangles with corners of both lead to it and away from it.
+pub fn with_ladder(job: &Job, r: &mut Random) -> Job {
+    let mut job = job.clone();
+    let (axis, high) = (r.below(3) as usize, r.once_in(2));
+    let corners = [0; 3].map(|_| {
+        let mut at = job.grid.count.map(|n| f64::from(n) * part(r) - 0.5);
+        at[axis] = if high { f64::from(job.grid.count[axis]) + 0.5 + part(r) } else { -1.5 - part(r) };
+        place(&job.grid, at)
+    });
+    let triangles = topology::triangles(&job).len();
+    let number = [0, triangles, r.below(triangles as u64 + 1) as usize, r.below(triangles as u64 + 1) as usize][r.below(4) as usize];
+    let length = job.indices.as_ref().map_or(job.vertices.len(), Vec::len);
+    let at = match job.topology {
+        _ if number == triangles => length,
+        Topology::List => 3 * number,
+        Topology::Strip => number,
+    };
+    let n = job.vertices.len() as u32;
+    match &mut job.indices {
+        Some(indices) => {
+            indices.splice(at..at, [n, n + 1, n + 2]);
+            job.vertices.extend(corners);
+        }
+        None => drop(job.vertices.splice(at..at, corners)),
+    }
+    job
 }
 
 /// A job of a mesh in cell units, with its triangles in order and indices.
@@ -92,6 +144,14 @@ pub fn tank(grid: &Grid, triangles: u32, size: f64, r: &mut Random) -> Mesh {
     shapes::turned(middle, &shapes::tank_profile(half[0].min(half[1]), half[2], rings, bands), segments)
 }
 
+/// What a section at the grid's box leaves of a mesh: the facets that are not off it. A tank that is larger than the grid is open
+/// then, and some of its vertices are used no more.
+fn cut(grid: &Grid, mut mesh: Mesh) -> Mesh {
+    let vertices = &mesh.vertices;
+    mesh.triangles.retain(|t| !off_grid(grid, t.map(|v| place(grid, vertices[v as usize]))));
+    mesh
+}
+
 fn noisy(grid: &Grid, triangles: u32, r: &mut Random) -> Mesh {
     let noise = [0.01, 0.1, 0.5, 1.5][r.below(4) as usize];
     scan(grid, triangles, noise, r)
@@ -130,17 +190,23 @@ fn soup(grid: &Grid, triangles: u32, r: &mut Random) -> Mesh {
     soup_of(grid, triangles, reach, r)
 }
 
-/// Triangles anywhere, with corners up to so many cells from their middle on each axis.
+/// Triangles anywhere on the grid, with corners up to so many cells from their middle on each axis; many stick out of it.
+///
+/// Those that are off the grid are drawn again, when all have been drawn once: so the others are what they were before a job with such
+/// triangles was refused, and there are as many as before.
 pub fn soup_of(grid: &Grid, triangles: u32, reach: f64, r: &mut Random) -> Mesh {
-    let mut mesh = Mesh::default();
-    for n in 0..triangles {
+    let draw = |r: &mut Random| {
         let near = grid.count.map(|n| (f64::from(n) + 4.0) * part(r) - 2.0);
-        for _ in 0..3 {
-            mesh.vertices.push(near.map(|x| x + reach * f64::from(r.unit())));
+        [0; 3].map(|_| near.map(|x| x + reach * f64::from(r.unit())))
+    };
+    let mut facets: Vec<_> = (0..triangles).map(|_| draw(r)).collect();
+    for facet in &mut facets {
+        while off_grid(grid, facet.map(|corner| place(grid, corner))) {
+            *facet = draw(r);
         }
-        mesh.triangles.push([3 * n, 3 * n + 1, 3 * n + 2]);
     }
-    mesh
+    let triangles = (0..triangles).map(|n| [3 * n, 3 * n + 1, 3 * n + 2]).collect();
+    Mesh { vertices: facets.into_flattened(), triangles }
 }
 
 /// A scan with facets that have no area: equal vertex numbers, equal corners, corners on a line, slivers.

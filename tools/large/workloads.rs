@@ -13,8 +13,9 @@ const CLOSED_TANK: (&str, Make) = ("closed-tank", |grid, n, r| meshes::tank(grid
 const NOISY_SCAN: (&str, Make) = ("noisy-scan", |grid, n, r| meshes::scan(grid, n, 0.5, r));
 const LARGE_FACETS: (&str, Make) = ("large-facets", |grid, n, r| meshes::soup_of(grid, n / 8, 8.0, r));
 
-/// A closed tank, its scan with vertices off by up to half a cell, that without its roof, and triangles anywhere: to
-/// two cells across; to sixteen, of which there are an eighth as many; and as many to twenty.
+/// A closed tank, its scan with vertices off by up to half a cell, that without its roof, and triangles anywhere on the grid: to
+/// two cells across; to sixteen, of which there are an eighth as many; and as many to twenty. None is off the grid: such a job would
+/// be refused, and nothing timed.
 const ON_CUBES: [(&str, Make); 6] = [
     CLOSED_TANK,
     NOISY_SCAN,

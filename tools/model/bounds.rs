@@ -1,6 +1,8 @@
-//! "Bounds on a job" and, in the order of "Reply numbers", what is checked before the run.
+//! "Bounds on a job" and, in the order of "Reply numbers", what is checked before the run: 1 to 4, then 10, which document 02
+//! puts before 5.
 
-use crate::grid::AXES;
+use crate::geometry::Point;
+use crate::grid::{Grid, AXES};
 use crate::topology::Topology;
 use crate::{topology, Job, Refusal, Requests};
 
@@ -30,18 +32,22 @@ pub fn check(job: &Job, requests: Requests) -> Result<(), Refusal> {
     if !triangles.iter().flatten().all(|&index| (index as usize) < job.vertices.len()) {
         return Err(4);
     }
-    // §6: no triangles off the grid.
-    if requests.has(6) && triangles.iter().any(|t| off_grid(job, *t)) {
+    // Document 02, §6: no triangles off the grid. What no triangle uses may lie anywhere.
+    if triangles.iter().any(|t| off_grid(&job.grid, t.map(|v| job.vertices[v as usize]))) {
         return Err(10);
     }
     Ok(())
 }
 
-/// On some axis all three corners lie below the grid box's minimum, or all three above its maximum.
-fn off_grid(job: &Job, triangle: [u32; 3]) -> bool {
-    let (low, high) = (job.grid.box_minimum(), job.grid.box_maximum());
-    let all = |test: &dyn Fn(f32) -> bool, axis: usize| triangle.iter().all(|&v| test(job.vertices[v as usize][axis]));
-    AXES.iter().any(|&axis| all(&|x| x < low[axis], axis) || all(&|x| x > high[axis], axis))
+/// On some axis all three corners lie below the grid box's minimum, or all three above its maximum. They are the corners
+/// themselves, without what the triangle's box adds. One that touches the side is neither below nor above. No NaN comes here:
+/// it is refused by 1 or 2.
+pub fn off_grid(grid: &Grid, corners: [Point; 3]) -> bool {
+    let (low, high) = (grid.box_minimum(), grid.box_maximum());
+    AXES.iter().any(|&axis| {
+        let at = corners.map(|corner| corner[axis]);
+        at.iter().all(|&x| x < low[axis]) || at.iter().all(|&x| x > high[axis])
+    })
 }
 
 fn grid_in_bounds(job: &Job) -> bool {

@@ -2,7 +2,7 @@
 //! each section of document 01:
 //!
 //!   text.rs       One job, one listing
-//!   bounds.rs     Bounds on a job; Reply numbers 1 to 4
+//!   bounds.rs     Bounds on a job; Reply numbers 1 to 4, and 10 of document 02
 //!   grid.rs       Grid
 //!   geometry.rs   Geometry, and the steps on points of "What is carried over"
 //!   order.rs      Order of two distances
@@ -48,7 +48,7 @@ pub struct Requests(u32);
 /// No others than those that have landed.
 pub const LANDED: Requests = Requests(0);
 /// Those that the model knows.
-pub const KNOWN: [u32; 2] = [6, 7];
+pub const KNOWN: [u32; 1] = [7];
 
 impl Requests {
     pub fn with(self, number: u32) -> Requests {
@@ -59,7 +59,7 @@ impl Requests {
     }
 }
 
-/// The number of a refusal, 1 to 9, and those of document 02.
+/// The number of a refusal: 1 to 9 of document 01, and from 10 on those of document 02.
 pub type Refusal = u32;
 
 /// The name of a cell that took no triangle.
