@@ -1,4 +1,4 @@
-// One trial: the public job over lent buffers, and the number of its answer, which is told. One function asks the job, over
+// One trial: the public job over lent buffers, and the number of its answer. One function asks the job, over
 // buffers of any lengths that a trial wants.
 use sdf::Answer;
 use sdf::Grid;
@@ -90,40 +90,4 @@ pub fn asked(
         },
     );
     number_of(answer)
-}
-
-// A number beside what was asked.
-pub fn tell(name: &[u8], number: u32) {
-    io::print_decimal(1, number as u64);
-    io::write_all(1, b" ");
-    io::write_all(1, name);
-    io::write_all(1, b"\n");
-}
-
-// The number that a job over the buffers of one cell, with room for one entry, is answered by.
-pub fn one_cell(
-    grid: Grid,
-    vertices: &[f32],
-    topology: Topology,
-    given: Indices,
-    indices: &[u32],
-) -> u32
-    ensures { λ r.
-        let job = jobOf grid (now (vertices .entry)) topology given (now (indices .entry)) onePop in
-        ⌜ r ≡ numberOf (outcome job (lentLong 1 1 3 1 1 1 1) .answer) ⌝ }
-{
-    asked(
-        grid,
-        vertices,
-        topology,
-        given,
-        indices,
-        1,
-        1,
-        3,
-        1,
-        1,
-        1,
-        1,
-    )
 }
