@@ -32,12 +32,20 @@ fn few_cells(r: &mut Random) -> Grid {
 }
 
 fn at_side(grid: &Grid, (axis, high): Side) -> f32 {
-    if high { grid.box_maximum()[axis] } else { grid.box_minimum()[axis] }
+    if high {
+        grid.box_maximum()[axis]
+    } else {
+        grid.box_minimum()[axis]
+    }
 }
 
 /// The next float outwards.
 fn one_float_out(x: f32, (_, high): Side) -> f32 {
-    if high { next_up(x) } else { -next_up(-x) }
+    if high {
+        next_up(x)
+    } else {
+        -next_up(-x)
+    }
 }
 
 /// So many cells out from the side, or in from it where they are below 0.
@@ -109,7 +117,7 @@ fn touching(r: &mut Random) -> Job {
     job
 }
 
-/// A grid whose side is 0: one float below it is a subnormal.
+/// A grid whose side is 0: one float out is a subnormal.
 fn grid_at_zero((axis, high): Side, r: &mut Random) -> Grid {
     let mut grid = few_cells(r);
     grid.size[axis] = r.pick(&[0.25, 0.5, 1.0, 2.0]);
@@ -176,7 +184,8 @@ fn across(r: &mut Random) -> Job {
     let grid = few_cells(r);
     let (low, high) = ((axis, false), (axis, true));
     let mut corners = [0; 3].map(|_| inner(&grid, r));
-    let mut set = |corner: usize, side: Side, r: &mut Random| corners[corner][side.0] = out_by(&grid, side, some_cells(r));
+    let mut set =
+        |corner: usize, side: Side, r: &mut Random| corners[corner][side.0] = out_by(&grid, side, some_cells(r));
     match way {
         "below-and-in" | "below-and-above" => {
             set(0, low, r);
@@ -286,7 +295,9 @@ fn unused_off_grid(r: &mut Random) -> Job {
         }
         "one-left-over" | "two-left-over" => {
             job.vertices.extend(some);
-            job.indices.iter_mut().for_each(|list| list.extend([n, n + 1].iter().take(1 + usize::from(way == "two-left-over"))));
+            job.indices
+                .iter_mut()
+                .for_each(|list| list.extend([n, n + 1].iter().take(1 + usize::from(way == "two-left-over"))));
         }
         "few-of-a-list" | "few-of-a-strip" => {
             job.vertices.extend(some);
@@ -299,7 +310,8 @@ fn unused_off_grid(r: &mut Random) -> Job {
             job.topology = r.pick(&[Topology::List, Topology::Strip]);
         }
         "vertices-left-over" => {
-            job.vertices = job.indices.iter().flatten().map(|&i| job.vertices[i as usize]).chain(some[..few].to_vec()).collect();
+            job.vertices =
+                job.indices.iter().flatten().map(|&i| job.vertices[i as usize]).chain(some[..few].to_vec()).collect();
             job.indices = None;
         }
         _ => (job.vertices, job.indices) = (some, Some(Vec::new())),

@@ -77,7 +77,11 @@ pub fn with_ladder(job: &Job, r: &mut Random) -> Job {
         place(&job.grid, at)
     });
     let triangles = topology::triangles(&job).len();
-    let number = [0, triangles, r.below(triangles as u64 + 1) as usize, r.below(triangles as u64 + 1) as usize][r.below(4) as usize];
+    let number = match r.below(4) {
+        0 => 0,
+        1 => triangles,
+        _ => r.below(triangles as u64 + 1) as usize,
+    };
     let length = job.indices.as_ref().map_or(job.vertices.len(), Vec::len);
     let at = match job.topology {
         _ if number == triangles => length,
