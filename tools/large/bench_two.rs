@@ -1,11 +1,11 @@
 //! bench-two [ROUNDS [EDGE [PASS [QUEUE]]]]: the libraries of two checkouts on the same jobs in one run, call by call in turn, on one
-//! thread. Prints for each workload and size of tools/bench the least time of the spreading, of the crossings and of the whole over
-//! the rounds (5; more where a call is short), in milliseconds of the processor's time, before and after, and after by before. Sizes
-//! above EDGE (100) are left out. PASS is `plain`, or `quick` (the default) where a library has it. QUEUE is `flat` (the default), the
+//! thread. Prints for each workload and size of tools/bench, and for as many facets as a job may have, the least time of the checks
+//! before the run, of the spreading, of the crossings and of the whole over the rounds (5; more where a call is short), in
+//! milliseconds of the processor's time, before and after, and after by before. Sizes above EDGE (100) are left out. PASS is `plain`, or `quick` (the default) where a library has it. QUEUE is `flat` (the default), the
 //! queue in three slices, or `row`, a row of records. Ends with 1 if the two leave another field, other names or crossings, or count
 //! other pops or peak.
 //!
-//! The spreading is what is left of a call before its crossings, less a call whose pop limit is 0: that one is refused by 8 when the
+//! The checks are a call that is lent a row too few: it is refused by 5, which is looked at last. The spreading is what is left of a call before its crossings, less a call whose pop limit is 0: that one is refused by 8 when the
 //! cells are seeded and queued. It is a difference of two calls, so the least times of both are taken before it is.
 //!
 //! The crossings are timed from when their counts are cleared (clock.c) to the end of the call, so the signs and the
@@ -57,7 +57,15 @@ extern "C" {
 }
 
 const SIDES: [Call; 2] = [job_before, job_after];
-const PARTS: [&str; 3] = ["spreading", "crossings", "whole"];
+const PARTS: [&str; 4] = ["checks", "spreading", "crossings", "whole"];
+
+/// How far a call comes: to the last of its checks, to its first pop, or to its end.
+#[derive(Clone, Copy, PartialEq)]
+enum To {
+    Checks,
+    FirstPop,
+    End,
+}
 
 #[derive(Clone, Copy, Default, PartialEq, Debug)]
 struct Answer {
@@ -90,8 +98,13 @@ impl Buffers {
         }
     }
 
-    /// The answer, and the milliseconds of the crossings and of the whole call. With a limit of 0 there are no crossings.
-    fn ask(&mut self, side: Call, job: &Job, pass: u32, limit: u32) -> (Answer, [f64; 2]) {
+    /// The answer, and the milliseconds of the crossings and of the whole call. There are crossings in a call that comes to its end.
+    fn ask(&mut self, side: Call, job: &Job, pass: u32, to: To) -> (Answer, [f64; 2]) {
+        let (limit, number) = match to {
+            To::Checks => (u32::MAX, 5),
+            To::FirstPop => (0, 8),
+            To::End => (u32::MAX, 0),
+        };
         let indices = job.indices.as_deref().unwrap_or(&[]);
         let coordinates = job.vertices.as_flattened();
         let [distances, queued, triangles] = &mut self.queue;
@@ -108,7 +121,7 @@ impl Buffers {
             crossings: self.crossings.as_mut_ptr(),
             rows: self.rows.as_mut_ptr(),
             cells: self.field.len(),
-            layers: self.rows.len(),
+            layers: self.rows.len() - usize::from(to == To::Checks),
             row: if self.row.is_empty() { std::ptr::null_mut() } else { self.row.as_mut_ptr() },
             room: distances.len() + self.row.len() / 3,
             distances: distances.as_mut_ptr(),
@@ -116,11 +129,10 @@ impl Buffers {
             triangles: triangles.as_mut_ptr(),
         };
         let mut answer = Answer::default();
-        // SAFETY: every pointer is that of a slice or a number, with the slice's own length; none are shared.
-        let times = clock::timed(lent.crossings, || unsafe {
-            side(&lent, limit, pass, &mut answer.number, &mut answer.pops, &mut answer.peak)
-        });
-        assert_eq!(answer.number, if limit == 0 { 8 } else { 0 }, "the job is done, or refused by its limit");
+        // SAFETY: every pointer is that of a slice or a number, with at most the slice's own length; none are shared.
+        let call = || unsafe { side(&lent, limit, pass, &mut answer.number, &mut answer.pops, &mut answer.peak) };
+        let times = if to == To::Checks { [0.0, clock::whole(call)] } else { clock::timed(lent.crossings, call) };
+        assert_eq!(answer.number, number, "the job is done, or refused where it should be");
         (answer, times)
     }
 
@@ -152,36 +164,37 @@ fn main() {
     println!("load before: {}", load());
     let words = ["workload", "cells", "part", "before, ms", "after, ms", "ratio", "of middles"];
     println!("{:<15}{:>15}  {:<10}{:>12}{:>12}{:>8}{:>12}", words[0], words[1], words[2], words[3], words[4], words[5], words[6]);
-    let (mut ratios, mut differences) = ([const { Vec::new() }; 3], 0);
-    for workload in workloads::all(largest) {
+    let (mut ratios, mut differences) = ([const { Vec::new() }; 4], 0);
+    for workload in workloads::all(largest).chain(workloads::most_facets(largest)) {
         let counts = workload.counts();
         let Workload { name: workload, edge, job } = workload;
         // Twice as many entries as cells are enough for these jobs.
         let mut buffers = Buffers::fitting(&job, 2 * job.grid.cells() as usize, in_row);
-        let [before, after] = SIDES.map(|side| (buffers.ask(side, &job, pass, u32::MAX).0, buffers.left()));
+        let [before, after] = SIDES.map(|side| (buffers.ask(side, &job, pass, To::End).0, buffers.left()));
         if before != after {
             differences += 1;
             println!("{workload} {counts}: DIFFERENT, {:?} before and {:?} after", before.0, after.0);
         }
-        // The times up to the first pop, up to the crossings, of the crossings and of the whole, of each side.
-        let mut times = [const { [const { Vec::new() }; 4] }; 2];
+        // The times of the checks, up to the first pop, up to the crossings, of the crossings and of the whole, of each side.
+        let mut times = [const { [const { Vec::new() }; 5] }; 2];
         for round in 0..rounds * (10_000 / (edge * edge)) {
             for turn in 0..2 {
                 // Each goes first half the time.
                 let side = (round as usize + turn) % 2;
-                let [_, first] = buffers.ask(SIDES[side], &job, pass, 0).1;
-                let [crossings, whole] = buffers.ask(SIDES[side], &job, pass, u32::MAX).1;
-                for (times, time) in times[side].iter_mut().zip([first, whole - crossings, crossings, whole]) {
+                let [_, checks] = buffers.ask(SIDES[side], &job, pass, To::Checks).1;
+                let [_, first] = buffers.ask(SIDES[side], &job, pass, To::FirstPop).1;
+                let [crossings, whole] = buffers.ask(SIDES[side], &job, pass, To::End).1;
+                for (times, time) in times[side].iter_mut().zip([checks, first, whole - crossings, crossings, whole]) {
                     times.push(time);
                 }
             }
         }
         let of = times.map(|parts| {
-            let [first, before, crossings, whole] = parts.map(|times| {
+            let [checks, first, before, crossings, whole] = parts.map(|times| {
                 let times = sorted(times);
                 [times[0], middle(&times)]
             });
-            [[before[0] - first[0], before[1] - first[1]], crossings, whole]
+            [checks, [before[0] - first[0], before[1] - first[1]], crossings, whole]
         });
         for (part, name) in PARTS.into_iter().enumerate() {
             let [[a, middle_a], [b, middle_b]] = of.map(|side| side[part]);

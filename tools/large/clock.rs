@@ -18,3 +18,11 @@ pub fn timed(crossings: *const u32, call: impl FnOnce()) -> [f64; 2] {
     assert!(begin <= cleared && cleared <= end, "the crossings were seen to begin");
     [end - cleared, end - begin]
 }
+
+/// The milliseconds of a call that changes nothing, and so clears no counts.
+pub fn whole(call: impl FnOnce()) -> f64 {
+    // SAFETY: it reads the time.
+    let begin = unsafe { time_now() };
+    call();
+    unsafe { time_now() - begin }
+}

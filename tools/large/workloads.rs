@@ -1,5 +1,6 @@
 //! The jobs that tools/bench and tools/bench-two time: six workloads on cubes of four sizes; five on tall and lying grids; and one
-//! plate, whose few hits cost less to add than every count to sum.
+//! plate, whose few hits cost less to add than every count to sum. tools/bench-two has one more, of as many facets as a job may have,
+//! for which the Rust would take minutes.
 
 use crate::meshes;
 use crate::random::Random;
@@ -99,4 +100,11 @@ pub fn all(largest: u32) -> impl Iterator<Item = Workload> {
         .chain(others)
         .filter(move |(_, edge, ..)| *edge <= largest)
         .map(|(made, edge, count, triangles)| Workload::new(made, edge, count, triangles))
+}
+
+/// A closed tank of about as many facets as a job may have, and not more, on a cube of 64 cells along each axis; where that is not
+/// larger than asked for.
+pub fn most_facets(largest: u32) -> Option<Workload> {
+    let (name, tank) = ("most-facets", CLOSED_TANK.1);
+    (largest >= 64).then(|| Workload::new((name, tank), 64, [64; 3], 131_072))
 }
