@@ -4,6 +4,7 @@
 mod counting;
 mod trial;
 
+use sdf::Axis;
 use sdf::Grid;
 use sdf::Indices;
 use sdf::Point;
@@ -17,16 +18,15 @@ fn tell(name: &[u8], number: u32) {
     io::write_all(1, b"\n");
 }
 
-// A job over the buffers of one cell, with room for one entry.
-fn try_job(
-    name: &[u8],
+// The number that a job over the buffers of one cell, with room for one entry, is answered by.
+fn one_cell(
     grid: Grid,
     vertices: &[f32],
     topology: Topology,
     given: Indices,
     indices: &[u32],
-) {
-    let number = trial::asked(
+) -> u32 {
+    trial::asked(
         grid,
         vertices,
         topology,
@@ -39,8 +39,18 @@ fn try_job(
         1,
         1,
         1,
-    );
-    tell(name, number);
+    )
+}
+
+fn try_job(
+    name: &[u8],
+    grid: Grid,
+    vertices: &[f32],
+    topology: Topology,
+    given: Indices,
+    indices: &[u32],
+) {
+    tell(name, one_cell(grid, vertices, topology, given, indices));
 }
 
 // ---- 1: the grid. One cell is lent, so a grid of several cells that is not out of bounds is answered 5.
@@ -330,125 +340,95 @@ fn try_triangle(name: &[u8], grid: Grid, vertices: &[f32]) {
     );
 }
 
+// A point that has `along` on an axis, u on the next and v on the one after that.
+fn corner(axis: Axis, along: f32, u: f32, v: f32) -> Point {
+    match axis {
+        Axis::X => Point {
+            x: along,
+            y: u,
+            z: v,
+        },
+        Axis::Y => Point {
+            x: v,
+            y: along,
+            z: u,
+        },
+        Axis::Z => Point {
+            x: u,
+            y: v,
+            z: along,
+        },
+    }
+}
+
 // What the three corners have along an axis; on the others they lie within the box.
-fn try_on_x(name: &[u8], a: f32, b: f32, c: f32) {
-    let vertices = [a, 0.0, 0.0, b, 0.25, 0.0, c, 0.0, 0.25];
-    try_triangle(name, trial::grid_of(1, 1, 1), &vertices);
+fn try_on(axis: Axis, letter: &[u8], words: &[u8], a: f32, b: f32, c: f32) {
+    let p = corner(axis, a, 0.0, 0.0);
+    let q = corner(axis, b, 0.25, 0.0);
+    let r = corner(axis, c, 0.0, 0.25);
+    let vertices = [p.x, p.y, p.z, q.x, q.y, q.z, r.x, r.y, r.z];
+    let number = one_cell(
+        trial::grid_of(1, 1, 1),
+        &vertices,
+        Topology::TriangleList,
+        Indices::Given,
+        &[0, 1, 2],
+    );
+    io::print_decimal(1, number as u64);
+    io::write_all(1, b" ");
+    io::write_all(1, letter);
+    io::write_all(1, words);
+    io::write_all(1, b"\n");
 }
 
-fn try_on_y(name: &[u8], a: f32, b: f32, c: f32) {
-    let vertices = [0.0, a, 0.0, 0.0, b, 0.25, 0.25, c, 0.0];
-    try_triangle(name, trial::grid_of(1, 1, 1), &vertices);
-}
-
-fn try_on_z(name: &[u8], a: f32, b: f32, c: f32) {
-    let vertices = [0.0, 0.0, a, 0.25, 0.0, b, 0.0, 0.25, c];
-    try_triangle(name, trial::grid_of(1, 1, 1), &vertices);
-}
-
-fn on_x() {
-    try_on_x(
-        b"x bf000001 bf000001 bf000001",
+fn sides(axis: Axis, letter: &[u8]) {
+    try_on(
+        axis,
+        letter,
+        b" bf000001 bf000001 bf000001",
         -0.50000006,
         -0.50000006,
         -0.50000006,
     );
-    try_on_x(b"x bf000000 bf000000 bf000000", -0.5, -0.5, -0.5);
-    try_on_x(
-        b"x beffffff beffffff beffffff",
+    try_on(
+        axis,
+        letter,
+        b" bf000000 bf000000 bf000000",
+        -0.5,
+        -0.5,
+        -0.5,
+    );
+    try_on(
+        axis,
+        letter,
+        b" beffffff beffffff beffffff",
         -0.49999997,
         -0.49999997,
         -0.49999997,
     );
-    try_on_x(b"x -2 bf000000 -2", -2.0, -0.5, -2.0);
-    try_on_x(b"x -2 -2 bf000001", -2.0, -2.0, -0.50000006);
-    try_on_x(
-        b"x 3effffff 3effffff 3effffff",
+    try_on(axis, letter, b" -2 bf000000 -2", -2.0, -0.5, -2.0);
+    try_on(axis, letter, b" -2 -2 bf000001", -2.0, -2.0, -0.50000006);
+    try_on(
+        axis,
+        letter,
+        b" 3effffff 3effffff 3effffff",
         0.49999997,
         0.49999997,
         0.49999997,
     );
-    try_on_x(b"x 3f000000 3f000000 3f000000", 0.5, 0.5, 0.5);
-    try_on_x(
-        b"x 3f000001 3f000001 3f000001",
+    try_on(axis, letter, b" 3f000000 3f000000 3f000000", 0.5, 0.5, 0.5);
+    try_on(
+        axis,
+        letter,
+        b" 3f000001 3f000001 3f000001",
         0.50000006,
         0.50000006,
         0.50000006,
     );
-    try_on_x(b"x 2 3f000000 2", 2.0, 0.5, 2.0);
-    try_on_x(b"x 2 2 3f000001", 2.0, 2.0, 0.50000006);
-    try_on_x(b"x -2 2 2", -2.0, 2.0, 2.0);
-    try_on_x(b"x -2 -2 2", -2.0, -2.0, 2.0);
-}
-
-fn on_y() {
-    try_on_y(
-        b"y bf000001 bf000001 bf000001",
-        -0.50000006,
-        -0.50000006,
-        -0.50000006,
-    );
-    try_on_y(b"y bf000000 bf000000 bf000000", -0.5, -0.5, -0.5);
-    try_on_y(
-        b"y beffffff beffffff beffffff",
-        -0.49999997,
-        -0.49999997,
-        -0.49999997,
-    );
-    try_on_y(b"y -2 bf000000 -2", -2.0, -0.5, -2.0);
-    try_on_y(b"y -2 -2 bf000001", -2.0, -2.0, -0.50000006);
-    try_on_y(
-        b"y 3effffff 3effffff 3effffff",
-        0.49999997,
-        0.49999997,
-        0.49999997,
-    );
-    try_on_y(b"y 3f000000 3f000000 3f000000", 0.5, 0.5, 0.5);
-    try_on_y(
-        b"y 3f000001 3f000001 3f000001",
-        0.50000006,
-        0.50000006,
-        0.50000006,
-    );
-    try_on_y(b"y 2 3f000000 2", 2.0, 0.5, 2.0);
-    try_on_y(b"y 2 2 3f000001", 2.0, 2.0, 0.50000006);
-    try_on_y(b"y -2 2 2", -2.0, 2.0, 2.0);
-    try_on_y(b"y -2 -2 2", -2.0, -2.0, 2.0);
-}
-
-fn on_z() {
-    try_on_z(
-        b"z bf000001 bf000001 bf000001",
-        -0.50000006,
-        -0.50000006,
-        -0.50000006,
-    );
-    try_on_z(b"z bf000000 bf000000 bf000000", -0.5, -0.5, -0.5);
-    try_on_z(
-        b"z beffffff beffffff beffffff",
-        -0.49999997,
-        -0.49999997,
-        -0.49999997,
-    );
-    try_on_z(b"z -2 bf000000 -2", -2.0, -0.5, -2.0);
-    try_on_z(b"z -2 -2 bf000001", -2.0, -2.0, -0.50000006);
-    try_on_z(
-        b"z 3effffff 3effffff 3effffff",
-        0.49999997,
-        0.49999997,
-        0.49999997,
-    );
-    try_on_z(b"z 3f000000 3f000000 3f000000", 0.5, 0.5, 0.5);
-    try_on_z(
-        b"z 3f000001 3f000001 3f000001",
-        0.50000006,
-        0.50000006,
-        0.50000006,
-    );
-    try_on_z(b"z 2 3f000000 2", 2.0, 0.5, 2.0);
-    try_on_z(b"z 2 2 3f000001", 2.0, 2.0, 0.50000006);
-    try_on_z(b"z -2 2 2", -2.0, 2.0, 2.0);
-    try_on_z(b"z -2 -2 2", -2.0, -2.0, 2.0);
+    try_on(axis, letter, b" 2 3f000000 2", 2.0, 0.5, 2.0);
+    try_on(axis, letter, b" 2 2 3f000001", 2.0, 2.0, 0.50000006);
+    try_on(axis, letter, b" -2 2 2", -2.0, 2.0, 2.0);
+    try_on(axis, letter, b" -2 -2 2", -2.0, -2.0, 2.0);
 }
 
 // No axis parts it from the box, so a triangle is not off the grid though no point of it lies in the box.
@@ -569,8 +549,10 @@ fn try_hair(name: &[u8], indices: &[u32]) {
 fn its_place() {
     let list = Topology::TriangleList;
     try_fourth(b"3 off, no cell, list 3 3 3", 0, list, &[3, 3, 3]);
-    try_on_x(
-        b"x infinity infinity infinity",
+    try_on(
+        Axis::X,
+        b"x",
+        b" infinity infinity infinity",
         1.0 / 0.0,
         1.0 / 0.0,
         1.0 / 0.0,
@@ -585,9 +567,9 @@ fn its_place() {
 }
 
 fn off_grid() {
-    on_x();
-    on_y();
-    on_z();
+    sides(Axis::X, b"x");
+    sides(Axis::Y, b"y");
+    sides(Axis::Z, b"z");
     no_axis();
     rounded();
     which_triangles();
