@@ -12,7 +12,7 @@ use Rattle.mesh_off_grid.specs.OffGrid.{offGrid, allOnGrid}
 use Rattle.job_checks.specs.Job.{Job, Lent}
 use Rattle.job_checks.specs.Refusals.{refusal, lengthsOf}
 use Rattle.job_checks.proofs.Accepted.{accepted}
-use Rattle.job_outcome.specs.declared.Answer.the-variants.{Refused, Done}
+use Rattle.job_outcome.specs.declared.Answer.the-variants.{Done}
 use Rattle.job_outcome.specs.declared.Tally.{Tally}
 use Rattle.job_outcome.specs.Outcome.{ended, runOf, unlessRefused, outcome}
 
