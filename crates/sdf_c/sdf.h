@@ -12,7 +12,7 @@
  *       index_count, field, n, names, n, crossings, 3 * n, rows, 64, queue, n,
  *       (sdf_terms){.limit = UINT32_MAX, .pass = SDF_QUICK});
  *   if (a.number == SDF_QUEUE_FULL) lend twice the queue and call again;
- *   if (a.number == SDF_DONE) field[i] < 0 is inside, and rows[z] counts the inside cells of layer z;
+ *   if (a.number == SDF_DONE) signbit(field[i]) says inside, and rows[z] counts the inside cells of layer z;
  *
  * examples/c/tank.c is a whole program.
  *
