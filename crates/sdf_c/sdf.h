@@ -55,8 +55,8 @@ enum {
     SDF_TRIANGLES = 3,    /* more than 131,072 triangles */
     SDF_INDEX = 4,        /* an index that a triangle uses is not below the count of vertices */
     SDF_OFF_GRID = 10,    /* a triangle lies off the grid: on some axis all three of its corners are below the minimum of
-                             sdf_grid_box, or all three above its maximum. Touching is allowed. Only triangles count: a vertex that
-                             none uses may lie anywhere. Move or drop the triangle, or ask for more cells on that side */
+                             sdf_grid_box, or all three above its maximum. Touching is allowed. A vertex that no triangle
+                             uses may lie anywhere. Move or drop the triangle, or ask for more cells on that side */
     SDF_LENGTHS = 5,      /* a buffer's length is not the one that the grid asks for, or the queue's three lengths differ
                              (a queue that is a row of records has one length) */
     SDF_NOT_A_NUMBER = 6, /* a distance met in seeding or spreading is a NaN: two corners a hair apart */
@@ -231,7 +231,8 @@ sdf_job_answer sdf_generate_grid_sdf_records(sdf_grid grid, const float *vertice
  *
  * From a file to its field: ask sdf_stl_facets, lend 9 floats for each facet, call sdf_read_stl, and then the whole job with
  * these 9 * facets coordinates, SDF_LIST and SDF_NO_INDICES: corner j of facet k is vertex 3 k + j, and facet k is triangle
- * k. Reading refuses no corner for what it is; that is the job's SDF_COORDINATES. examples/c/stl.c is a whole program.
+ * k. Reading refuses no corner for what it is; that is the job's SDF_COORDINATES, and where a facet lies its SDF_OFF_GRID.
+ * examples/c/stl.c is a whole program.
  *
  * A refusal changes no buffer. What C owes is what the whole job is owed: valid pointers, never null, to at least as many
  * elements as the length beside them, and no byte lent twice. They call nothing, and take no stack beside the call's own. */
@@ -286,7 +287,7 @@ sdf_point_answer sdf_grid_size(sdf_grid grid);
 sdf_cell_answer sdf_grid_counts(sdf_grid grid);
 /* How many cells there are: the length of field and names. */
 sdf_number_answer sdf_grid_total(sdf_grid grid);
-/* The box that the cells fill. A triangle that lies off it is refused by 10 (SDF_OFF_GRID). */
+/* The box that the cells fill. A job with a triangle that lies off it is refused by 10 (SDF_OFF_GRID). */
 sdf_box_answer sdf_grid_box(sdf_grid grid);
 /* The index of a cell, z fastest: where it stands in field and names. Refuses by 4 after 1. */
 sdf_number_answer sdf_grid_index(sdf_grid grid, sdf_cell cell);

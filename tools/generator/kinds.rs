@@ -118,7 +118,7 @@ pub const BASE: [(&str, Make); 69] = [
 
 /// Kinds that lie off the grid by design, beside those of the set `off-grid`.
 const OFF_GRID: [&str; 2] = ["box-around-grid", "hull-one-ulp-out"];
-/// How often another kind draws again.
+/// How often any other kind draws again, at most.
 const DRAWINGS: u32 = 500;
 
 /// The kinds that take turns: those of a set, `base`, `inside` or `off-grid`, or of all three.
@@ -138,8 +138,8 @@ pub fn of_set(set: Option<&str>) -> Vec<&'static str> {
 /// would be lost in refusals by 10. So where the first drawing is refused so, it is kept once in four, and else the kind draws
 /// until one is not. What was not refused so stays word for word what it was: no number is drawn before it.
 pub fn make(kind: &str, r: &mut Random) -> Option<Vec<u8>> {
-    let all = BASE.iter().chain(&inside::KINDS).chain(&off_grid::KINDS).chain(&ALONE);
-    let (_, make) = all.clone().find(|(name, _)| *name == kind)?;
+    let mut all = BASE.iter().chain(&inside::KINDS).chain(&off_grid::KINDS).chain(&ALONE);
+    let (_, make) = all.find(|(name, _)| *name == kind)?;
     let first = draw(kind, *make, r);
     let by_design = OFF_GRID.contains(&kind) || off_grid::KINDS.iter().any(|(name, _)| *name == kind);
     let limits = !kind.starts_with("large-");

@@ -1,12 +1,13 @@
 //! bench-two [ROUNDS [EDGE [PASS [QUEUE]]]]: the libraries of two checkouts on the same jobs in one run, call by call in turn, on one
 //! thread. Prints for each workload and size of tools/bench, and for as many facets as a job may have, the least time of the checks
 //! before the run, of the spreading, of the crossings and of the whole over the rounds (5; more where a call is short), in
-//! milliseconds of the processor's time, before and after, and after by before. Sizes above EDGE (100) are left out. PASS is `plain`, or `quick` (the default) where a library has it. QUEUE is `flat` (the default), the
-//! queue in three slices, or `row`, a row of records. Ends with 1 if the two leave another field, other names or crossings, or count
-//! other pops or peak.
+//! milliseconds of the processor's time, before and after, and after by before. Sizes above EDGE (100) are left out. PASS is `plain`,
+//! or `quick` (the default) where a library has it. QUEUE is `flat` (the default), the queue in three slices, or `row`, a row of
+//! records. Ends with 1 if the two leave another field, other names or crossings, or count other pops or peak.
 //!
-//! The checks are a call that is lent a row too few: it is refused by 5, which is looked at last. The spreading is what is left of a call before its crossings, less a call whose pop limit is 0: that one is refused by 8 when the
-//! cells are seeded and queued. It is a difference of two calls, so the least times of both are taken before it is.
+//! The checks are a call that is lent a row too few: it is refused by 5, which is looked at last. The spreading is what is left of a
+//! call before its crossings, less a call whose pop limit is 0: that one is refused by 8 when the cells are seeded and queued. It is a
+//! difference of two calls, so the least times of both are taken before it is.
 //!
 //! The crossings are timed from when their counts are cleared (clock.c) to the end of the call, so the signs and the
 //! rows stand in them, a few thousandths. As the difference of two calls, one of which ends before them, they were uncertain by a

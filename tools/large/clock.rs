@@ -24,5 +24,6 @@ pub fn whole(call: impl FnOnce()) -> f64 {
     // SAFETY: it reads the time.
     let begin = unsafe { time_now() };
     call();
+    // SAFETY: as above.
     unsafe { time_now() - begin }
 }

@@ -14,7 +14,8 @@
 //!            which takes a minute where the Rust takes many; SEED does not matter
 //!
 //! In `middle` and `large` every job is accepted. One in twelve is asked for with a ladder off the grid too (document 02, §6): that
-//! is refused by 10, in all four ways and over buffers of a wrong length as well, and each buffer stays as it was lent.
+//! is refused by 10, in all four ways, and over buffers of a wrong length as well (where the queue's lists differ, in two), and each
+//! buffer stays as it was lent.
 //!
 //! The Rust has no reply for a ray that grazes (document 02, §3). The total of `small` is the model's; that of the others is
 //! counted here, every ray with every triangle, by the model's ray test; in `large` where the crossings are held too. In `bounds`
@@ -115,7 +116,7 @@ impl Seen {
     }
 
     /// A job with a triangle off the grid is refused by 10 in all four ways, over buffers of right and of wrong lengths that hold
-    /// noise, and they are as they were lent.
+    /// noise, and they are as they were lent. (Three queue lists of different lengths are no row: there in two ways.)
     fn hold_off_grid(&mut self, job: &Job, r: &mut Random) -> Result<(), String> {
         let (cells, room) = (job.grid.cells() as usize, 4_096);
         let lengths = [cells, cells, 3 * cells, job.grid.count[2] as usize, room, room, room];

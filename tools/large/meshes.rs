@@ -47,8 +47,8 @@ pub fn make(kind: usize, grid: Grid, triangles: u32, r: &mut Random) -> Job {
 }
 
 /// What lies off the grid comes to touch its box: on such an axis all three corners go to the side. That takes no vertex out
-/// of the box, so no other triangle off it. Tanks near the box and noisy scans have a few such facets; a closed hull stays closed by
-/// it, and facets that stick out still do.
+/// of the box, so no other triangle off it. Tanks near the box and noisy scans have a few such facets. A closed hull stays closed by
+/// it; a facet that sticks out still does, unless it shares the corner.
 fn bring_to_box(grid: &Grid, vertices: &mut [[f32; 3]], triangles: &[[u32; 3]]) {
     let (low, high) = (grid.box_minimum(), grid.box_maximum());
     for triangle in triangles {
@@ -196,8 +196,7 @@ fn soup(grid: &Grid, triangles: u32, r: &mut Random) -> Mesh {
 
 /// Triangles anywhere on the grid, with corners up to so many cells from their middle on each axis; many stick out of it.
 ///
-/// Those that are off the grid are drawn again, when all have been drawn once: so the others are what they were before a job with such
-/// triangles was refused, and there are as many as before.
+/// Those that are off the grid are drawn again once all have been drawn, so that the others do not depend on them.
 pub fn soup_of(grid: &Grid, triangles: u32, reach: f64, r: &mut Random) -> Mesh {
     let draw = |r: &mut Random| {
         let near = grid.count.map(|n| (f64::from(n) + 4.0) * part(r) - 2.0);

@@ -4,7 +4,7 @@
 
 use crate::meshes;
 use crate::random::Random;
-use crate::shapes::Mesh;
+use crate::shapes::{self, Mesh};
 use model::grid::Grid;
 use model::Job;
 
@@ -102,9 +102,9 @@ pub fn all(largest: u32) -> impl Iterator<Item = Workload> {
         .map(|(made, edge, count, triangles)| Workload::new(made, edge, count, triangles))
 }
 
-/// A closed tank of about as many facets as a job may have, and not more, on a cube of 64 cells along each axis; where that is not
-/// larger than asked for.
+/// A closed tank of exactly as many facets as a job may have, 131,072, on a cube of 64 cells along each axis; where that is not larger
+/// than asked for.
 pub fn most_facets(largest: u32) -> Option<Workload> {
-    let (name, tank) = ("most-facets", CLOSED_TANK.1);
-    (largest >= 64).then(|| Workload::new((name, tank), 64, [64; 3], 131_072))
+    let tank = |_: &Grid, _, _: &mut Random| shapes::turned([31.2, 32.3, 30.5], &shapes::tank_profile(22.9, 24.0, 64, 129), 256);
+    (largest >= 64).then(|| Workload::new(("most-facets", tank), 64, [64; 3], 131_072))
 }

@@ -1,4 +1,4 @@
--- Demand 3. Where a job is answered Done the five checks before the run have passed, so what the run is told is fair, and the run has
+-- Demand 3. Where a job is answered Done the checks before the run have passed, so what the run is told is fair, and the run has
 -- gone to its end; the buffers are then filled from its last state, and Cells.antt says what they hold. Assumes nothing.
 use Prim.Native.Nat.{ℕ, zero, suc, _≤_, _<_}
 use native.Mathlib.Omega.{arith}

@@ -1,5 +1,5 @@
--- The checks group by group: the grid's, the mesh's, those of where it lies, the lengths'. Past the groups that gave 0 the next is asked, and the first that
--- gives a number ends it. Assumes nothing.
+-- The checks group by group: of the grid, of the mesh, of where it lies, of the lengths. The first group that gives a number ends it;
+-- past one that gave 0 the next is asked. Assumes nothing.
 use mathlib.Core.Path.{_≡_, refl, _∙_}
 use mathlib.Core.List.{List, _++_}
 use native.Mathlib.Omega.{arith}

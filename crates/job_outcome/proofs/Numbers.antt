@@ -20,12 +20,12 @@ use Rattle.job_outcome.specs.declared.Answer.the-variants.{Refused}
 use Rattle.job_outcome.specs.Outcome.{tallyOf, ended, runOf, unlessRefused, outcome, numberOf}
 use Rattle.job_outcome.specs.Numbers.{checkNumbers, runNumbers, refusalNumbers, IsDone, Replies, done, beforeTheRun, inTheRun}
 
--- the checks: what the checks come to is 0 or one of their numbers
+-- what the checks come to is 0 or one of their numbers
 check-given : (j : Job) (b : Lent) → (refusal j b ≡ 0) ⊎ List·Memᴰ (refusal j b) (checkNumbers j b)
 unfolding refusalBy
 check-given j b = first-is (checks (j .grid) (j .mesh) (lengthsOf b))
 
--- the run: by 6, 7 or 8
+-- the run refuses by 6, 7 or 8 alone
 run-given : (j : Job) (b : Lent) → OnlyBy (λ n. List·Memᴰ n runNumbers) (runOf j b)
 run-given j b =
     run-by (λ n. List·Memᴰ n runNumbers) _

@@ -1,6 +1,6 @@
--- "Reply numbers. Checked in this order; the first that applies is given, and no number is given otherwise." (document 01; document 02 adds 10). Which
--- numbers a job may be answered, and what each leaves in the lent buffers. Definitions only; proofs/Numbers.antt shows it of every job
--- (`replies`).
+-- "Reply numbers. Checked in this order; the first that applies is given, and no number is given otherwise." (document 01; document
+-- 02 adds 10). Which numbers a job may be answered, and what each leaves in the lent buffers. Definitions only; proofs/Numbers.antt
+-- shows it of every job (`replies`).
 use Prim.Native.Nat.{ℕ}
 use mathlib.Core.Path.{_≡_}
 use mathlib.Core.List.{List, [], _∷_, List·Memᴰ}
@@ -21,7 +21,7 @@ checkNumbers j b = numbersOf (checks (j .grid) (j .mesh) (lengthsOf b))
 abbrev pub runNumbers : List ℕ
 runNumbers = 6 ∷ 7 ∷ 8 ∷ []
 
--- all of them, in the order in which they are checked
+-- all of them: those of the checks in their order, then those of the run
 abbrev pub refusalNumbers : List ℕ
 refusalNumbers = 1 ∷ 2 ∷ 3 ∷ 4 ∷ 10 ∷ 5 ∷ runNumbers
 

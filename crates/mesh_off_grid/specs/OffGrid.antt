@@ -12,7 +12,7 @@ use Rattle.grid.specs.Place.{gridBox}
 use Rattle.mesh.specs.declared.Corners.{Corners}
 use Rattle.mesh.specs.Mesh.{Mesh, trianglesIn, cornersOf}
 
--- three coordinates on an axis: all below low, all above high. What touches is neither. No NaN is asked for: refusals 1 and 2 come before.
+-- three coordinates on an axis: all below low, all above high. What touches is neither. None of them is a NaN: refusals 1 and 2 come before.
 abbrev pub allBelow : Float → Float → Float → Float → Bool
 allBelow low a b c = (a ≺ low) && (b ≺ low) && (c ≺ low)
 

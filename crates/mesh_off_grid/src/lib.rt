@@ -1,5 +1,5 @@
 // Whether a triangle lies off the grid: refusal 10 (document 02, §6). Snapping would bring such a triangle to the
-// outermost cells, and shape them. A part of the port: users call `sdf`.
+// outermost cells, and it would shape them. A part of the port: users call `sdf`.
 use grid::BoundingBox;
 use grid::Grid;
 use mesh::Corners;
@@ -37,7 +37,9 @@ pub fn all_on_grid(
     indices: &[u32],
 ) -> bool
     requires { ⌜ Sound (meshOf (now vertices) topology given (now indices)) ⌝ }
-    ensures { λ r. ⌜ r ≡ OffGrid.allOnGrid grid (meshOf (now (vertices .entry)) topology given (now (indices .entry))) ⌝ }
+    ensures { λ r.
+        let m = meshOf (now (vertices .entry)) topology given (now (indices .entry)) in
+        ⌜ r ≡ OffGrid.allOnGrid grid m ⌝ }
 {
     let filled = grid::parts::get_bounding_box(grid);
     let n = mesh::triangle_count(vertices, topology, given, indices);

@@ -431,7 +431,8 @@ fn sides(axis: Axis, letter: &[u8]) {
     try_on(axis, letter, b" -2 -2 2", -2.0, -2.0, 2.0);
 }
 
-// No axis parts it from the box, so a triangle is not off the grid though no point of it lies in the box.
+// Not off the grid, since no axis parts them from the box: two triangles that have no point in it, and one that cuts
+// through it with all its corners out.
 fn no_axis() {
     try_triangle(
         b"beyond an edge of the box",
@@ -451,8 +452,8 @@ fn no_axis() {
 }
 
 // One cell of size 0.1, and a triangle across it at x. Its box is rounded: from 3e800000 to 3eb33333 where the
-// centre is 0.3, and from 3f866667 to 3f933334 where it is 1.1. Centre + size / 2 would be one float more there,
-// and one less here.
+// centre is 0.3, and from 3f866667 to 3f933334 where it is 1.1. Centre + size / 2 would be one float more at 0.3,
+// and one less at 1.1.
 fn try_rounded(name: &[u8], centre: f32, x: f32) {
     let grid = Grid {
         first_cell: Point {
