@@ -9,7 +9,11 @@ use sdf::Grid;
 use sdf::Indices;
 use sdf::Point;
 use sdf::Topology;
+ghost use mathlib.Core.Path.{_≡_};
 ghost use Prim.Native.Nat.{_≤_};
+ghost use Rattle.job_checks.specs.Job.{jobOf};
+ghost use Rattle.job_outcome.specs.Outcome.{outcome, numberOf};
+ghost use Rattle.replay_bounds.specs.Trials.{lentLong, onePop};
 
 fn tell(name: &[u8], number: u32) {
     io::print_decimal(1, number as u64);
@@ -25,7 +29,11 @@ fn one_cell(
     topology: Topology,
     given: Indices,
     indices: &[u32],
-) -> u32 {
+) -> u32
+    ensures { λ r.
+        let job = jobOf grid (now (vertices .entry)) topology given (now (indices .entry)) onePop in
+        ⌜ r ≡ numberOf (outcome job (lentLong 1 1 3 1 1 1 1) .answer) ⌝ }
+{
     trial::asked(
         grid,
         vertices,
