@@ -41,7 +41,7 @@ extern "C" {
 #endif
 
 /* Raised whenever a function, a record or a number below is no longer what it was. */
-#define SDF_VERSION 7
+#define SDF_VERSION 8
 
 /* The numbers of the whole job [4.1], in the order in which they are checked; the first that applies is given. A
  * question asked by itself [4.4] gives 1 for the grid, 2 for a coordinate that is not finite or above 2,097,152 in
@@ -52,6 +52,8 @@ enum {
                              coordinate not finite or above 1,048,576 in magnitude, a size outside 1/1,024 .. 1,024 */
     SDF_COORDINATES = 2,  /* the coordinates are not a multiple of three, more than 393,216 vertices, or a coordinate (of
                              an unused vertex too) not finite or above 1,048,576 in magnitude */
+    SDF_TOPOLOGY = 13,    /* a strip, though it make no triangle: strips are withdrawn. List its triangles: the three
+                             indices of each window, in order */
     SDF_TRIANGLES = 3,    /* more than 131,072 triangles */
     SDF_INDEX = 4,        /* an index that a triangle uses is not below the count of vertices */
     SDF_OFF_GRID = 10,    /* a triangle lies off the grid: on some axis all three of its corners are below the minimum of
@@ -165,8 +167,8 @@ typedef struct {
 } sdf_entry;
 
 /* How the corners make triangles, whether indices are given, and by which pass crossings are counted. For C these are
- * plain numbers: 0 is a list, and any other number a strip; 0 is no indices, and any other number that they are given; 0 is
- * the plain pass, and any other number the quick one. */
+ * plain numbers: 0 is a list, and any other number a strip, which is refused; 0 is no indices, and any other number that they
+ * are given; 0 is the plain pass, and any other number the quick one. */
 enum { SDF_LIST = 0, SDF_STRIP = 1 };
 enum { SDF_NO_INDICES = 0, SDF_INDICES = 1 };
 enum { SDF_PLAIN = 0, SDF_QUICK = 1 };
@@ -179,7 +181,8 @@ enum { SDF_PLAIN = 0, SDF_QUICK = 1 };
  *   vertices     coordinate_count floats, x, y, z of each vertex in turn
  *   indices      index_count vertex numbers; looked at only if `given` is not 0, and never null. Without them the
  *                vertices are taken in their order
- * topology       SDF_LIST: consecutive threes, one or two left over are ignored. SDF_STRIP: every window of three [8]
+ * topology       SDF_LIST: consecutive threes, one or two left over are ignored [8]. SDF_STRIP, every window of three, is
+ *                refused by SDF_TOPOLOGY
  * Lent to be written, with n cells in the grid (sdf_grid_total, the product of the counts):
  *   field        n floats: the signed distance of each cell's centre, by the cell's index, z fastest (sdf_grid_index).
  *                Negative is inside: where at least two of the cell's three counts of crossings are odd. A centre on
@@ -199,7 +202,8 @@ enum { SDF_PLAIN = 0, SDF_QUICK = 1 };
  *
  * What is left in the buffers that are written, whatever they held before [4.3]:
  *   0            field, names, crossings and rows as above; the queue all zero
- *   1 to 5, 10   nothing was changed
+ *   1 to 5, 10, 13
+ *                nothing was changed
  *   6 to 8       the field all FLT_MAX (of <float.h>), the names all SDF_NONE, crossings, rows and queue all zero
  * With no triangle the answer is 0, the field all FLT_MAX and the names all SDF_NONE. A cell is left so too, though there
  * are triangles, if every distance offered to it was infinite; inside it holds -FLT_MAX, and its row counts it.

@@ -14,11 +14,13 @@ use Rattle.grid.specs.Index.{total}
 use Rattle.grid.specs.Layers.{layers}
 use Rattle.grid.specs.Bounds.{inBounds}
 use Rattle.mesh.specs.Mesh.{Mesh, Sound, vertexCount, trianglesIn}
-use Rattle.mesh_topology.specs.Refusals.{allBelowCount}
+use Rattle.mesh_topology.specs.declared.Topology.{Topology}
+use Rattle.mesh_topology.specs.declared.Topology.the-variants.{TriangleList, TriangleStrip}
+use Rattle.mesh_topology.specs.Refusals.{isStrip, allBelowCount}
 use Rattle.mesh_off_grid.specs.OffGrid.{allOnGrid}
 use Rattle.run_state.specs.Told.{Fit}
 use Rattle.job_checks.specs.declared.Lengths.{Lengths}
-use Rattle.job_checks.specs.Refusals.{allCoordinates, wrongGrid, wrongVertices, wrongTriangles, wrongIndices, wrongPlaces, wrongLengths, checks, refusalBy}
+use Rattle.job_checks.specs.Refusals.{allCoordinates, wrongGrid, wrongVertices, wrongTopology, wrongTriangles, wrongIndices, wrongPlaces, wrongLengths, checks, refusalBy}
 
 neither : (a b : Bool) → (a || b) ≡ false → (a ≡ false) × (b ≡ false)
 neither true b h = absurd (true≢false h)
@@ -75,9 +77,14 @@ fits g l h =
 -- ---- all of it
 
 pub record Accepted (g : Grid) (m : Mesh) (l : Lengths) : Type 0 where
+  pub a-list : m .topology ≡ TriangleList
   pub fit : Fit g m
   pub on-grid : allOnGrid g m ≡ true
   pub long : Fits g l
+
+no-strip : (t : Topology) → isStrip t ≡ false → t ≡ TriangleList
+no-strip TriangleList h = refl
+no-strip TriangleStrip h = absurd (true≢false h)
 
 -- no check has the number 0
 numbered : (g : Grid) (m : Mesh) (l : Lengths) → Numbered (checks g m l)
@@ -90,11 +97,13 @@ accepted g m l h =
     let p = none-applies (checks g m l) (numbered g m l) h in
     let grid-right : wrongGrid g ≡ false = search p in
     let vertices-right : wrongVertices (m .vertices) ≡ false = search p in
+    let topology-right : wrongTopology m ≡ false = search p in
     let triangles-right : wrongTriangles m ≡ false = search p in
     let indices-right : wrongIndices m ≡ false = search p in
     let places-right : wrongPlaces g m ≡ false = search p in
     let lengths-right : wrongLengths g l ≡ false = search p in
     record {
+      a-list = no-strip (m .topology) topology-right;
       fit = record {
         ready = record {
           bounded = not-false (inBounds g) grid-right;

@@ -1,5 +1,6 @@
 -- "Reply numbers. Checked in this order; the first that applies is given, and no number is given otherwise." (document 01). Those that are
--- checked before the run: document 01's 1 to 5, and 10, "after 4 and before 5" (document 02, §6). Definitions only.
+-- checked before the run: document 01's 1 to 5; 10, "after 4 and before 5" (document 02, §6); 13, "after 2 and before 3" (§7). Definitions
+-- only.
 use Prim.Native.Nat.{ℕ, _*_, _%_}
 use mathlib.Core.Bool.{Bool, not, _||_}
 use mathlib.Core.List.{List, [], _∷_, _++_}
@@ -13,7 +14,7 @@ use Rattle.grid.specs.Index.{total}
 use Rattle.grid.specs.Layers.{layers}
 use Rattle.grid_axis.specs.AxisBounds.{isCoordinate}
 use Rattle.grid.specs.Bounds.{inBounds}
-use Rattle.mesh_topology.specs.Refusals.{tooManyTriangles, allBelowCount}
+use Rattle.mesh_topology.specs.Refusals.{isStrip, tooManyTriangles, allBelowCount}
 use Rattle.mesh.specs.Mesh.{Mesh, vertexCount, trianglesIn}
 use Rattle.mesh_off_grid.specs.OffGrid.{allOnGrid}
 use Rattle.job_checks.specs.declared.Lengths.{Lengths}
@@ -30,6 +31,10 @@ wrongGrid g = not (inBounds g)
 -- 2: "coordinate count not a multiple of three, too many vertices, or a coordinate out of bounds (unused vertices too)"
 abbrev pub wrongVertices : List Float → Bool
 wrongVertices vs = not (eqb (length vs % 3) 0) || ltb 393216 (vertexCount vs) || not (allCoordinates vs)
+
+-- 13: "a strip" (document 02, §7), with indices or without, though it make no triangle
+abbrev pub wrongTopology : Mesh → Bool
+wrongTopology m = isStrip (m .topology)
 
 -- 3: "too many triangles"
 abbrev pub wrongTriangles : Mesh → Bool
@@ -74,6 +79,7 @@ gridChecks g = record { applies = wrongGrid g; number = 1 } ∷ []
 abbrev pub meshChecks : Mesh → List Check
 meshChecks m =
     record { applies = wrongVertices (m .vertices); number = 2 } ∷
+    record { applies = wrongTopology m; number = 13 } ∷
     record { applies = wrongTriangles m; number = 3 } ∷
     record { applies = wrongIndices m; number = 4 } ∷
     []

@@ -1,9 +1,8 @@
-// The refusals that are checked before the run, in their order: 1 to 4, 10 and 5 (document 01, "Reply numbers", and
-// document 02, §6). A part of the port: users call `sdf`.
+// The refusals that are checked before the run, in their order: 1, 2, 13, 3, 4, 10 and 5 (document 01, "Reply numbers",
+// and document 02, §6 and §7). A part of the port: users call `sdf`.
 ghost use mathlib.Core.Path.{_≡_};
 ghost use mathlib.Core.Bool.{true};
 ghost use Prim.Native.Nat.{_+_, _*_, _%_, _<_};
-ghost use lib.ListN.{length};
 ghost use Rattle.grid_axis.specs.AxisBounds.{isCoordinate};
 ghost use Rattle.grid.specs.Bounds.{inBounds};
 ghost use Rattle.mesh.specs.Mesh.{Sound, meshOf};
@@ -84,13 +83,17 @@ fn grid_refusal(grid: Grid) -> u32
     0
 }
 
-// The first of 2, 3 and 4 that applies to the mesh, and 0 where none does.
+// The first of 2, 13, 3 and 4 that applies to the mesh, and 0 where none does.
 fn mesh_refusal(vertices: &[f32], topology: Topology, given: Indices, indices: &[u32]) -> u32
     ensures { λ r. ⌜ r ≡ firstThatApplies (meshChecks (meshOf (now (vertices .entry)) topology given (now (indices .entry)))) ⌝ }
 {
     let wrong = wrong_vertices(vertices);
     if wrong {
         return 2;
+    }
+    let strip = mesh_checks::is_strip(topology);
+    if strip {
+        return 13;
     }
     let count = vertices.len() / 3;
     let many = mesh_checks::too_many_triangles(topology, given, indices, count);

@@ -1,4 +1,5 @@
 -- Laws of the proofs, and of the crates above.
 pub mod Outcomes
 pub mod Numbers
-pub mod OnGrid
+pub mod Passed
+pub mod SameMesh

@@ -1,4 +1,4 @@
--- No number is given otherwise: a job is done, or refused by a number of the checks or of the run; so a refusal's number is one of the nine, and
+-- No number is given otherwise: a job is done, or refused by a number of the checks or of the run; so a refusal's number is one of the ten, and
 -- number 0 means that the job is done. Assumes nothing.
 use Prim.Native.Nat.{ℕ, zero, suc, _≤_}
 use native.Mathlib.Omega.{arith}

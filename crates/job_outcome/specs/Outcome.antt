@@ -20,7 +20,7 @@ pub record Outcome : Type 0 where
   -- what each lent buffer then holds
   pub left : Lent
 
--- "Numbers 1 to 5 change no lent buffer." (document 01); 10: "buffers unchanged" (document 02, §6)
+-- "Numbers 1 to 5 change no lent buffer." (document 01); 10 and 13: "buffers unchanged" (document 02, §6 and §7)
 abbrev pub unchanged : ℕ → Lent → Outcome
 unchanged n b = record { answer = Refused n; left = b }
 

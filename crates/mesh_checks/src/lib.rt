@@ -1,12 +1,22 @@
-// Whether a job may have its triangles: refusals 3 and 4 (document 01, "Reply numbers"). A part of the port: users
-// call `sdf`.
+// Whether a job may have its triangles: refusals 3 and 4 (document 01, "Reply numbers"), and 13 (document 02, §7). A
+// part of the port: users call `sdf`.
 use mesh_topology::Indices;
 use mesh_topology::Topology;
 use mesh_topology::Triangle;
 ghost use mathlib.Core.Path.{_≡_};
 ghost use Prim.Native.Nat.{_^_, _<_};
 ghost use Rattle.mesh_topology.specs.Topology.{trianglesOf};
-ghost use Rattle.mesh_topology.specs.Refusals.{tooManyTriangles, belowCount, allBelowCount};
+ghost use Rattle.mesh_topology.specs.Refusals.{isStrip, tooManyTriangles, belowCount, allBelowCount};
+
+// Whether the corners make a strip, which is withdrawn: refusal 13.
+pub fn is_strip(topology: Topology) -> bool
+    ensures { λ r. ⌜ r ≡ isStrip topology ⌝ }
+{
+    match topology {
+        Topology::TriangleList => false,
+        Topology::TriangleStrip => true,
+    }
+}
 
 // Whether there are more triangles than a job may have: refusal 3.
 pub fn too_many_triangles(

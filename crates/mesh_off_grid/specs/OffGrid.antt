@@ -13,19 +13,19 @@ use Rattle.mesh.specs.declared.Corners.{Corners}
 use Rattle.mesh.specs.Mesh.{Mesh, trianglesIn, cornersOf}
 
 -- three coordinates on an axis: all below low, all above high. What touches is neither. None of them is a NaN: refusals 1 and 2 come before.
-abbrev pub allBelow : Float → Float → Float → Float → Bool
-allBelow low a b c = (a ≺ low) && (b ≺ low) && (c ≺ low)
+abbrev pub cornersBelow : Float → Float → Float → Float → Bool
+cornersBelow low a b c = (a ≺ low) && (b ≺ low) && (c ≺ low)
 
-abbrev pub allAbove : Float → Float → Float → Float → Bool
-allAbove high a b c = (high ≺ a) && (high ≺ b) && (high ≺ c)
+abbrev pub cornersAbove : Float → Float → Float → Float → Bool
+cornersAbove high a b c = (high ≺ a) && (high ≺ b) && (high ≺ c)
 
-abbrev pub beyond : Float → Float → Float → Float → Float → Bool
-beyond low high a b c = allBelow low a b c || allAbove high a b c
+abbrev pub beyondOneSide : Float → Float → Float → Float → Float → Bool
+beyondOneSide low high a b c = cornersBelow low a b c || cornersAbove high a b c
 
 -- "on some axis", of a triangle's corners as they are given
 unfoldable pub offBox : BoundingBox → Corners → Bool
 offBox b t =
-    onSome (λ axis. beyond (coordinate axis (b .min)) (coordinate axis (b .max)) (coordinate axis (t .a)) (coordinate axis (t .b)) (coordinate axis (t .c)))
+    onSome (λ axis. beyondOneSide (coordinate axis (b .min)) (coordinate axis (b .max)) (coordinate axis (t .a)) (coordinate axis (t .b)) (coordinate axis (t .c)))
 
 -- the grid's box is document 01's: "Box minimum: first − size·0.5. Maximum: that + (count as f32)·size", each operation rounded
 abbrev pub offGrid : Grid → Corners → Bool

@@ -11,7 +11,7 @@ ghost use Rattle.mesh_off_grid.specs.OffGrid as OffGrid;
 
 // Whether three coordinates on an axis are all below low, or all above high. One that touches is neither.
 fn beyond(low: f32, high: f32, a: f32, b: f32, c: f32) -> bool
-    ensures { λ r. ⌜ r ≡ OffGrid.beyond low high a b c ⌝ }
+    ensures { λ r. ⌜ r ≡ OffGrid.beyondOneSide low high a b c ⌝ }
 {
     ((a < low) & (b < low) & (c < low)) | ((high < a) & (high < b) & (high < c))
 }

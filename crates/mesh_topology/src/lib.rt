@@ -7,6 +7,8 @@ ghost use Prim.Native.Nat.{_-_, _^_, _<_};
 ghost use lib.ListN.{length, getD};
 ghost use Rattle.mesh_topology.specs.Topology.{corners, trianglesOf, kth, triangleCount, firstCorner};
 
+// The whole job takes lists alone: strips are withdrawn, and it refuses them by 13 (document 02, §7). What a strip names
+// is said and worked out here all the same, since the converter lists it.
 pub enum Topology {
     TriangleList,
     TriangleStrip,

@@ -13,3 +13,4 @@ pub mod Inputs
 pub mod Numbers
 pub mod NoCrossing
 pub mod Ends
+pub mod SameMesh

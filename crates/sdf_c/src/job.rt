@@ -13,7 +13,8 @@ ghost use Rattle.job_outcome.specs.Outcome.{outcome};
 ghost use Rattle.entries_generate.specs.LentRow.{lentRow};
 ghost use Rattle.c_job.specs.Job.{topologyIn, indicesIn, GivesC};
 
-// `topology` is 0 for a list and any other number for a strip; `given` is 0 where there are no indices.
+// `topology` is 0 for a list and any other number for a strip, which is refused by 13; `given` is 0 where there are no
+// indices.
 #[no_mangle]
 pub extern "C" fn sdf_generate_grid_sdf(
     grid: SdfGrid,

@@ -1,4 +1,5 @@
--- No table goes out with a triangle off the grid: a job that is done was not refused, so no check applied, 10 neither. Assumes nothing.
+-- No table goes out of a strip, nor with a triangle off the grid: a job that is done was not refused, so no check applied, neither 13 nor
+-- 10. Assumes nothing.
 use Prim.Native.Nat.{ℕ, zero, suc, _<_}
 use mathlib.Core.Path.{_≡_, refl}
 use mathlib.Core.Bool.{false, not}
@@ -6,6 +7,7 @@ use native.Mathlib.Omega.{arith}
 use lib.ListN.{length}
 use borrow.Author.Tests.{not-true}
 use Rattle.lists.proofs.Every.{every-at}
+use Rattle.mesh_topology.specs.declared.Topology.the-variants.{TriangleList}
 use Rattle.mesh_topology.specs.Topology.{triangle}
 use Rattle.mesh.specs.Mesh.{trianglesIn, cornersOf, cornersAt}
 use Rattle.mesh_off_grid.specs.OffGrid.{offGrid, allOnGrid}
@@ -23,6 +25,9 @@ passed j b t h = go (refusal j b) h
     go : (n : ℕ) → unlessRefused n b (ended j b (runOf j b)) .answer ≡ Done t → n ≡ 0
     go zero e = refl
     go (suc n) e = absurd (let z : _≡_ {A = ℕ} 0 1 = cc in omega arith)
+
+pub done-a-list : (j : Job) (b : Lent) (t : Tally) → outcome j b .answer ≡ Done t → j .mesh .topology ≡ TriangleList
+done-a-list j b t h = accepted (j .grid) (j .mesh) (lengthsOf b) (passed j b t h) .a-list
 
 pub done-on-grid : (j : Job) (b : Lent) (t : Tally) → outcome j b .answer ≡ Done t
     → (k : ℕ) → k < length (trianglesIn (j .mesh)) → offGrid (j .grid) (cornersAt (j .mesh) k) ≡ false

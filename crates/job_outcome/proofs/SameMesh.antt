@@ -1,0 +1,40 @@
+-- Two jobs whose meshes have the same vertices and name the same triangles come to the same run, and end alike. Assumes nothing.
+use Prim.Native.Nat.{ℕ}
+use mathlib.Core.Path.{_≡_, refl, ap}
+use lib.ListN.{length}
+use Rattle.lists.specs.Turns.{Turn, goes, refuses}
+use Rattle.grid.specs.declared.Grid.{Grid}
+use Rattle.mesh.specs.Mesh.{Mesh}
+use Rattle.run.specs.Run.{State, run}
+use Rattle.run.specs.Signs.{rows}
+use Rattle.run.proofs.SameMesh.{SameMesh, input-same, all-crossings-same, signed-same, grazed-same}
+use Rattle.job_checks.specs.Job.{Job, Lent}
+use Rattle.job_clear.specs.Cleared.{zeros}
+use Rattle.job_outcome.specs.declared.Answer.the-variants.{Done}
+use Rattle.job_outcome.specs.Outcome.{ended, runOf}
+
+abbrev pub jobWith : Grid → ℕ → Mesh → Job
+jobWith g limit m = record { grid = g; mesh = m; limit = limit }
+
+module _ (g : Grid) (limit : ℕ) {m n : Mesh} (same : SameMesh m n) (b : Lent) where
+  pub run-same : runOf (jobWith g limit m) b ≡ runOf (jobWith g limit n) b
+  run-same = ap run (input-same g same (length (b .distances)) limit)
+
+  pub ended-same : (o : Turn State) → ended (jobWith g limit m) b o ≡ ended (jobWith g limit n) b o
+  unfolding ended
+  ended-same (goes s) =
+      let field = signed-same g same (s .field) in
+      λ i.
+      record {
+        answer = Done (record { pops = s .pops; peak = s .peak; grazed = grazed-same g same i });
+        left = record {
+          field = field i;
+          names = s .names;
+          crossings = all-crossings-same g same i;
+          rows = rows g (field i);
+          distances = zeros (b .distances);
+          cells = zeros (b .cells);
+          triangles = zeros (b .triangles);
+        };
+      }
+  ended-same (refuses k) = refl
