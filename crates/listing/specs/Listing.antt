@@ -25,6 +25,7 @@ use Rattle.text.specs.declared.Tail.{Tail}
 use Rattle.text.specs.Words.{space, decimal, decimalLong, hex8, spaced, line}
 use Rattle.lists.specs.Joined.{joined}
 use Rattle.float_bits.specs.Patterns.{floatsOf}
+use Rattle.text.specs.Answering.{answerLine}
 use Rattle.text.specs.TextJob.{TextJob, Readable, jobText, indexList, givenOf, flat}
 
 -- ---- the job that a text asks for
@@ -74,9 +75,6 @@ abbrev pub outcomeOf : TextJob → Outcome
 outcomeOf j = outcome (askedJob j) (lentFor (j .head) (j .tail))
 
 -- ---- the listing
-
-abbrev pub answerLine : ℕ → List ℕ
-answerLine n = line "answer=" (decimal n)
 
 -- "`cell`: index, distance bits, named triangle (4294967295 for none)."
 abbrev pub cellLine : Lent → ℕ → List ℕ

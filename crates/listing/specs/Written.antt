@@ -7,7 +7,7 @@ use lib.Ieee.{Float}
 use Rattle.job_outcome.specs.declared.Answer.{Answer}
 use Rattle.job_checks.specs.Job.{Lent, lentOf}
 use Rattle.job_outcome.specs.Outcome.{peakOf}
-use Rattle.text.specs.Limits.{mostCells, byteRoom}
+use Rattle.text.specs.Limits.{mostCells, listingRoom}
 use Rattle.lists.specs.Put.{Put}
 use Rattle.listing.specs.declared.Written.{Written}
 use Rattle.listing.specs.declared.Written.the-variants.{Nothing, Bytes}
@@ -19,7 +19,7 @@ shown field names rows = lentOf field names [] rows [] [] []
 
 -- "512 cells", as many names, and no more layers than that; and bytes that hold any listing of these
 pub record RoomToList (field : List Float) (names rows out : List ℕ) : Type 0 where
-  pub room : byteRoom ≤ length out
+  pub room : listingRoom ≤ length out
   pub cells-few : length field ≤ mostCells
   pub all-named : length names ≡ length field
   pub rows-few : length rows ≤ mostCells

@@ -5,7 +5,7 @@ use lib.ListN.{length}
 use lib.Ieee.{Float}
 use Rattle.job_checks.specs.Job.{Job, Lent}
 use Rattle.job_outcome.specs.Outcome.{outcome}
-use Rattle.text.specs.Limits.{mostCells, mostEntries, coordinateRoom, byteRoom}
+use Rattle.text.specs.Limits.{mostCells, mostEntries, coordinateRoom, listingRoom}
 use Rattle.text.specs.TextJob.{cellsOf}
 use Rattle.text_read_job.specs.declared.Asked.{Asked}
 use Rattle.listing.specs.Listing.{jobBy, listed}
@@ -23,11 +23,11 @@ pub record Small (a : Asked) (bits out : List ℕ) : Type 0 where
   pub cells-few : cellsOf (a .head .count) ≤ mostCells
   pub coordinates-few : length bits ≤ coordinateRoom
   pub entries-few : a .tail .room ≤ mostEntries
-  pub room : byteRoom ≤ length out
+  pub room : listingRoom ≤ length out
 
 -- the program's buffers hold so many cells, layers and entries, and `out` has room for any listing
 pub record Sizes (cells layers entries : ℕ) (out : List ℕ) : Type 0 where
   pub cells-few : cells ≤ mostCells
   pub layers-few : layers ≤ mostCells
   pub entries-few : entries ≤ mostEntries
-  pub room : byteRoom ≤ length out
+  pub room : listingRoom ≤ length out

@@ -3,7 +3,7 @@ use job_outcome::Answer;
 use listing::Written;
 use listing::put_cells;
 use listing::put_rows;
-use text::BYTE_ROOM;
+use text::LISTING_ROOM;
 use text::MOST_CELLS;
 use text_write::put_long_number;
 use text_write::put_number;
@@ -53,7 +53,7 @@ pub fn write_listing(
         ⌜ WritesListing answer (now (field .entry)) (now (names .entry)) (now (rows .entry)) (now (out .entry))
         (now (out .exit)) r ⌝ }
 {
-    if out.len() < BYTE_ROOM {
+    if out.len() < LISTING_ROOM {
         return Written::Nothing;
     }
     if MOST_CELLS < field.len() {

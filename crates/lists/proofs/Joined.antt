@@ -1,14 +1,14 @@
 -- Pieces put one behind the other: the same ones, one function over them, and, where all have one length, how long they are together and
--- which one stands where. Assumes nothing.
+-- which one stands where; and a piece for each element of a list, as the pieces of its elements' numbers. Assumes nothing.
 use Prim.Native.Nat.{ℕ, zero, suc, _+_, _*_, _≤_, _<_}
 use native.Mathlib.Nat.{mul-suc, mul-add, mul-one, mul-le-mul-left, not-suc-le-zero}
 use native.Mathlib.Decide.{ℕ-discrete}
 use native.Mathlib.Omega.{arith}
 use mathlib.Core.Path.{_≡_, refl, sym, ap, ap₂, _∙_}
-use mathlib.Core.List.{List, _++_, map, map-append}
-use lib.ListN.{length, take, drop, length-append, length-drop}
-use lib.Seq.{take-add, take-all, drop-at, drop-append-le, take-append-le}
-use Rattle.lists.specs.Joined.{joined}
+use mathlib.Core.List.{List, [], _∷_, _++_, map, map-append, append-assoc, append-nil}
+use lib.ListN.{length, getD, take, drop, length-append, length-drop}
+use lib.Seq.{take-add, take-all, take-suc, drop-at, drop-append-le, take-append-le}
+use Rattle.lists.specs.Joined.{joined, each}
 
 pub joined-same : {A : Type 0} (f g : ℕ → List A) (n : ℕ) → ((i : ℕ) → i < n → f i ≡ g i) → joined f n ≡ joined g n
 unfolding joined
@@ -57,3 +57,28 @@ joined-parts w (suc n) l =
     ap (λ (a : List _). a ++ take w (drop (w * n) l)) (joined-parts w n l)
     ∙ sym (take-add (w * n) w l)
     ∙ ap (λ (m : ℕ). take m l) e
+
+-- ---- a piece for each element of a list
+
+module _ {A B : Type 0} (f : A → List B) where
+  each-more : (l : List A) (x : A) → each f l ++ f x ≡ each f (l ++ x ∷ [])
+  unfolding each
+  each-more [] x = sym (append-nil (f x))
+  each-more (y ∷ l) x = append-assoc (f y) (each f l) (f x) ∙ ap (λ (r : List B). f y ++ r) (each-more l x)
+
+  -- `held i` are the first i elements, and x i is the next
+  pub each-held : (held : ℕ → List A) (x : ℕ → A) (n : ℕ)
+      → held 0 ≡ []
+      → ((i : ℕ) → i < n → held (suc i) ≡ held i ++ x i ∷ [])
+      → joined (λ i. f (x i)) n ≡ each f (held n)
+  unfolding each joined
+  each-held held x zero none more = sym (ap (each f) none)
+  each-held held x (suc n) none more =
+      ap (λ (l : List B). l ++ f (x n)) (each-held held x n none (λ i h. more i (omega arith)))
+      ∙ each-more (held n) (x n)
+      ∙ sym (ap (each f) (more n (omega arith)))
+
+  -- by the elements' numbers
+  pub joined-each : (d : A) (l : List A) → joined (λ i. f (getD l i d)) (length l) ≡ each f l
+  joined-each d l =
+      each-held (λ i. take i l) (λ i. getD l i d) (length l) refl (λ i h. take-suc l i d h) ∙ ap (each f) (take-all (length l) l (omega arith))

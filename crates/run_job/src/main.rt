@@ -1,18 +1,18 @@
 // The job program (document 01, "One job, one listing"): standard input is a job's text, and its listing goes
 // to standard output, or `answer=9`. All that it decides is `text_answer::run_text`.
-use text::BYTE_ROOM;
+use text::LISTING_ROOM;
 ghost use mathlib.Core.Path.{_≡_};
 ghost use lib.ListN.{length};
-ghost use Rattle.text.specs.Limits.{byteRoom};
+ghost use Rattle.text.specs.Limits.{listingRoom};
 
-fn room() -> [u8; BYTE_ROOM]
-    ensures { λ r. ⌜ byteRoom ≡ length r ⌝ }
+fn room() -> [u8; LISTING_ROOM]
+    ensures { λ r. ⌜ listingRoom ≡ length r ⌝ }
 {
-    [0; BYTE_ROOM]
+    [0; LISTING_ROOM]
 }
 
 fn main() {
-    // The longest text of a job has fewer than 20,000 bytes: one that fills the buffer is none.
+    // The longest text of a job has 37,460 bytes: one that fills the buffer is none.
     let mut text = io::large_buffer();
     let n = io::read_full(0, &mut text);
     let mut out = room();

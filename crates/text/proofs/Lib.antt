@@ -6,3 +6,4 @@ pub mod Lines
 pub mod Job
 pub mod Places
 pub mod Calls
+pub mod Answers

@@ -4,6 +4,7 @@ use native.Mathlib.Omega.{arith}
 use mathlib.Core.Path.{_≡_, refl, sym, ap, _∙_, subst}
 use mathlib.Core.List.{List, [], _∷_, _++_, append-assoc, append-nil}
 use lib.ListN.{length}
+use Rattle.lists.specs.Joined.{each}
 use Rattle.text.specs.Words.{lines}
 use Rattle.text.specs.TextJob.{All}
 use Rattle.text.specs.Reader.{Got, took, nothing, follow, linesAt}
@@ -13,7 +14,7 @@ module _ {A : Type 0} {In : A → Type 0} {f : A → List ℕ} {p : List ℕ →
   lines-sound : (n : ℕ) (s : List ℕ) (l : List A) (r : List ℕ)
       → linesAt n p s ≡ took l r
       → ((length l ≡ n) × All In l) × (s ≡ lines f l ++ r)
-  unfolding linesAt lines All
+  unfolding linesAt each All
   lines-sound zero s l r e =
       let same : [] ≡ l = cc in
       let rest : s ≡ r = cc in
@@ -35,7 +36,7 @@ module _ {A : Type 0} {In : A → Type 0} {f : A → List ℕ} {p : List ℕ →
       )
 
   lines-complete : (n : ℕ) (l : List A) (r : List ℕ) → (length l ≡ n) × All In l → linesAt n p (lines f l ++ r) ≡ took l r
-  unfolding linesAt lines All
+  unfolding linesAt each All
   lines-complete zero [] r i = refl
   lines-complete zero (a ∷ l) r i = absurd (omega (arith, i .0))
   lines-complete (suc n) [] r i = absurd (omega (arith, i .0))

@@ -1,7 +1,6 @@
 -- "The job program reads key=value lines in a fixed order from standard input." (document 01, "One job, one listing"). A job as its text
 -- gives it, its text, and what the program takes. A float is the bit pattern that the text has. Definitions only.
 use Prim.Native.Nat.{ℕ, _*_, _^_, _<_, _≤_}
-use Prim.Native.String.{String}
 use mathlib.Core.List.{List, [], _∷_, _++_}
 use lib.ListN.{length}
 use Rattle.mesh_topology.specs.declared.Topology.{Topology}
@@ -110,7 +109,7 @@ unfoldable pub All : {A : Type 0} → (A → Type 0) → List A → Type 0
 All P [] = Unit
 All P (x ∷ xs) = P x × All P xs
 
--- "Its own limits: 256 vertices, 768 indices, 512 cells, 2,048 entries." (Limits.antt), by the parts of a text
+-- the program's own limits (Limits.antt), by the parts of a text
 
 -- cells are the product of the counts, which may be 0
 abbrev pub cellsOf : Three → ℕ

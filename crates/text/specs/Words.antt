@@ -6,6 +6,7 @@ use Prim.Native.String.{String, [] as []ˢ, _∷_ as _∷ˢ_}
 use mathlib.Core.Bool.{cond}
 use mathlib.Core.List.{List, [], _∷_, _++_}
 use lib.Dec.{ltb}
+use Rattle.lists.specs.Joined.{each}
 
 -- the bytes of a word of this text, all of whose characters are ASCII
 abbrev pub bytes : String → List ℕ
@@ -58,6 +59,5 @@ unfoldable pub line : String → List ℕ → List ℕ
 line key value = bytes key ++ value ++ lf ∷ []
 
 -- a line for each value of a list, in order
-unfoldable pub lines : {A : Type 0} → (A → List ℕ) → List A → List ℕ
-lines f [] = []
-lines f (x ∷ xs) = f x ++ lines f xs
+abbrev pub lines : {A : Type 0} → (A → List ℕ) → List A → List ℕ
+lines f xs = each f xs

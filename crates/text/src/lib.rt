@@ -1,7 +1,7 @@
 // The job's text (document 01, "One job, one listing"): what its bytes are, as definitions, a reader of it
 // as a function on lists, and the laws by which that reader takes exactly the texts of jobs within the
 // limits. The only code here are the program's limits and the records that are handed over. A part of the
-// port: users run the job program.
+// port: users run the job program and the converter.
 use mesh_topology::Topology;
 ghost use mathlib.Core.Path.{_≡_};
 ghost use Rattle.text.specs.Limits.{mostIndices};
@@ -9,7 +9,8 @@ ghost use Rattle.text.specs.Limits.{mostIndices};
 // The job program's own limits, as specs/Limits.antt has them; indices by their topology.
 pub const MOST_VERTICES: u32 = 256;
 
-const MOST_LIST_INDICES: u32 = 768;
+// Three for each triangle of the longest strip: 3 · (768 − 2).
+const MOST_LIST_INDICES: u32 = 2298;
 
 const MOST_STRIP_INDICES: u32 = 768;
 
@@ -27,7 +28,7 @@ pub fn most_indices(topology: Topology) -> u32
 }
 
 // Buffers that hold what is within the limits: the coordinates, the indices of either topology, the crossings of
-// all cells, the entries, and the bytes of a listing or of a text.
+// all cells, the entries, the bytes of a listing, and those of a text.
 pub const COORDINATE_ROOM: usize = 3 * MOST_VERTICES as usize;
 
 pub const INDEX_ROOM: usize = MOST_LIST_INDICES as usize;
@@ -36,7 +37,9 @@ pub const CROSSING_ROOM: usize = 3 * MOST_CELLS;
 
 pub const ENTRY_ROOM: usize = MOST_ENTRIES as usize;
 
-pub const BYTE_ROOM: usize = 32768;
+pub const LISTING_ROOM: usize = 32768;
+
+pub const TEXT_ROOM: usize = 40960;
 
 // How a number is written: in decimal, or as eight hex digits.
 pub enum Form {

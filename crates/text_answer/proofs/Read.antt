@@ -7,7 +7,8 @@ use lib.ListN.{length, take}
 use lib.Seq.{length-take-le}
 use Rattle.text.specs.declared.Head.{Head}
 use Rattle.text.specs.declared.Tail.{Tail}
-use Rattle.text.specs.Limits.{mostCells, mostEntries, coordinateRoom, byteRoom}
+use Rattle.text.specs.Limits.{mostCells, mostEntries, coordinateRoom, listingRoom}
+use Rattle.text.specs.Answering.{Answered}
 use Rattle.text.specs.TextJob.{TextJob, cellsOf, Readable, jobText}
 use Rattle.text.proofs.Job.{one-job}
 use Rattle.text_read_job.specs.declared.Asked.{Asked}
@@ -17,7 +18,6 @@ use Rattle.lists.proofs.Puts.{said}
 use Rattle.float_bits.specs.Patterns.{floatsOf}
 use Rattle.listing.specs.Listing.{jobBy, lentFor, listing, Prints, listing-of, unreadable}
 use Rattle.listing_run.specs.Parts.{listedOf, heldJob, Small}
-use Rattle.text_answer.specs.Answering.{Answered}
 
 module _ {j : TextJob} {a : Asked} {vertices indices : List ℕ} (h : HoldsJob j a vertices indices) where
   -- the job that the record holds, over buffers for it
@@ -32,7 +32,7 @@ module _ {j : TextJob} {a : Asked} {vertices indices : List ℕ} (h : HoldsJob j
       listedOf (jobBy (h .head-is i) (floatsOf (h .vertices-are i)) (h .given-is i) (h .indices-are i) (h .tail-is i))
       (lentFor (h .head-is i) (h .tail-is i))
 
-  pub small : {out : List ℕ} → Readable j → coordinateRoom ≤ length vertices → byteRoom ≤ length out → Small a (take (3 * a .vertices) vertices) out
+  pub small : {out : List ℕ} → Readable j → coordinateRoom ≤ length vertices → listingRoom ≤ length out → Small a (take (3 * a .vertices) vertices) out
   small r long room =
       record {
         cells-few = subst (λ (k : Head). cellsOf (k .count) ≤ mostCells) (sym (h .head-is)) (r .head-fits .cells-few);
@@ -41,8 +41,8 @@ module _ {j : TextJob} {a : Asked} {vertices indices : List ℕ} (h : HoldsJob j
         room = room;
       }
 
-  pub answered : {text old new : List ℕ} {n : ℕ} → Readable j → text ≡ jobText j → Put old 0 held new n → Answered text old new n
-  answered r e p = record { output = listing j; prints = listing-of j r e refl; put = said held-listed refl p }
+  pub answered : {text old new : List ℕ} {n : ℕ} → Readable j → text ≡ jobText j → Put old 0 held new n → Answered Prints text old new n
+  answered r e p = record { output = listing j; owes = listing-of j r e refl; put = said held-listed refl p }
 
 -- "One call has one possible outcome": an input has one output
 pub one-output : {input : List ℕ} (o p : List ℕ) → Prints input o → Prints input p → o ≡ p

@@ -2,29 +2,18 @@
 // its input, as one function on lent bytes. A part of the port: users run the job program.
 use listing_run::answer_job;
 use terms::Pass;
-use text::BYTE_ROOM;
-use text::COORDINATE_ROOM;
-use text::INDEX_ROOM;
+use text::LISTING_ROOM;
 use text_read_job::Reading;
+use text_read_job::coordinate_words;
+use text_read_job::index_words;
 use text_read_job::read_job;
 use text_write::put_number;
 ghost use mathlib.Core.Path.{_≡_};
 ghost use Prim.Native.Nat.{_<_, _≤_};
 ghost use lib.ListN.{length};
-ghost use Rattle.text.specs.Limits.{coordinateRoom, indexRoom, byteRoom};
-ghost use Rattle.text_answer.specs.Answering.{Answered, Front};
-
-fn coordinate_words() -> [u32; COORDINATE_ROOM]
-    ensures { λ r. ⌜ coordinateRoom ≡ length r ⌝ }
-{
-    [0; COORDINATE_ROOM]
-}
-
-fn index_words() -> [u32; INDEX_ROOM]
-    ensures { λ r. ⌜ indexRoom ≡ length r ⌝ }
-{
-    [0; INDEX_ROOM]
-}
+ghost use Rattle.text.specs.Limits.{listingRoom};
+ghost use Rattle.text.specs.Answering.{Answered, Front};
+ghost use Rattle.listing.specs.Listing.{Prints};
 
 // Answers a text: puts the listing of its job at the front of `out`, or `answer=9` where it is the text of no
 // job within the program's limits, and tells how many bytes that are. `out` must have room for the longest
@@ -33,10 +22,10 @@ fn index_words() -> [u32; INDEX_ROOM]
 pub fn run_text_by(text: &[u8], out: &mut [u8], records: bool, pass: Pass) -> usize
     ensures { λ r. ⌜ Front r (now (out .exit)) ⌝ }
     ensures { λ r.
-        ⌜ (byteRoom ≤ length (now (out .entry)) → Answered (now (text .entry)) (now (out .entry)) (now (out .exit)) r) ⌝ }
-    ensures { λ r. ⌜ (length (now (out .entry)) < byteRoom → (r ≡ 0) × (now (out .exit) ≡ now (out .entry))) ⌝ }
+        ⌜ (listingRoom ≤ length (now (out .entry)) → Answered Prints (now (text .entry)) (now (out .entry)) (now (out .exit)) r) ⌝ }
+    ensures { λ r. ⌜ (length (now (out .entry)) < listingRoom → (r ≡ 0) × (now (out .exit) ≡ now (out .entry))) ⌝ }
 {
-    if out.len() < BYTE_ROOM {
+    if out.len() < LISTING_ROOM {
         return 0;
     }
     let mut bits = coordinate_words();
@@ -56,8 +45,8 @@ pub fn run_text_by(text: &[u8], out: &mut [u8], records: bool, pass: Pass) -> us
 pub fn run_text(text: &[u8], out: &mut [u8]) -> usize
     ensures { λ r. ⌜ Front r (now (out .exit)) ⌝ }
     ensures { λ r.
-        ⌜ (byteRoom ≤ length (now (out .entry)) → Answered (now (text .entry)) (now (out .entry)) (now (out .exit)) r) ⌝ }
-    ensures { λ r. ⌜ (length (now (out .entry)) < byteRoom → (r ≡ 0) × (now (out .exit) ≡ now (out .entry))) ⌝ }
+        ⌜ (listingRoom ≤ length (now (out .entry)) → Answered Prints (now (text .entry)) (now (out .entry)) (now (out .exit)) r) ⌝ }
+    ensures { λ r. ⌜ (length (now (out .entry)) < listingRoom → (r ≡ 0) × (now (out .exit) ≡ now (out .entry))) ⌝ }
 {
     run_text_by(text, out, false, Pass::Quick)
 }

@@ -1,18 +1,21 @@
 // The reader of the job's text (document 01, "One job, one listing"): functions on lent bytes, which take
 // the text of every job within the program's limits, and nothing else. A part of the port: users run the
-// job program.
+// job program and the converter.
 //
-//   reader_words   words and numbers
-//   reader_lines   lines by their keys
-//   reader_parts   the head, the vertices, the indices, the tail
-//   job            the whole text: the job that it is the text of, or that it is none
+//   text_read_words   words and numbers
+//   text_read_lines   lines by their keys
+//   text_read_parts   the head, the vertices, the indices, the tail
+//   read_job          the whole text: the job that it is the text of, or that it is none
 use mesh_topology::Indices;
+use text::COORDINATE_ROOM;
 use text::Head;
+use text::INDEX_ROOM;
 use text::Tail;
 use text_read_parts::Back;
 use text_read_parts::Front;
 use text_read_parts::Row;
 use text_read_words::Number;
+ghost use mathlib.Core.Path.{_≡_};
 ghost use Prim.Native.Nat.{_≤_};
 ghost use lib.ListN.{length};
 ghost use Rattle.text.specs.Limits.{coordinateRoom, indexRoom};
@@ -32,6 +35,19 @@ pub struct Asked {
 pub enum Reading {
     Job(Asked),
     Unreadable,
+}
+
+// Slices to be lent, for the vertices and for the indices.
+pub fn coordinate_words() -> [u32; COORDINATE_ROOM]
+    ensures { λ r. ⌜ coordinateRoom ≡ length r ⌝ }
+{
+    [0; COORDINATE_ROOM]
+}
+
+pub fn index_words() -> [u32; INDEX_ROOM]
+    ensures { λ r. ⌜ indexRoom ≡ length r ⌝ }
+{
+    [0; INDEX_ROOM]
 }
 
 // Reads a whole text. The lent slices have room for as many vertices, three numbers each, and as many indices as

@@ -1,3 +1,3 @@
 -- Laws of the writer.
-pub mod Grown
+pub mod Few
 pub mod RoundTrip

@@ -6,7 +6,7 @@ use lib.ListN.{length}
 use Rattle.mesh_topology.specs.declared.Topology.{Topology}
 use Rattle.mesh_topology.specs.declared.Indices.{Indices}
 use Rattle.mesh_topology.specs.declared.Indices.the-variants.{Given, None}
-use Rattle.text.specs.Limits.{mostVertices, mostIndices, byteRoom}
+use Rattle.text.specs.Limits.{mostVertices, mostIndices, textRoom}
 use Rattle.text.specs.TextJob.{jobText}
 use Rattle.text_read_job.specs.declared.Asked.{Asked}
 use Rattle.text_read_job.specs.Told.{jobIn}
@@ -19,9 +19,9 @@ abbrev pub mostGiven : Topology → Indices → ℕ
 mostGiven t Given = mostIndices t
 mostGiven t None = 0
 
--- what can be written: "256 vertices, 768 indices", which the slices hold; and bytes that hold any text of these
+-- what can be written: a job within the limits on vertices and indices, which the slices hold; and bytes that hold any text of these
 pub record RoomToWrite (a : Asked) (vertices indices out : List ℕ) : Type 0 where
-  pub room : byteRoom ≤ length out
+  pub room : textRoom ≤ length out
   pub vertices-few : a .vertices ≤ mostVertices
   pub vertices-held : 3 * a .vertices ≤ length vertices
   pub indices-few : a .indices ≤ mostGiven (a .head .topology) (a .given)

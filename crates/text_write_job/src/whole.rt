@@ -6,11 +6,10 @@ use crate::parts::put_tail;
 use crate::parts::put_vertices;
 use mesh_topology::Indices;
 use mesh_topology::Topology;
-use text::BYTE_ROOM;
 use text::MOST_VERTICES;
+use text::TEXT_ROOM;
 use text::most_indices;
 use text_read_job::Asked;
-ghost use lib.ListN.{length};
 ghost use mathlib.Core.Path.{_≡_};
 ghost use Rattle.text.specs.TextJob.{jobText};
 ghost use Rattle.text_read_job.specs.Told.{jobIn};
@@ -28,7 +27,7 @@ fn most_given(topology: Topology, given: Indices) -> usize
 }
 
 // The text of a job that fits.
-fn put_job(out: &mut [u8], asked: Asked, vertices: &[u32], indices: &[u32]) -> usize
+pub fn put_job(out: &mut [u8], asked: Asked, vertices: &[u32], indices: &[u32]) -> usize
     requires { ⌜ RoomToWrite asked (now vertices) (now indices) (now out) ⌝ }
     ensures { λ r.
         ⌜ Put (now (out .entry)) 0 (jobText (jobIn asked (now (vertices .entry)) (now (indices .entry))))
@@ -44,7 +43,7 @@ fn put_job(out: &mut [u8], asked: Asked, vertices: &[u32], indices: &[u32]) -> u
 }
 
 // Writes the text of the job that `asked` and the slices hold, where it has no more vertices and indices than the
-// program takes, which the slices hold, and `out` is at least 32,768 bytes long, which hold any such text. Else it
+// program takes, which the slices hold, and `out` is at least 40,960 bytes long, which hold any such text. Else it
 // writes nothing.
 pub fn write_job(asked: Asked, vertices: &[u32], indices: &[u32], out: &mut [u8]) -> Written
     ensures { λ r. ⌜ WritesJob asked (now (vertices .entry)) (now (indices .entry)) (now (out .entry)) (now (out .exit)) r ⌝ }
@@ -52,7 +51,7 @@ pub fn write_job(asked: Asked, vertices: &[u32], indices: &[u32], out: &mut [u8]
     let head = asked.head;
     let topology = head.topology;
     let given = asked.given;
-    if out.len() < BYTE_ROOM {
+    if out.len() < TEXT_ROOM {
         return Written::Nothing;
     }
     if (MOST_VERTICES as usize) < asked.vertices {

@@ -7,13 +7,14 @@ use lib.ListN.{length}
 use lib.Seq.{length-take-le}
 use borrow.Author.Needs.{needs}
 use Rattle.text.specs.Words.{line}
-use Rattle.text.specs.Limits.{coordinateRoom, indexRoom}
+use Rattle.text.specs.Limits.{coordinateRoom}
 use Rattle.text.proofs.Job.{most-held}
 use Rattle.text_read_job.specs.declared.Asked.{Asked}
 use Rattle.text_read_job.specs.declared.Reading.the-variants.{Job}
 use Rattle.text_read_job.specs.Reading.{Reads}
 use Rattle.lists.proofs.Puts.{cut, inside}
-use Rattle.listing.specs.Listing.{answerLine, unreadable}
+use Rattle.text.specs.Answering.{answerLine}
+use Rattle.listing.specs.Listing.{unreadable}
 use Rattle.text_answer.proofs.Read.{small, answered}
 use Rattle.text_answer.proofs.run_text_by.Statement.{statement}
 use Rattle.text_answer.proofs.run_text_by.Tie as tie
@@ -78,7 +79,7 @@ returns-2 c =
     let w = t .before .before .before .before in
     let p = n .put-number .ensures .0 in
     let none = rw (t .enum-told .given .1) at (w .read-job .ensures) in
-    ((inside (omega arith) p, cut (omega arith) p), ((λ h. record { output = answerLine 9; prints = unreadable none refl; put = p }), (λ h. absurd (omega (arith, h, roomy w .if1 .left)))))
+    ((inside (omega arith) p, cut (omega arith) p), ((λ h. record { output = answerLine 9; owes = unreadable none refl; put = p }), (λ h. absurd (omega (arith, h, roomy w .if1 .left)))))
 
 pub run-text-by-spec : {M : Type 1} → statement M
 run-text-by-spec =

@@ -8,8 +8,8 @@ use lib.Seq.{take-suc}
 use borrow.Author.Needs.{needs}
 use Rattle.text.specs.Words.{line}
 use Rattle.text.specs.TextJob.{indexLine}
+use Rattle.lists.proofs.Joined.{each-held}
 use Rattle.lists.proofs.Puts.{said, Pieces, no-pieces, pieces-more, pieces-room, pieces-all}
-use Rattle.text_write_job.proofs.Grown.{lines-held}
 use Rattle.text_write_job.proofs.parts.put_index_lines.Statement.{statement}
 use Rattle.text_write_job.proofs.parts.put_index_lines.Tie as tie
 
@@ -42,7 +42,7 @@ returns c =
     let a = s .args in
     let indices = a .indices .now in
     let put = pieces-all _ _ _ _ _ (c .before .loop .inv) (c .loop-test .left) in
-    (said (lines-held indexLine (λ i. take i indices) (λ i. getD indices i 0) (a .n) refl (λ i h. take-suc indices i 0 (omega (arith, s .pre .1 .0)))) refl (put .0), put .1)
+    (said (each-held indexLine (λ i. take i indices) (λ i. getD indices i 0) (a .n) refl (λ i h. take-suc indices i 0 (omega (arith, s .pre .1 .0)))) refl (put .0), put .1)
 
 pub put-index-lines-spec : {M : Type 1} → statement M
 put-index-lines-spec =

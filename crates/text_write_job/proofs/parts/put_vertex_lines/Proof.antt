@@ -10,8 +10,8 @@ use Rattle.text.specs.Words.{line}
 use Rattle.text.specs.TextJob.{vertexLine}
 use Rattle.text.specs.Reader.{three}
 use Rattle.text_read_parts.specs.Told.{threesIn}
+use Rattle.lists.proofs.Joined.{each-held}
 use Rattle.lists.proofs.Puts.{said, Pieces, no-pieces, pieces-more, pieces-room, pieces-all}
-use Rattle.text_write_job.proofs.Grown.{lines-held}
 use Rattle.text_write_job.proofs.parts.put_vertex_lines.Statement.{statement}
 use Rattle.text_write_job.proofs.parts.put_vertex_lines.Tie as tie
 
@@ -47,7 +47,7 @@ returns c =
     let a = c .before .before .before .before .args in
     let vertices = a .vertices .now in
     let put = pieces-all _ _ _ _ _ (c .before .loop .inv) (c .loop-test .left) in
-    (said (lines-held vertexLine (λ i. threesIn i vertices) (vertexOf vertices) (a .n) refl (λ i h. refl)) refl (put .0), put .1)
+    (said (each-held vertexLine (λ i. threesIn i vertices) (vertexOf vertices) (a .n) refl (λ i h. refl)) refl (put .0), put .1)
 
 pub put-vertex-lines-spec : {M : Type 1} → statement M
 put-vertex-lines-spec =

@@ -5,7 +5,7 @@ use borrow.Author.Needs.{needs}
 use Rattle.text.specs.Limits.{indexRoom}
 use Rattle.text.specs.TextJob.{jobText}
 use Rattle.lists.proofs.Puts.{andThen}
-use Rattle.text_write_job.proofs.Grown.{few-indices}
+use Rattle.text_write_job.proofs.Few.{few-indices}
 use Rattle.text_write_job.proofs.whole.put_job.Statement.{statement}
 use Rattle.text_write_job.proofs.whole.put_job.Tie as tie
 
