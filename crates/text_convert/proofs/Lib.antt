@@ -1,0 +1,4 @@
+-- Laws of the conversion.
+pub mod Laws
+pub mod Listed
+pub mod Read
