@@ -1,4 +1,4 @@
-// Each refusal of document 01 ("Reply numbers"), and 10 of document 02, at its exact bound: the public job is asked
+// Each refusal of document 01 ("Reply numbers"), and 10 and 13 of document 02, at its exact bound: the public job is asked
 // on both sides of it, and what it answers is printed beside what was asked. The file `stdout` has the numbers that
 // the two documents give. Refusals 7 and 8 at their bounds are jobs of the sample that `replay_jobs` runs.
 mod counting;
@@ -182,37 +182,12 @@ fn try_coordinates(name: &[u8], many: &[f32], k: usize) {
     try_vertices(name, &many[..n]);
 }
 
-// The first k of the coordinates, as a mesh without indices.
-fn try_unindexed(name: &[u8], many: &[f32], k: usize, topology: Topology) {
-    let no_index = [0u32; 1];
-    let n = counting::coordinates(many, k);
-    try_mesh(name, &many[..n], topology, Indices::None, &no_index);
-}
-
 fn vertex_counts(many: &[f32]) {
     try_coordinates(b"0 coordinates", many, 0);
     try_coordinates(b"1 coordinate", many, 1);
     try_coordinates(b"2 coordinates", many, 2);
     try_coordinates(b"3 coordinates", many, 3);
     try_coordinates(b"4 coordinates", many, 4);
-    try_unindexed(
-        b"strip without indices, 131073 vertices",
-        many,
-        393219,
-        Topology::TriangleStrip,
-    );
-    try_unindexed(
-        b"strip without indices, 131074 vertices",
-        many,
-        393222,
-        Topology::TriangleStrip,
-    );
-    try_unindexed(
-        b"strip without indices, 131075 vertices",
-        many,
-        393225,
-        Topology::TriangleStrip,
-    );
 }
 
 fn coordinates() {
@@ -226,7 +201,7 @@ fn coordinates() {
 }
 
 fn vertex_bounds() {
-    let many = [0.0f32; 393225];
+    let many = [0.0f32; 4];
     vertex_counts(&many);
     coordinates();
 }
@@ -276,24 +251,6 @@ fn triangle_counts(many: &[u32]) {
         many,
         393219,
     );
-    try_indices(
-        b"strip of 131073 indices",
-        Topology::TriangleStrip,
-        many,
-        131073,
-    );
-    try_indices(
-        b"strip of 131074 indices",
-        Topology::TriangleStrip,
-        many,
-        131074,
-    );
-    try_indices(
-        b"strip of 131075 indices",
-        Topology::TriangleStrip,
-        many,
-        131075,
-    );
     try_indices_off(b"list of 393216 indices, off the grid", many, 393216);
     try_indices_off(b"list of 393219 indices, off the grid", many, 393219);
 }
@@ -329,9 +286,6 @@ fn index_bounds() {
         &[0, 1, 2, 3, 3, 3],
     );
     try_index(b"list 3 3, no triangle", Topology::TriangleList, &[3, 3]);
-    try_index(b"strip 0 1 2", Topology::TriangleStrip, &[0, 1, 2]);
-    try_index(b"strip 0 1 2 3", Topology::TriangleStrip, &[0, 1, 2, 3]);
-    try_index(b"strip 3 3, no triangle", Topology::TriangleStrip, &[3, 3]);
 }
 
 // ---- 10: a triangle off the grid. The box of one cell at the origin reaches from -0.5 to 0.5 on each axis, and a
@@ -508,10 +462,6 @@ fn try_list(name: &[u8], indices: &[u32]) {
     try_fourth(name, 1, Topology::TriangleList, indices);
 }
 
-fn try_strip(name: &[u8], indices: &[u32]) {
-    try_fourth(name, 1, Topology::TriangleStrip, indices);
-}
-
 // Only triangles count, and one is enough, whichever it is.
 fn which_triangles() {
     try_list(b"3 off, list 0 1 2", &[0, 1, 2]);
@@ -521,17 +471,15 @@ fn which_triangles() {
     try_list(b"3 off, list 0 3 3", &[0, 3, 3]);
     try_list(b"3 off, list 0 1 2 3 3 3", &[0, 1, 2, 3, 3, 3]);
     try_list(b"3 off, list 3 3 3 0 1 2", &[3, 3, 3, 0, 1, 2]);
-    try_strip(b"3 off, strip 0 1 2 3 3", &[0, 1, 2, 3, 3]);
-    try_strip(b"3 off, strip 0 1 2 3 3 3", &[0, 1, 2, 3, 3, 3]);
 }
 
 // The same mesh with no room for an entry.
-fn try_no_room(name: &[u8], indices: &[u32]) {
+fn try_no_room(name: &[u8], topology: Topology, indices: &[u32]) {
     let vertices = [0.0, 0.0, 0.0, 0.25, 0.0, 0.0, 0.0, 0.25, 0.0, 0.0, 0.0, 9.0];
     let number = trial::asked(
         trial::grid_of(1, 1, 1),
         &vertices,
-        Topology::TriangleList,
+        topology,
         Indices::Given,
         indices,
         1,
@@ -546,11 +494,10 @@ fn try_no_room(name: &[u8], indices: &[u32]) {
 }
 
 // Two corners a hair apart, whose distance is a NaN, and a vertex off the grid.
-fn try_hair(name: &[u8], indices: &[u32]) {
+fn try_hair(name: &[u8], topology: Topology, indices: &[u32]) {
     let vertices = [0.0, 0.0, 0.0, 7.888609e-31, 0.0, 0.0, 0.0, 0.0, 9.0];
     let grid = trial::grid_of(1, 1, 1);
-    let list = Topology::TriangleList;
-    try_job(name, grid, &vertices, list, Indices::Given, indices);
+    try_job(name, grid, &vertices, topology, Indices::Given, indices);
 }
 
 // After 1 to 4 (that it comes after 3 is shown with 3), and before 5, 6 and 7. One cell is lent: of two cells 5 is
@@ -569,10 +516,10 @@ fn its_place() {
     try_list(b"3 off, list 3 3 3 0 1 4", &[3, 3, 3, 0, 1, 4]);
     try_fourth(b"3 off, two cells, list 0 1 2", 2, list, &[0, 1, 2]);
     try_fourth(b"3 off, two cells, list 3 3 3", 2, list, &[3, 3, 3]);
-    try_hair(b"a hair, list 0 0 1", &[0, 0, 1]);
-    try_hair(b"a hair, list 0 0 1 2 2 2", &[0, 0, 1, 2, 2, 2]);
-    try_no_room(b"3 off, no room, list 0 1 2", &[0, 1, 2]);
-    try_no_room(b"3 off, no room, list 3 3 3", &[3, 3, 3]);
+    try_hair(b"a hair, list 0 0 1", list, &[0, 0, 1]);
+    try_hair(b"a hair, list 0 0 1 2 2 2", list, &[0, 0, 1, 2, 2, 2]);
+    try_no_room(b"3 off, no room, list 0 1 2", list, &[0, 1, 2]);
+    try_no_room(b"3 off, no room, list 3 3 3", list, &[3, 3, 3]);
 }
 
 fn off_grid() {
@@ -583,6 +530,74 @@ fn off_grid() {
     rounded();
     which_triangles();
     its_place();
+}
+
+// ---- 13: a strip (document 02, §7), whatever else may be said of its triangles, or if it has none.
+
+// A strip of the first k of the coordinates, without indices.
+fn try_unindexed(name: &[u8], many: &[f32], k: usize) {
+    let no_index = [0u32; 1];
+    let n = counting::coordinates(many, k);
+    try_mesh(
+        name,
+        &many[..n],
+        Topology::TriangleStrip,
+        Indices::None,
+        &no_index,
+    );
+}
+
+fn try_strip(name: &[u8], indices: &[u32]) {
+    try_index(name, Topology::TriangleStrip, indices);
+}
+
+// With fewer triangles than a job may have, as many, and one more, which would be 3: without indices and with them.
+fn long_strips() {
+    let coordinates = [0.0f32; 393225];
+    try_unindexed(b"strip without indices, 0 vertices", &coordinates, 0);
+    try_unindexed(b"strip without indices, 2 vertices", &coordinates, 6);
+    try_unindexed(b"strip without indices, 3 vertices", &coordinates, 9);
+    try_unindexed(
+        b"strip without indices, 131073 vertices",
+        &coordinates,
+        393219,
+    );
+    try_unindexed(
+        b"strip without indices, 131074 vertices",
+        &coordinates,
+        393222,
+    );
+    try_unindexed(
+        b"strip without indices, 131075 vertices",
+        &coordinates,
+        393225,
+    );
+    let strip = Topology::TriangleStrip;
+    let indices = [0u32; 131075];
+    try_indices(b"strip of 0 indices", strip, &indices, 0);
+    try_indices(b"strip of 131073 indices", strip, &indices, 131073);
+    try_indices(b"strip of 131074 indices", strip, &indices, 131074);
+    try_indices(b"strip of 131075 indices", strip, &indices, 131075);
+}
+
+// After 1 and 2, and before 4, 10, 5, 6 and 7 (that it comes before 3 is shown above).
+fn strips() {
+    long_strips();
+    let strip = Topology::TriangleStrip;
+    try_strip(b"strip 0 1", &[0, 1]);
+    try_strip(b"strip 0 1 2", &[0, 1, 2]);
+    try_strip(b"strip 3 3, no triangle", &[3, 3]);
+    try_strip(b"strip 0 1 2 3", &[0, 1, 2, 3]);
+    try_fourth(b"3 off, strip 0 1 2 3 3", 1, strip, &[0, 1, 2, 3, 3]);
+    try_fourth(b"3 off, strip 0 1 2 3 3 3", 1, strip, &[0, 1, 2, 3, 3, 3]);
+    try_fourth(b"3 off, two cells, strip 0 1 2", 2, strip, &[0, 1, 2]);
+    try_hair(b"a hair, strip 0 0 1", strip, &[0, 0, 1]);
+    try_no_room(b"3 off, no room, strip 0 1 2", strip, &[0, 1, 2]);
+    try_fourth(b"no cell, strip 0 1 2", 0, strip, &[0, 1, 2]);
+    let one = [0.0f32; 1];
+    try_unindexed(b"strip without indices, 1 coordinate", &one, 1);
+    let endless = [1.0 / 0.0, 0.0, 0.0];
+    try_unindexed(b"strip without indices, infinity 0 0", &endless, 3);
 }
 
 // ---- 5: the lengths of what is lent, over a grid of 2 x 1 x 3 cells: 6 magnitudes, 6 names, 18 crossing counts,
@@ -671,6 +686,7 @@ fn main() {
     triangle_bounds();
     index_bounds();
     off_grid();
+    strips();
     length_bounds();
     not_a_number();
 }

@@ -1,8 +1,8 @@
--- `replay_jobs::word_start` meets its contract. The invariant: i is at most `end`. Assumes nothing.
+-- `replay_pairs::word_start` meets its contract. The invariant: i is at most `end`. Assumes nothing.
 use Prim.Native.Nat.{_≤_}
 use native.Mathlib.Omega.{arith}
-use Rattle.replay_jobs.proofs.word_start.Statement.{statement}
-use Rattle.replay_jobs.proofs.word_start.Tie as tie
+use Rattle.replay_pairs.proofs.word_start.Statement.{statement}
+use Rattle.replay_pairs.proofs.word_start.Tie as tie
 
 abbrev Inv-loop : tie.InvT-loop
 Inv-loop line end i₀ i = i ≤ end

@@ -1,4 +1,4 @@
--- `replay_jobs::read_part` meets its contract: what is read stands at the front. Assumes nothing.
+-- `replay_pairs::read_part` meets its contract: what is read stands at the front. Assumes nothing.
 use Prim.Native.Nat.{_≤_}
 use native.Mathlib.Omega.{arith}
 use mathlib.Core.Path.{sym}
@@ -6,8 +6,8 @@ use mathlib.Core.List.{_++_}
 use lib.ListN.{length, drop, length-append}
 use lib.Seq.{length-take-le}
 use borrow.Author.Needs.{needs}
-use Rattle.replay_jobs.proofs.read_part.Statement.{statement}
-use Rattle.replay_jobs.proofs.read_part.Tie as tie
+use Rattle.replay_pairs.proofs.read_part.Statement.{statement}
+use Rattle.replay_pairs.proofs.read_part.Tie as tie
 
 slice-aggregate-read-full : tie.Need-slice-aggregate-read-full
 slice-aggregate-read-full c = sym (length-take-le (c .before .before .args .n) (c .before .before .args .buf .now) (c .before .before .pre))

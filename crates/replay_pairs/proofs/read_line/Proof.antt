@@ -1,11 +1,11 @@
--- `replay_jobs::read_line` meets its contract. The invariant: the line is as long as it was, and i is at most its length. Assumes nothing.
+-- `replay_pairs::read_line` meets its contract. The invariant: the line is as long as it was, and i is at most its length. Assumes nothing.
 use Prim.Native.Nat.{_-_, _≤_}
 use native.Mathlib.Omega.{arith}
 use mathlib.Core.Path.{_≡_, refl}
 use lib.ListN.{length, length-set}
 use borrow.Author.Needs.{needs}
-use Rattle.replay_jobs.proofs.read_line.Statement.{statement}
-use Rattle.replay_jobs.proofs.read_line.Tie as tie
+use Rattle.replay_pairs.proofs.read_line.Statement.{statement}
+use Rattle.replay_pairs.proofs.read_line.Tie as tie
 
 abbrev Inv-loop : tie.InvT-loop
 Inv-loop line₀ i₀ line i = (length line ≡ length line₀) × (i ≤ length line)
