@@ -44,15 +44,49 @@ def values(listing):
     return found
 
 
-def owed(jobs):
+def owed(jobs, originals=None):
     """The listings that the jobs are owed: the unmodified Rust's field and pops, rows counted off that field, and the model's
     number, peak, grazed and names (the Rust says nothing of a ray that grazes; tools/grazed-check counts them once more). Where two
-    speak they must agree. Builds the oracle and the model."""
+    speak they must agree. With `originals` the jobs are conversions of these, and the Rust is given the originals: it still takes
+    strips. Builds the oracle and the model."""
     build("tools/oracle/build")
     build("tools/model/build")
     model = batch(["build/model/model", "--batch"], jobs)
-    rust = batch(["build/oracle/oracle", "--batch"], jobs)
+    rust = batch(["build/oracle/oracle", "--batch"], jobs if originals is None else originals)
     return [joined(ours, theirs) for ours, theirs in zip(model, rust)]
+
+
+def converted(jobs, *more):
+    """What the converter owes the jobs' texts, by the model, as (converted-KIND, bytes). With "--large" the old limits are lifted. Builds
+    the model."""
+    build("tools/model/build")
+    answers = batch(["build/model/model", "--batch", "--convert", *more], jobs)
+    return [(f"converted-{kind}", answer) for (kind, _), answer in zip(jobs, answers)]
+
+
+def strips(jobs):
+    """Those of the jobs that are strips which the converter can read, and what it owes them."""
+    pairs = [(old, new) for old, new in zip(jobs, converted(jobs)) if new[1] not in (old[1], b"answer=9\n")]
+    return [old for old, _ in pairs], [new for _, new in pairs]
+
+
+def stored(path):
+    """(kind, text, bytes owed) of each part of a stored sample."""
+    with open(path, "rb") as file:
+        stream = file.read()
+    at = 0
+    while at < len(stream):
+        end = stream.index(b"\n", at)
+        _, kind, text, owed_to_it = stream[at:end].decode().split(" ")
+        middle = end + 1 + int(text)
+        at = middle + int(owed_to_it)
+        yield kind, stream[end + 1:middle], stream[middle:at]
+
+
+def stream_of(answered):
+    """The bytes of a stored sample: for each (kind, text, bytes owed) a line `job=INDEX KIND TEXTBYTES OWEDBYTES`, then both."""
+    lines = (f"job={n} {kind} {len(text)} {len(owes)}\n".encode() + text + owes for n, (kind, text, owes) in enumerate(answered))
+    return b"".join(lines)
 
 
 def joined(model, rust):
@@ -77,3 +111,10 @@ def set_signs(cells, layers):
     for index, bits in map(str.split, cells):
         rows[int(index) % layers] += int(bits, 16) >> 31
     return [f"{layer} {count}" for layer, count in enumerate(rows)]
+
+
+def first_difference(printed, owes):
+    """The first line in which they differ, in words."""
+    ours, theirs = printed.split(b"\n"), owes.split(b"\n")
+    line = next((n for n, pair in enumerate(zip(ours, theirs)) if pair[0] != pair[1]), min(len(ours), len(theirs)))
+    return f"line {line + 1}: printed {ours[line:line + 1]}, owed {theirs[line:line + 1]}"

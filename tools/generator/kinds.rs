@@ -3,18 +3,20 @@
 use crate::damage;
 use crate::inside;
 use crate::off_grid;
+use crate::old;
 use crate::random::Random;
 use crate::shapes::{self, Mesh};
 use model::grid::Grid;
 use model::topology::Topology;
-use model::{bounds, text, Job, LANDED};
+use model::{bounds, convert, text, Job};
 
 const BOUND: f32 = 1_048_576.0;
 const LEAST_SIZE: f32 = 1.0 / 1_024.0;
 const MOST_SIZE: f32 = 1_024.0;
 /// The job program's own limits.
 const MOST_VERTICES: u32 = 256;
-const MOST_INDICES: u32 = 768;
+/// Of a strip, and of a list.
+const MOST_INDICES: [u32; 2] = [768, 2_298];
 const MOST_ENTRIES: u32 = 2_048;
 
 pub type Make = fn(&mut Random) -> Job;
@@ -117,17 +119,19 @@ pub const BASE: [(&str, Make); 69] = [
 ];
 
 /// Kinds that lie off the grid by design, beside those of the set `off-grid`.
-const OFF_GRID: [&str; 2] = ["box-around-grid", "hull-one-ulp-out"];
+const OFF_GRID: [&str; 3] = ["box-around-grid", "hull-one-ulp-out", "strip-off-grid"];
 /// How often any other kind draws again, at most.
 const DRAWINGS: u32 = 500;
 
-/// The kinds that take turns: those of a set, `base`, `inside` or `off-grid`, or of all three.
+/// The kinds that take turns: those of a set, or of `base`, `inside` and `off-grid` together.
 pub fn of_set(set: Option<&str>) -> Vec<&'static str> {
     let names = |kinds: &'static [(&'static str, Make)]| kinds.iter().map(|(name, _)| *name);
     match set {
         Some("base") => names(&BASE).collect(),
         Some("inside") => names(&inside::KINDS).collect(),
         Some("off-grid") => names(&off_grid::KINDS).collect(),
+        Some("old") => names(&old::KINDS).collect(),
+        Some("long") => names(&old::LONG).collect(),
         _ => names(&BASE).chain(names(&inside::KINDS)).chain(names(&off_grid::KINDS)).collect(),
     }
 }
@@ -136,9 +140,11 @@ pub fn of_set(set: Option<&str>) -> Vec<&'static str> {
 ///
 /// The kinds of the base came before document 02, §6, and many of their meshes stick out of the grid: what each was made to show
 /// would be lost in refusals by 10. So where the first drawing is refused so, it is kept once in four, and else the kind draws
-/// until one is not. What was not refused so stays word for word what it was: no number is drawn before it.
+/// until one is not. What was not refused so stays word for word what it was: no number is drawn before it. Of a strip, which is
+/// refused before that (§7), the list that it is converted to decides.
 pub fn make(kind: &str, r: &mut Random) -> Option<Vec<u8>> {
-    let mut all = BASE.iter().chain(&inside::KINDS).chain(&off_grid::KINDS).chain(&ALONE);
+    let later = old::KINDS.iter().chain(&old::LONG);
+    let mut all = BASE.iter().chain(&inside::KINDS).chain(&off_grid::KINDS).chain(&ALONE).chain(later);
     let (_, make) = all.find(|(name, _)| *name == kind)?;
     let first = draw(kind, *make, r);
     let by_design = OFF_GRID.contains(&kind) || off_grid::KINDS.iter().any(|(name, _)| *name == kind);
@@ -150,19 +156,24 @@ pub fn make(kind: &str, r: &mut Random) -> Option<Vec<u8>> {
     Some(again.unwrap_or(first))
 }
 
-/// Whether the job program answers a text by 10, or the library does, which has not its limits.
+/// Whether the job program answers a text by 10, or the library does, which has not its limits; of a strip, its list.
 fn refused_by_10(text: &[u8], limits: bool) -> bool {
     let job = text::read(text).filter(|job| !limits || text::within_limits(job));
-    job.is_some_and(|job| bounds::check(&job, LANDED) == Err(10))
+    job.is_some_and(|job| off(&job))
+}
+
+/// Whether the job, with its triangles listed, is refused by 10.
+fn off(job: &Job) -> bool {
+    bounds::check(&convert::as_list(job)) == Err(10)
 }
 
 /// One drawing of a kind.
 fn draw(kind: &str, make: Make, r: &mut Random) -> Vec<u8> {
     let text = text::write(&make(r));
     match kind {
-        // The two begin at different ways, so that together they show all of them sooner.
-        "damaged" => damage::damage(r.turn(&damage::WAYS), &text, r),
-        "damaged-small" => {
+        // Each pair begins at different ways, so that together they show all of them sooner.
+        "damaged" | "damaged-strip" => damage::damage(r.turn(&damage::WAYS), &text, r),
+        "damaged-small" | "damaged-strip-no-indices" => {
             let mut ways = damage::WAYS;
             ways.rotate_left(damage::WAYS.len() / 2);
             damage::damage(r.turn(&ways), &text, r)
@@ -587,7 +598,7 @@ fn signed_zero_corners(r: &mut Random) -> Job {
     let mut job = if r.once_in(5) { soup_lattice(r) } else { soup(r) };
     let (before, mut same) = (job.clone(), r.clone());
     set_signed_zeros(&mut job, r);
-    if bounds::check(&job, LANDED) == Err(10) {
+    if off(&job) {
         job = before;
         for axis in 0..3 {
             let cell = r.between(0, job.grid.count[axis] - 1);
@@ -836,7 +847,7 @@ fn tight(r: &mut Random, set: fn(&mut Job, u32, u32, &mut Random)) -> Job {
 // Refusals.
 
 /// Just outside the bound on both sides, NaNs, infinities, and others far outside.
-const BEYOND: [u32; 12] = [
+pub const BEYOND: [u32; 12] = [
     0x4980_0001,
     0xc980_0001,
     0x7fc0_0000,
@@ -945,14 +956,19 @@ fn at_limit(r: &mut Random, which: u32) -> Job {
             }
             // Steps that lead off the grid are made shorter.
             for halvings in 1..20 {
-                if over == 0 && bounds::check(&job, LANDED) == Err(10) {
+                if over == 0 && off(&job) {
                     job.vertices = stairs(0.125 / (1 << halvings) as f32);
                 }
             }
         }
         2 => {
-            job.indices = Some((0..MOST_INDICES + over).map(|_| r.between(0, 2)).collect());
+            let [most, most_of_list] = MOST_INDICES;
+            let mut indices: Vec<u32> = (0..most + over).map(|_| r.between(0, 2)).collect();
             job.topology = r.pick(&[Topology::List, Topology::Strip]);
+            if job.topology == Topology::List {
+                indices.extend((most..most_of_list).map(|_| r.between(0, 2)));
+            }
+            job.indices = Some(indices);
         }
         _ => job.queue = MOST_ENTRIES + over,
     }
@@ -967,7 +983,7 @@ fn beyond_limits(r: &mut Random) -> Job {
                 r.pick(&[[1_024, 1, 1], [1_025, 1, 1], [1_024, 1_024, 1], [102, 102, 100], [1, 1, u32::MAX]])
         }
         1 => job.vertices = vec![[0.0; 3]; r.pick(&[257, 300, 1_000])],
-        2 => job.indices = Some(vec![0; r.pick(&[769, 1_000, 3_000])]),
+        2 => job.indices = Some(vec![0; r.pick(&[2_299, 2_500, 3_000])]),
         _ => job.queue = r.pick(&[2_049, 4_096, 1 << 31, u32::MAX]),
     }
     job
@@ -1065,8 +1081,14 @@ fn large_soup(r: &mut Random) -> Job {
 fn too_many_triangles(r: &mut Random) -> Job {
     let mut job = one_triangle(r);
     job.grid.count = [1; 3];
-    job.topology = Topology::Strip;
-    job.indices = Some((0..131_074 + r.between(0, 1)).map(|i| i % 3).collect());
+    let triangles = 131_072 + r.between(0, 1);
+    // A strip is refused by 13, which comes before 3.
+    if r.once_in(3) {
+        job.topology = Topology::Strip;
+        job.indices = Some((0..triangles + 2).map(|i| i % 3).collect());
+    } else {
+        job.indices = Some((0..3 * triangles).map(|i| i % 3).collect());
+    }
     lift(job)
 }
 

@@ -4,18 +4,22 @@
 //! of the four is held to the Rust. Then the other form of the queue and the other pass, together, must give the same; in
 //! `small` all four.
 //!
-//!   small    the kinds of tools/jobs within the job program's limits, and lent buffers of other lengths: every
-//!            answer 0 to 8 and 10, with every buffer, against the model of document 01; then against the Rust
+//!   small    the kinds of tools/jobs within the job program's limits, old jobs and long lists among them, and lent buffers of other
+//!            lengths: every answer 0 to 8, 10 and 13, with every buffer, against the model of document 01; then against the Rust
 //!   middle   to 64 x 64 x 64 cells and 6,000 triangles
 //!   large    to 100 x 100 x 100 cells and 20,000 triangles (the default); the crossing counts of every second
 //!            job, since the Rust works them out again for it
 //!   bounds   one job at each bound of document 01, and one whose rays that graze pass 32 bits; then jobs of as many triangles as there
-//!            may be, whose last alone is off the grid by one float, or touches its box; with N = 0 the library alone,
-//!            which takes a minute where the Rust takes many; SEED does not matter
+//!            may be, whose last alone is off the grid by one float, or touches its box; and strips about that number; with N = 0 the
+//!            library alone, which takes a minute where the Rust takes many; SEED does not matter
 //!
 //! In `middle` and `large` every job is accepted. One in twelve is asked for with a ladder off the grid too (document 02, §6): that
 //! is refused by 10, in all four ways, and over buffers of a wrong length as well (where the queue's lists differ, in two), and each
 //! buffer stays as it was lent.
+//!
+//! Strips are withdrawn (document 02, §7), and the Rust still takes them. Wherever a job is a strip, the library is given the list of its
+//! triangles and the Rust the strip itself. The strip is refused by 13, in all four ways, over buffers of right and of wrong lengths that stay
+//! as they were lent; with an index beyond the vertices or a ladder beside it too; with a vertex or a grid out of bounds it is 2 or 1.
 //!
 //! The Rust has no reply for a ray that grazes (document 02, §3). The total of `small` is the model's; that of the others is
 //! counted here, every ray with every triangle, by the model's ray test; in `large` where the crossings are held too. In `bounds`
@@ -30,6 +34,8 @@ mod kinds;
 mod meshes;
 #[path = "../generator/off_grid.rs"]
 mod off_grid;
+#[path = "../generator/old.rs"]
+mod old;
 mod port;
 #[path = "../generator/random.rs"]
 mod random;
@@ -37,8 +43,10 @@ mod rust;
 #[path = "../generator/shapes.rs"]
 mod shapes;
 
+use model::convert::as_list;
 use model::geometry::{ray, Reply};
-use model::grid::AXES;
+use model::grid::{Grid, AXES};
+use model::topology::Topology;
 use model::{bounds, text, topology, Done, Job};
 use port::{Answer, By, Lent};
 use random::Random;
@@ -52,8 +60,10 @@ struct Seen {
     kinds: BTreeMap<String, u64>,
     answers: BTreeMap<u32, u64>,
     to_rust: u64,
-    /// Jobs that were refused by 10 over buffers of right and of wrong lengths: 10 comes before 5.
-    off_grid: [u64; 2],
+    /// Jobs that were refused by 10 and by 13 over buffers of right and of wrong lengths: both come before 5.
+    unchanged: BTreeMap<u32, [u64; 2]>,
+    /// Lists that were held to what the Rust gives the strip.
+    strips: u64,
     /// Jobs that were asked for in each of the four ways.
     asked: [u64; 4],
     /// Jobs whose rays that graze were counted here; those with any, how many in all, the most.
@@ -72,9 +82,11 @@ struct Seen {
 }
 
 impl Seen {
-    /// One job held to the Rust.
-    fn hold(&mut self, job: &Job, lent: &mut Lent, by: By, with_crossings: bool) -> Result<Held, String> {
-        let held = rust::hold(job, lent, by, with_crossings)?;
+    /// One job held to the Rust; of a strip, the list of its triangles to what the Rust gives the strip.
+    fn hold(&mut self, original: &Job, lent: &mut Lent, by: By, with_crossings: bool) -> Result<Held, String> {
+        let job = &as_list(original);
+        let held = rust::hold(job, original, lent, by, with_crossings)?;
+        self.strips += u64::from(original.topology == Topology::Strip);
         self.hold_other(job, by, &held, lent)?;
         let (cells, triangles) = (u64::from(job.grid.cells()), topology::triangles(job).len() as u64);
         if with_crossings {
@@ -115,20 +127,39 @@ impl Seen {
         Ok(())
     }
 
-    /// A job with a triangle off the grid is refused by 10 in all four ways, over buffers of right and of wrong lengths that hold
-    /// noise, and they are as they were lent. (Three queue lists of different lengths are no row: there in two ways.)
-    fn hold_off_grid(&mut self, job: &Job, r: &mut Random) -> Result<(), String> {
-        let (cells, room) = (job.grid.cells() as usize, 4_096);
-        let lengths = [cells, cells, 3 * cells, job.grid.count[2] as usize, room, room, room];
+    /// A job is refused by this number in all four ways, over buffers of right and of wrong lengths for the grid that hold noise, and
+    /// they are as they were lent. (Three queue lists of different lengths are no row: there in two ways.)
+    fn hold_unchanged(&mut self, job: &Job, number: u32, grid: &Grid, r: &mut Random) -> Result<(), String> {
+        let (cells, room) = (grid.cells() as usize, 4_096);
+        let lengths = [cells, cells, 3 * cells, grid.count[2] as usize, room, room, room];
         for wrong in [None, Some((r.below(7) as usize, r.once_in(2)))] {
             let before = noise(lengths, wrong, r).lent;
             for by in By::ALL {
-                self.hold_again(job, job.vertices.as_flattened(), before.clone(), u32::MAX, by, refused(10), &before)?;
+                self.hold_again(job, job.vertices.as_flattened(), before.clone(), u32::MAX, by, refused(number), &before)?;
             }
-            self.off_grid[usize::from(wrong.is_some())] += 1;
+            self.tell_unchanged(number, wrong.is_some());
         }
-        *self.answers.entry(10).or_default() += 1;
+        *self.answers.entry(number).or_default() += 1;
         Ok(())
+    }
+
+    fn tell_unchanged(&mut self, number: u32, wrong: bool) {
+        self.unchanged.entry(number).or_default()[usize::from(wrong)] += 1;
+    }
+
+    /// A strip is refused by 13, with an index beyond the vertices too; with a vertex out of bounds by 2, and with a grid by 1.
+    fn hold_strip(&mut self, strip: &Job, r: &mut Random) -> Result<(), String> {
+        self.hold_unchanged(strip, 13, &strip.grid, r)?;
+        let mut job = strip.clone();
+        if let Some(index) = job.indices.as_mut().and_then(|list| list.first_mut()) {
+            *index = job.vertices.len() as u32;
+            self.hold_unchanged(&job, 13, &strip.grid, r)?;
+        }
+        let vertex = r.below(job.vertices.len() as u64) as usize;
+        job.vertices[vertex][r.below(3) as usize] = [f32::NAN, 1_048_576.125, f32::NEG_INFINITY][r.below(3) as usize];
+        self.hold_unchanged(&job, 2, &strip.grid, r)?;
+        job.grid.size[r.below(3) as usize] = [0.0, -1.0, f32::NAN][r.below(3) as usize];
+        self.hold_unchanged(&job, 1, &strip.grid, r)
     }
 
     fn tell(&mut self, by: By) {
@@ -164,8 +195,12 @@ impl Seen {
             "rays that graze, counted one by one: {} jobs, {} of them with any, {} in all, the most {}",
             self.counted, self.with_grazed, self.grazed, self.most_grazed
         );
-        let [right, wrong] = self.off_grid;
-        println!("refused by 10, with every buffer as it was lent: {right} over buffers of right lengths, {wrong} of wrong ones");
+        println!("lists of a strip's triangles that were held to what the Rust gives the strip: {}", self.strips);
+        for (number, [right, wrong]) in &self.unchanged {
+            println!(
+                "refused by {number}, with every buffer as it was lent: {right} over buffers of right lengths, {wrong} of wrong ones"
+            );
+        }
         let [plain, quick, records_plain, records_quick] = self.asked;
         println!(
             "with the same answer and buffers: over three lists {plain} by the plain pass and {quick} by the quick, \
@@ -241,7 +276,7 @@ fn in_turn(index: u64) -> By {
 /// One job over buffers that hold noise, some of them of a wrong length: answer and buffers are the model's. Then the
 /// same with room and pops lifted, against the Rust.
 fn small(index: u64, r: &mut Random, seen: &mut Seen) -> (String, Result<(), String>) {
-    let all = kinds::of_set(None);
+    let all = [None, Some("old"), Some("long")].map(kinds::of_set).concat();
     let turns = all.len() as u64;
     let kind = match index % 100 {
         // Those that came after the sets.
@@ -254,11 +289,11 @@ fn small(index: u64, r: &mut Random, seen: &mut Seen) -> (String, Result<(), Str
     };
     let mut of_kind = Random::new(r.next(), index / turns);
     let made = kinds::make(kind, &mut of_kind).expect("a kind of the table");
-    let Some(job) = text::read(&made).filter(|job| text::within_limits(job) || bounds::check(job, model::LANDED).is_err()) else {
+    let Some(job) = text::read(&made).filter(|job| text::within_limits(job) || bounds::check(job).is_err()) else {
         return ("unreadable, or beyond the program's limits".to_string(), Ok(()));
     };
     let verdict = hold_to_model(&job, r, seen).and_then(|number| {
-        if matches!(number, 0 | 6 | 7 | 8) {
+        if matches!(number, 0 | 6 | 7 | 8) || number == 13 && bounds::check(&as_list(&job)).is_ok() {
             seen.hold(&job, &mut Lent::fitting(&job.grid, 4_096), in_turn(index), true)?;
         }
         Ok(())
@@ -286,7 +321,7 @@ fn hold_to_model(job: &Job, r: &mut Random, seen: &mut Seen) -> Result<u32, Stri
             let tally = Answer { number: 0, pops: done.pops, peak: done.peak as usize, grazed: done.grazed };
             (tally, filled(done, kept))
         }
-        Err(number) if number < 6 || number == 10 => (refused(number), kept),
+        Err(number) if number < 6 || number > 9 => (refused(number), kept),
         Err(number) => (refused(number), cleared(kept)),
     };
     let number = model.number;
@@ -296,13 +331,14 @@ fn hold_to_model(job: &Job, r: &mut Random, seen: &mut Seen) -> Result<u32, Stri
     if lent.bits() != left.bits() {
         return Err(format!("answer {number}, and a buffer is not as the model leaves it"));
     }
-    if number == 10 {
-        seen.off_grid[usize::from(before.lengths != lengths)] += 1;
+    if number > 9 {
+        seen.tell_unchanged(number, before.lengths != lengths);
     }
     seen.tell(first);
     for by in others {
         seen.hold_again(job, coordinates, before.lent.clone(), job.pops, by, answer, &left)?;
     }
+    // Where coordinates were left out, or a buffer has another length, nothing was said of the job itself.
     Ok(if uneven || before.lengths != lengths { 5 } else { number })
 }
 
@@ -312,12 +348,12 @@ fn refused(number: u32) -> Answer {
 
 /// The job is accepted, by the model: if not, it is this tool's mistake, and the library's answer says nothing.
 fn accepted(job: &Job) -> Result<(), String> {
-    bounds::check(job, model::LANDED).map_err(|number| format!("the model refuses the job by {number}"))
+    bounds::check(job).map_err(|number| format!("the model refuses the job by {number}"))
 }
 
 /// Document 01's answer. A job's text lends no buffers and has whole vertices: those two are added here.
 fn owed(job: &Job, uneven: bool, wrong: bool) -> Result<Done, u32> {
-    let checked = bounds::check(job, model::LANDED);
+    let checked = bounds::check(job);
     if uneven && checked != Err(1) {
         return Err(2);
     }
@@ -397,11 +433,19 @@ fn large(
     let mut lent = Lent::fitting(&grid, 2 * grid.cells() as usize + 4_096);
     let job = meshes::make(kind, grid, triangles, r);
     let mut verdict = || {
-        accepted(&job)?;
+        accepted(&as_list(&job))?;
         let held = seen.hold(&job, &mut lent, in_turn(index), with_crossings)?;
         *seen.answers.entry(held.answer.number).or_default() += 1;
+        let strip = job.topology == Topology::Strip;
+        if strip {
+            seen.hold_strip(&job, r)?;
+        }
         if index % 12 == 11 {
-            seen.hold_off_grid(&meshes::with_ladder(&job, r), r)?;
+            let ladder = meshes::with_ladder(&job, r);
+            seen.hold_unchanged(&as_list(&ladder), 10, &job.grid, r)?;
+            if strip {
+                seen.hold_unchanged(&ladder, 13, &job.grid, r)?;
+            }
         }
         Ok(())
     };
@@ -440,12 +484,14 @@ fn at_bounds(with_rust: bool, seen: &mut Seen) {
         tell_at_bound(&job, &lent, verdict, seen);
     }
     last_off_grid(with_rust, seen);
+    strips_at_bounds(with_rust, seen);
 }
 
-fn hold_at_bound(job: &Job, lent: &mut Lent, by: By, with_rust: bool, seen: &mut Seen) -> Result<Held, String> {
+fn hold_at_bound(original: &Job, lent: &mut Lent, by: By, with_rust: bool, seen: &mut Seen) -> Result<Held, String> {
+    let job = &as_list(original);
     accepted(job)?;
     if with_rust {
-        return seen.hold(job, lent, by, false);
+        return seen.hold(original, lent, by, false);
     }
     let held = rust::alone(job, lent, by);
     seen.hold_other(job, by, &held, lent)?;
@@ -495,13 +541,44 @@ fn last_off_grid(with_rust: bool, seen: &mut Seen) {
         let verdict = hold_at_bound(&job, &mut lent, By { records: false, quick: true }, with_rust, seen);
         tell_at_bound(&job, &lent, verdict, seen);
         job.vertices[last..].iter_mut().for_each(|v| v[axis] = out);
-        seen.jobs += 1;
-        match seen.hold_off_grid(&job, &mut r) {
-            Ok(()) => println!("{:?} | 131072, the last one float off | 10", job.grid.count),
-            Err(words) => {
-                seen.differences += 1;
-                println!("{:?} | 131072, the last one float off | {words}", job.grid.count);
-            }
-        }
+        tell_refused(&job, 10, "131072, the last one float off", seen, &mut r);
     }
+}
+
+fn tell_refused(job: &Job, number: u32, what: &str, seen: &mut Seen, r: &mut Random) {
+    seen.jobs += 1;
+    let words = match seen.hold_unchanged(job, number, &job.grid, r) {
+        Ok(()) => number.to_string(),
+        Err(words) => {
+            seen.differences += 1;
+            words
+        }
+    };
+    println!("{:?} | {what} | {words}", job.grid.count);
+}
+
+/// A strip of as many triangles as there may be: its list is done, and it is refused by 13. So are a strip of one more, which as a list
+/// would be refused by 3, one with an index beyond the vertices, and one of as many vertices as there may be and no indices; with one
+/// vertex more it is 2.
+fn strips_at_bounds(with_rust: bool, seen: &mut Seen) {
+    let mut r = Random::new(5, 0);
+    let grid = meshes::grid([6, 5, 4], &mut r);
+    let mut lent = Lent::fitting(&grid, 4_096);
+    let mut job = meshes::walk(grid, 131_072, &mut r);
+    seen.jobs += 1;
+    let verdict = hold_at_bound(&job, &mut lent, By { records: true, quick: true }, with_rust, seen);
+    tell_at_bound(&as_list(&job), &lent, verdict, seen);
+    tell_refused(&job, 13, "131072 of a strip", seen, &mut r);
+    let [first, second] = [job.vertices[0], job.vertices[1]];
+    let corners: Vec<u32> = (0..job.vertices.len() as u32).chain([0]).collect();
+    job.indices = Some(corners);
+    tell_refused(&as_list(&job), 3, "131073", seen, &mut r);
+    tell_refused(&job, 13, "131073 of a strip", seen, &mut r);
+    job.indices.as_mut().expect("indices")[7] = u32::MAX;
+    tell_refused(&job, 13, "131073 of a strip, an index beyond the vertices", seen, &mut r);
+    job.indices = None;
+    job.vertices.resize(393_216, first);
+    tell_refused(&job, 13, "393214 of a strip without indices", seen, &mut r);
+    job.vertices.push(second);
+    tell_refused(&job, 2, "393215 of a strip without indices", seen, &mut r);
 }

@@ -1,5 +1,6 @@
 //! Large jobs of every kind that a tank's scan may be: closed, noisy, open, without order, degenerate. None has a triangle off the
-//! grid (document 02, §6), but for the ladder that `with_ladder` puts into one.
+//! grid (document 02, §6), but for the ladder that `with_ladder` puts into one. Those of the kind `strip` are strips, which the Rust is
+//! given; the library is given the list of their triangles (§7).
 
 use crate::random::Random;
 use crate::shapes::{self, Mesh};
@@ -97,6 +98,14 @@ pub fn with_ladder(job: &Job, r: &mut Random) -> Job {
         None => drop(job.vertices.splice(at..at, corners)),
     }
     job
+}
+
+/// A strip of exactly so many triangles, without indices.
+pub fn walk(grid: Grid, triangles: u32, r: &mut Random) -> Job {
+    let Mesh { vertices, triangles } = strip(&grid, triangles, r);
+    let mut vertices: Vec<[f32; 3]> = vertices.iter().map(|v| place(&grid, *v)).collect();
+    bring_to_box(&grid, &mut vertices, &triangles);
+    lifted(grid, Topology::Strip, vertices, None)
 }
 
 /// A job of a mesh in cell units, with its triangles in order and indices.

@@ -39,12 +39,13 @@ pub fn alone(job: &Job, lent: &mut Lent, by: By) -> Held {
 
 /// The job with no bound on room and pops, the port's against the Rust's: every cell's bits, the pops and, if asked
 /// for, the crossing counts, which the Rust works out again for it. What the Rust has no word for is held to the
-/// field: the names, the rows and the queue.
-pub fn hold(job: &Job, lent: &mut Lent, by: By, with_crossings: bool) -> Result<Held, String> {
+/// field: the names, the rows and the queue. The Rust is given the original: the job itself, or the strip whose triangles the
+/// job lists.
+pub fn hold(job: &Job, original: &Job, lent: &mut Lent, by: By, with_crossings: bool) -> Result<Held, String> {
     let mut held = alone(job, lent, by);
     let answer = held.answer;
     let begin = Instant::now();
-    let rust = run(job);
+    let rust = run(original);
     held.theirs = begin.elapsed().as_secs_f64();
     let rust = match (answer.number, rust) {
         (0, Ok(rust)) => rust,
@@ -61,7 +62,7 @@ pub fn hold(job: &Job, lent: &mut Lent, by: By, with_crossings: bool) -> Result<
         }
     }
     if with_crossings {
-        let counts = crossings(job)?;
+        let counts = crossings(original)?;
         if let Some(at) = (0..lent.crossings.len()).find(|&i| lent.crossings[i] != counts.as_flattened()[i]) {
             let (ours, theirs) = (lent.crossings[at], counts.as_flattened()[at]);
             return Err(format!("crossing {} of cell {}: {ours}, and the Rust's is {theirs}", at % 3, at / 3));

@@ -1,10 +1,10 @@
-//! "Bounds on a job" and, in the order of "Reply numbers", what is checked before the run: 1 to 4, then 10, which document 02
-//! puts before 5.
+//! "Bounds on a job" and, in the order of "Reply numbers", what is checked before the run: 1 to 4, with 13 of document 02 between 2
+//! and 3; then 10, which document 02 puts before 5.
 
 use crate::geometry::Point;
 use crate::grid::{Grid, AXES};
 use crate::topology::Topology;
-use crate::{topology, Job, Refusal, Requests};
+use crate::{topology, Job, Refusal};
 
 const MOST_OF_ONE_COUNT: u32 = 1_024;
 const MOST_CELLS: u128 = 1_048_576;
@@ -14,15 +14,15 @@ const LARGEST_SIZE: f32 = 1_024.0;
 const MOST_VERTICES: usize = 393_216;
 const MOST_TRIANGLES: usize = 131_072;
 
-pub fn check(job: &Job, requests: Requests) -> Result<(), Refusal> {
+pub fn check(job: &Job) -> Result<(), Refusal> {
     if !grid_in_bounds(job) {
         return Err(1);
     }
     if job.vertices.len() > MOST_VERTICES || !job.vertices.iter().flatten().all(|&x| coordinate_in_bounds(x)) {
         return Err(2);
     }
-    // §7: strips are withdrawn.
-    if requests.has(7) && job.topology == Topology::Strip {
+    // Document 02, §7: strips are withdrawn, whether or not they have indices or a triangle.
+    if job.topology == Topology::Strip {
         return Err(13);
     }
     let triangles = topology::triangles(job);

@@ -2,21 +2,19 @@
 //! each section of document 01:
 //!
 //!   text.rs       One job, one listing
-//!   bounds.rs     Bounds on a job; Reply numbers 1 to 4, and 10 of document 02
+//!   convert.rs    The converter of old jobs, of document 02, §7
+//!   bounds.rs     Bounds on a job; Reply numbers 1 to 4, and 13 and 10 of document 02
 //!   grid.rs       Grid
 //!   geometry.rs   Geometry, and the steps on points of "What is carried over"
 //!   order.rs      Order of two distances
 //!   topology.rs   Topology
 //!   run.rs        The run; Reply numbers 6 to 8
 //!
-//! The requests of document 02 come in one by one. One that is written here before it lands is an option that is off
-//! (`KNOWN`), so that what its landing changes in the answers can be told before, and is the request's alone. Once it has landed
-//! the option goes, and it stands where document 01 stood.
-//!
 //! Nothing here is meant to be fast. Every f32 operation below is one of IEEE 754 binary32, rounded once: that is
 //! what Rust gives. Reply number 5 speaks of lent buffers; a job's text lends none, so it cannot occur.
 
 pub mod bounds;
+pub mod convert;
 pub mod geometry;
 pub mod grid;
 pub mod order;
@@ -39,24 +37,6 @@ pub struct Job {
     pub queue: u32,
     /// Pop limit: how many entries may be taken.
     pub pops: u32,
-}
-
-/// Which requests of document 02 are in force beyond those that have landed, by their numbers.
-#[derive(Clone, Copy)]
-pub struct Requests(u32);
-
-/// No others than those that have landed.
-pub const LANDED: Requests = Requests(0);
-/// Those that the model knows.
-pub const KNOWN: [u32; 1] = [7];
-
-impl Requests {
-    pub fn with(self, number: u32) -> Requests {
-        Requests(self.0 | 1 << number)
-    }
-    pub fn has(self, number: u32) -> bool {
-        self.0 >> number & 1 == 1
-    }
 }
 
 /// The number of a refusal: 1 to 9 of document 01, and from 10 on those of document 02.
@@ -82,11 +62,6 @@ pub struct Done {
 
 /// The answer to a job: the first number that applies, or Done.
 pub fn answer(job: &Job) -> Result<Done, Refusal> {
-    answer_with(job, LANDED)
-}
-
-/// The same with more requests in force.
-pub fn answer_with(job: &Job, requests: Requests) -> Result<Done, Refusal> {
-    bounds::check(job, requests)?;
+    bounds::check(job)?;
     run::run(job)
 }

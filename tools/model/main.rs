@@ -1,20 +1,25 @@
-//! model [--batch] [--large] [--crossings] [--request N]..: reads a job from standard input and prints the listing that
-//! document 01 owes it. --large lifts the job program's own limits. --crossings adds a line `crossing=INDEX X Y Z` for each
-//! cell. --request N answers as if request §N of document 02 had landed too. With --batch the input is a stream of jobs as
-//! tools/jobs prints it, and so is the output.
+//! model [--batch] [--large] [--crossings]: reads a job from standard input and prints the listing that document 01 owes it.
+//! --large lifts the job program's own limits. --crossings adds a line `crossing=INDEX X Y Z` for each cell.
+//! model --convert [--batch] [--large]: prints what the converter of document 02, §7, owes the text instead; --large lifts the old
+//! limits.
+//! With --batch the input is a stream of jobs as tools/jobs prints it, and so is the output.
 
 use std::io::{BufRead, Read, Write};
 
 fn main() {
     let has = |name: &str| std::env::args().skip(1).any(|arg| arg == name);
-    let (large, crossings) = (has("--large"), has("--crossings"));
-    let requests = requests();
+    let (large, crossings, convert) = (has("--large"), has("--crossings"), has("--convert"));
+    let owed = |text: &[u8]| match convert {
+        true if large => model::convert::convert_any(text),
+        true => model::convert::convert(text),
+        false => model::text::listing(text, large, crossings).into_bytes(),
+    };
     let mut input = std::io::stdin().lock();
     let mut output = std::io::stdout().lock();
     if !has("--batch") {
         let mut job = Vec::new();
         input.read_to_end(&mut job).expect("standard input");
-        output.write_all(model::text::listing(&job, large, crossings, requests).as_bytes()).expect("standard output");
+        output.write_all(&owed(&job)).expect("standard output");
         return;
     }
     let mut header = String::new();
@@ -22,21 +27,9 @@ fn main() {
         let (name, bytes) = header.trim_end().rsplit_once(' ').expect("job=INDEX KIND BYTES");
         let mut job = vec![0; bytes.parse().expect("a number of bytes")];
         input.read_exact(&mut job).expect("the job's bytes");
-        let listing = model::text::listing(&job, large, crossings, requests);
-        write!(output, "{name} {}\n{listing}", listing.len()).expect("standard output");
+        let owed = owed(&job);
+        writeln!(output, "{name} {}", owed.len()).expect("standard output");
+        output.write_all(&owed).expect("standard output");
         header.clear();
     }
-}
-
-/// Those that have landed, and those that are asked for.
-fn requests() -> model::Requests {
-    let words: Vec<String> = std::env::args().collect();
-    let asked = words.windows(2).filter(|pair| pair[0] == "--request");
-    asked.fold(model::LANDED, |requests, pair| match pair[1].parse() {
-        Ok(number) if model::KNOWN.contains(&number) => requests.with(number),
-        _ => {
-            eprintln!("model: knows no request {}; it knows {:?}", pair[1], model::KNOWN);
-            std::process::exit(2);
-        }
-    })
 }

@@ -4,16 +4,16 @@
 use crate::geometry::Point;
 use crate::grid::Grid;
 use crate::topology::Topology;
-use crate::{answer_with, bounds, Job, Requests};
+use crate::{answer, bounds, Job};
 use std::fmt::Write;
 
 /// The job program: the listing for a text. `large` lifts its own limits.
-pub fn listing(text: &[u8], large: bool, crossings: bool, requests: Requests) -> String {
+pub fn listing(text: &[u8], large: bool, crossings: bool) -> String {
     let job = match read(text) {
         Some(job) if large || within_limits(&job) => job,
         _ => return "answer=9\n".to_string(),
     };
-    let done = match answer_with(&job, requests) {
+    let done = match answer(&job) {
         Ok(done) => done,
         Err(number) => return format!("answer={number}\n"),
     };
@@ -33,10 +33,19 @@ pub fn listing(text: &[u8], large: bool, crossings: bool, requests: Requests) ->
     out
 }
 
-/// Its own limits: 256 vertices, 768 indices, 512 cells, 2,048 entries.
+/// Its own limits: 256 vertices, 512 cells, 2,048 entries, and of indices 2,298 for a list and 768 for a strip (document 02, §7).
 pub fn within_limits(job: &Job) -> bool {
+    let most = match job.topology {
+        Topology::List => 2_298,
+        Topology::Strip => 768,
+    };
+    within(job, most)
+}
+
+/// The same with so many indices at most.
+pub fn within(job: &Job, most_indices: usize) -> bool {
     job.vertices.len() <= 256
-        && job.indices.as_ref().is_none_or(|indices| indices.len() <= 768)
+        && job.indices.as_ref().is_none_or(|indices| indices.len() <= most_indices)
         && bounds::cells(job.grid.count) <= 512
         && job.queue <= 2_048
 }
