@@ -25,6 +25,8 @@ use Rattle.grid.specs.declared.SnapResult.the-variants.{Inside, Outside}
 use Rattle.grid.specs.Reply.{Reply, refused, given}
 use Rattle.terms.specs.declared.Pass.{Pass}
 use Rattle.terms.specs.declared.Pass.the-variants.{Plain, Quick}
+use Rattle.terms.specs.declared.SignMethod.{SignMethod}
+use Rattle.terms.specs.declared.SignMethod.the-variants.{Raycast, Normal}
 use Rattle.terms.specs.declared.Terms.{Terms}
 use Rattle.geo_box.specs.declared.TriangleBox.{TriangleBox}
 use Rattle.geo_ray.specs.declared.RayHit.{RayHit}
@@ -85,8 +87,12 @@ gridOut g = record {
 abbrev pub passIn : ℕ → Pass
 passIn n = if eqb n 0 then Plain else Quick
 
+-- 0 is Raycast, and any other number Normal
+abbrev pub signIn : ℕ → SignMethod
+signIn n = if eqb n 0 then Raycast else Normal
+
 abbrev pub termsIn : SdfTerms → Terms
-termsIn t = record { limit = t .limit; pass = passIn (t .pass) }
+termsIn t = record { limit = t .limit; pass = passIn (t .pass); sign = signIn (t .sign) }
 
 -- 0 is x, 1 is y, and any other number z
 abbrev pub axisIn : ℕ → Axis

@@ -7,6 +7,7 @@ use grid::Grid;
 use point::Axis;
 use point::Point;
 use terms::Pass;
+use terms::SignMethod;
 use terms::Terms;
 ghost use mathlib.Core.Path.{_≡_};
 ghost use Rattle.c_records.specs.C as C;
@@ -33,11 +34,12 @@ pub struct SdfGrid {
     pub count: SdfCell,
 }
 
-// What a job is asked for by value, beside the grid and the mesh. `pass` is 0 for the plain pass.
+// What a job is asked for by value, beside the grid and the mesh. `pass` is 0 for the plain pass, `sign` 0 for Raycast.
 #[repr(C)]
 pub struct SdfTerms {
     pub limit: u32,
     pub pass: u32,
+    pub sign: u32,
 }
 
 #[repr(C)]
@@ -169,6 +171,7 @@ impl SdfTerms {
         Terms {
             limit: self.limit,
             pass: pass_in(self.pass),
+            sign: sign_in(self.sign),
         }
     }
 }
@@ -180,6 +183,15 @@ pub fn pass_in(pass: u32) -> Pass
         return Pass::Plain;
     }
     Pass::Quick
+}
+
+pub fn sign_in(sign: u32) -> SignMethod
+    ensures { λ r. ⌜ r ≡ C.signIn sign ⌝ }
+{
+    if sign == 0 {
+        return SignMethod::Raycast;
+    }
+    SignMethod::Normal
 }
 
 pub fn axis_in(axis: u32) -> Axis

@@ -9,6 +9,7 @@ use lib.Ieee.{binary32, ofBits}
 use Rattle.mesh_topology.specs.declared.Topology.{Topology}
 use Rattle.mesh_topology.specs.declared.Topology.the-variants.{TriangleList, TriangleStrip}
 use Rattle.mesh_topology.specs.Topology.{trianglesOf}
+use Rattle.terms.specs.declared.SignMethod.{SignMethod}
 use Rattle.grid.specs.declared.Grid.{Grid}
 use Rattle.mesh.specs.Mesh.{Mesh, vertexCount, trianglesIn}
 use Rattle.run.proofs.SameMesh.{SameMesh}
@@ -40,16 +41,16 @@ triangles-asked j = ap (trianglesOf (j .head .topology) (givenOf (j .indices)) (
 
 -- ---- the outcome
 
--- of two jobs with one grid and limit whose meshes are the same, the second a list
-pub outcome-as-before : (g : Grid) (limit : ℕ) {m n : Mesh}
+-- of two jobs with one grid, method and limit whose meshes are the same, the second a list
+pub outcome-as-before : (g : Grid) (sign : SignMethod) (limit : ℕ) {m n : Mesh}
     → SameMesh m n
     → n .topology ≡ TriangleList
     → (b : Lent)
-    → outcome (jobWith g limit n) b ≡ oldOutcome (jobWith g limit m) b
+    → outcome (jobWith g sign limit n) b ≡ oldOutcome (jobWith g sign limit m) b
 unfolding outcome oldOutcome
-outcome-as-before g limit {m} {n} same list b =
+outcome-as-before g sign limit {m} {n} same list b =
     let refused = refused-as-before g same (lengthsOf b) list in
-    let ends = sym (ended-same g limit same b (runOf (jobWith g limit n) b)) ∙ ap (ended (jobWith g limit m) b) (sym (run-same g limit same b)) in
+    let ends = sym (ended-same g sign limit same b (runOf (jobWith g sign limit n) b)) ∙ ap (ended (jobWith g sign limit m) b) (sym (run-same g sign limit same b)) in
     λ i. unlessRefused (refused i) b (ends i)
 
 same-mesh : (j : TextJob) → SameMesh (askedJob j .mesh) (askedJob (converted j) .mesh)
@@ -64,9 +65,10 @@ same-mesh j =
     same-vertices TriangleList = refl
     same-vertices TriangleStrip = refl
 
--- a conversion has the same grid, limit and buffers
+-- a conversion has the same grid, method, limit and buffers
 pub record Kept (j k : TextJob) : Type 0 where
   pub grid : askedJob k .grid ≡ askedJob j .grid
+  pub sign : askedJob k .sign ≡ askedJob j .sign
   pub limit : askedJob k .limit ≡ askedJob j .limit
   pub lent : lentFor (k .head) (k .tail) ≡ lentFor (j .head) (j .tail)
 
@@ -75,16 +77,16 @@ unfolding convertedBy
 kept j = by (j .head .topology)
   where
     by : (t : Topology) → Kept j (convertedBy t j)
-    by TriangleList = record { grid = refl; limit = refl; lent = refl }
-    by TriangleStrip = record { grid = refl; limit = refl; lent = refl }
+    by TriangleList = record { grid = refl; sign = refl; limit = refl; lent = refl }
+    by TriangleStrip = record { grid = refl; sign = refl; limit = refl; lent = refl }
 
 -- "so that the field is what the strip gave": number, pops, peak, grazed rays and every buffer
 pub as-before : (j : TextJob) (b : Lent) → outcome (askedJob (converted j)) b ≡ oldOutcome (askedJob j) b
 as-before j b =
     let m = askedJob (converted j) .mesh in
     let k = kept j in
-    (λ i. outcome (jobWith (k .grid i) (k .limit i) m) b)
-    ∙ outcome-as-before (askedJob j .grid) (askedJob j .limit) (same-mesh j) (list-of j) b
+    (λ i. outcome (jobWith (k .grid i) (k .sign i) (k .limit i) m) b)
+    ∙ outcome-as-before (askedJob j .grid) (askedJob j .sign) (askedJob j .limit) (same-mesh j) (list-of j) b
 
 -- ---- the two programs, one after the other
 

@@ -5,6 +5,7 @@ use mathlib.Core.Path.{_≡_, refl, sym, ap, _∙_}
 use mathlib.Core.List.{List, map}
 use lib.ListN.{length, length-map}
 use lib.Ieee.{Float}
+use Rattle.terms.specs.declared.SignMethod.{SignMethod}
 use Rattle.grid.specs.declared.Grid.{Grid}
 use Rattle.grid.specs.Index.{total}
 use Rattle.mesh.specs.Mesh.{Mesh}
@@ -34,9 +35,9 @@ use Rattle.job_outcome.proofs.Outcomes.{gives, gives-refused, gives-done, gives
 use Rattle.job_generate.proofs.Jobs.{gives-unchanged, gives-outcome}
 use Rattle.entries_generate.specs.LentRow.{lentRow}
 
-module _ (g : Grid) (m : Mesh) (limit : ℕ) (field : List Float) (names crossings rows : List ℕ) (queue : List Entry) where
+module _ (g : Grid) (m : Mesh) (sign : SignMethod) (limit : ℕ) (field : List Float) (names crossings rows : List ℕ) (queue : List Entry) where
   abbrev job : Job
-  job = record { grid = g; mesh = m; limit = limit }
+  job = record { grid = g; mesh = m; sign = sign; limit = limit }
 
   abbrev lent : Lent
   lent = lentRow field names crossings rows queue
@@ -111,11 +112,11 @@ module _ (g : Grid) (m : Mesh) (limit : ℕ) (field : List Float) (names crossin
             done-with y =
                 gives-outcome job lent none-refused
                 (gives-run job (lentRow field₂ names₂ crossings rows queue₂) lent long-as went
-                (gives-done g m limit field₂ names₂ crossings rows (rowDistances queue₂) (rowCells queue₂) (rowTriangles queue₂) ran c y (run-over (length queue₁) limit w)))
+                (gives-done g m sign limit field₂ names₂ crossings rows (rowDistances queue₂) (rowCells queue₂) (rowTriangles queue₂) ran c y (run-over (length queue₁) limit w)))
 
             -- or the row is cleared
             pub cleared-after : (ran .number ≡ 0 → ⊥) → (queue₃ : List Entry) → ClearedRow queue₂ queue₃ → Gives (outcome job lent) answer (lentRow field₃ names₃ crossings₃ rows₃ queue₃)
             cleared-after y queue₃ q =
                 gives-outcome job lent none-refused
                 (gives-run job (lentRow field₂ names₂ crossings rows queue₂) lent long-as went
-                (gives-refused g m limit field₂ names₂ crossings rows (rowDistances queue₂) (rowCells queue₂) (rowTriangles queue₂) ran c y q))
+                (gives-refused g m sign limit field₂ names₂ crossings rows (rowDistances queue₂) (rowCells queue₂) (rowTriangles queue₂) ran c y q))

@@ -6,6 +6,7 @@ use mathlib.Core.List.{List}
 use lib.ListN.{length, length-map}
 use lib.Ieee.{Float}
 use Rattle.terms.specs.declared.Pass.{Pass}
+use Rattle.terms.specs.declared.SignMethod.{SignMethod}
 use Rattle.mesh_topology.specs.declared.Topology.{Topology}
 use Rattle.mesh_topology.specs.declared.Indices.{Indices}
 use Rattle.grid.specs.declared.Grid.{Grid}
@@ -96,9 +97,9 @@ one-outcome-row field field′ names names′ crossings crossings′ rows rows�
 -- ---- "Neither answer nor buffers may show which was picked" (document 02, §4)
 
 -- a job has no pass, so that two calls which differ in the pass alone ask for one job: over three buffers, and over a row of records
-pub pass-not-shown : (g : Grid) (vertices : List Float) (topology : Topology) (given : Indices) (indices : List ℕ) (limit : ℕ) (p q : Pass) (b : Lent)
+pub pass-not-shown : (g : Grid) (vertices : List Float) (topology : Topology) (given : Indices) (indices : List ℕ) (limit : ℕ) (p q : Pass) (sign : SignMethod) (b : Lent)
     {answer answer′ : Answer} {left left′ : Lent}
-    → Gives (outcome (jobOf g vertices topology given indices (record { limit = limit; pass = p })) b) answer left
-    → Gives (outcome (jobOf g vertices topology given indices (record { limit = limit; pass = q })) b) answer′ left′
+    → Gives (outcome (jobOf g vertices topology given indices (record { limit = limit; pass = p; sign = sign })) b) answer left
+    → Gives (outcome (jobOf g vertices topology given indices (record { limit = limit; pass = q; sign = sign })) b) answer′ left′
     → (answer ≡ answer′) × (left ≡ left′)
-pass-not-shown g vertices topology given indices limit p q b = one-outcome
+pass-not-shown g vertices topology given indices limit p q sign b = one-outcome

@@ -5,18 +5,20 @@ use lib.Ieee.{Float}
 use Rattle.grid.specs.declared.Grid.{Grid}
 use Rattle.mesh_topology.specs.declared.Topology.{Topology}
 use Rattle.mesh_topology.specs.declared.Indices.{Indices}
+use Rattle.terms.specs.declared.SignMethod.{SignMethod}
 use Rattle.terms.specs.declared.Terms.{Terms}
 use Rattle.mesh.specs.Mesh.{Mesh, meshOf}
 
 pub record Job : Type 0 where
   pub grid : Grid
   pub mesh : Mesh
-  -- the pop limit
+  -- the method of the signs, and the pop limit
+  pub sign : SignMethod
   pub limit : ℕ
 
--- of the terms the limit alone: no job has a pass, so what a call promises of its answer and its buffers cannot show one
+-- of the terms the method and the limit: no job has a pass, so what a call promises of its answer and its buffers cannot show one
 abbrev pub jobOf : Grid → List Float → Topology → Indices → List ℕ → Terms → Job
-jobOf grid vertices topology given indices terms = record { grid = grid; mesh = meshOf vertices topology given indices; limit = terms .limit }
+jobOf grid vertices topology given indices terms = record { grid = grid; mesh = meshOf vertices topology given indices; sign = terms .sign; limit = terms .limit }
 
 -- the lent buffers: the field, the names, the crossings, the rows, and the queue's distances, cells and triangles
 pub record Lent : Type 0 where

@@ -3,6 +3,7 @@ use Prim.Native.Nat.{ℕ}
 use mathlib.Core.Path.{_≡_, refl, ap}
 use lib.ListN.{length}
 use Rattle.lists.specs.Turns.{Turn, goes, refuses}
+use Rattle.terms.specs.declared.SignMethod.{SignMethod}
 use Rattle.grid.specs.declared.Grid.{Grid}
 use Rattle.mesh.specs.Mesh.{Mesh}
 use Rattle.run.specs.Run.{State, run}
@@ -13,14 +14,14 @@ use Rattle.job_clear.specs.Cleared.{zeros}
 use Rattle.job_outcome.specs.declared.Answer.the-variants.{Done}
 use Rattle.job_outcome.specs.Outcome.{ended, runOf}
 
-abbrev pub jobWith : Grid → ℕ → Mesh → Job
-jobWith g limit m = record { grid = g; mesh = m; limit = limit }
+abbrev pub jobWith : Grid → SignMethod → ℕ → Mesh → Job
+jobWith g sign limit m = record { grid = g; mesh = m; sign = sign; limit = limit }
 
-module _ (g : Grid) (limit : ℕ) {m n : Mesh} (same : SameMesh m n) (b : Lent) where
-  pub run-same : runOf (jobWith g limit m) b ≡ runOf (jobWith g limit n) b
+module _ (g : Grid) (sign : SignMethod) (limit : ℕ) {m n : Mesh} (same : SameMesh m n) (b : Lent) where
+  pub run-same : runOf (jobWith g sign limit m) b ≡ runOf (jobWith g sign limit n) b
   run-same = ap run (input-same g same (length (b .distances)) limit)
 
-  pub ended-same : (o : Turn State) → ended (jobWith g limit m) b o ≡ ended (jobWith g limit n) b o
+  pub ended-same : (o : Turn State) → ended (jobWith g sign limit m) b o ≡ ended (jobWith g sign limit n) b o
   unfolding ended
   ended-same (goes s) =
       let field = signed-same g same (s .field) in

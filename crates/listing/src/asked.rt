@@ -3,6 +3,7 @@ use float_bits::float_of;
 use grid::Grid;
 use point::Point;
 use terms::Pass;
+use terms::SignMethod;
 use terms::Terms;
 use text::Head;
 use text::MOST_CELLS;
@@ -75,5 +76,6 @@ pub fn terms_of(tail: Tail, pass: Pass) -> Terms
     Terms {
         limit: tail.limit,
         pass,
+        sign: SignMethod::Raycast,
     }
 }

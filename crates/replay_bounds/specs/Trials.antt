@@ -4,6 +4,7 @@ use lib.ListN.{replicate, take}
 use Rattle.float.specs.Arith.{f0, f1}
 use Rattle.grid.specs.declared.Grid.{Grid}
 use Rattle.terms.specs.declared.Pass.the-variants.{Quick}
+use Rattle.terms.specs.declared.SignMethod.the-variants.{Raycast}
 use Rattle.terms.specs.declared.Terms.{Terms}
 use Rattle.job_checks.specs.Job.{Lent, lentOf}
 
@@ -25,4 +26,4 @@ lentLong field names crossings rows distances cells triangles =
     (take distances (replicate 5 0)) (take cells (replicate 5 0)) (take triangles (replicate 5 0))
 
 abbrev pub onePop : Terms
-onePop = record { limit = 1; pass = Quick }
+onePop = record { limit = 1; pass = Quick; sign = Raycast }

@@ -4,6 +4,7 @@ use sdf::Answer;
 use sdf::Grid;
 use sdf::Indices;
 use sdf::Pass;
+use sdf::SignMethod;
 use sdf::Point;
 use sdf::Terms;
 use sdf::Topology;
@@ -87,6 +88,7 @@ pub fn asked(
         Terms {
             limit: 1,
             pass: Pass::Quick,
+            sign: SignMethod::Raycast,
         },
     );
     number_of(answer)

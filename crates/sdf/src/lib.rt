@@ -49,6 +49,7 @@ pub use mesh_topology::Indices;
 pub use mesh_topology::Topology;
 pub use queue::Entry;
 pub use terms::Pass;
+pub use terms::SignMethod;
 pub use terms::Terms;
 
 // ---- a scanner's file

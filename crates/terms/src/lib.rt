@@ -1,5 +1,5 @@
 // The terms of a job: what its caller says by value beside the grid and the mesh (document 01, "Bounds on a job"; document
-// 02, §4). They are handed on whole, as the grid is, from the call to the step that asks for one of them, so that a further
+// 02, §4 and §8). They are handed on whole, as the grid is, from the call to the step that asks for one of them, so that a further
 // one moves no signature and no walk. A part of the port: users call `sdf`.
 
 // How the crossings are counted. The plain pass adds one to every cell that a hit reaches. The quick pass marks the last of
@@ -9,8 +9,16 @@ pub enum Pass {
     Quick,
 }
 
-// The pop limit: how many entries may be taken. And the pass, which no answer and no buffer shows.
+// How a cell gets its sign. Raycast: by how often rays along the axes cross the mesh, for a closed hull. Normal: by the side
+// of the nearest triangle that it lies on, for a mesh with no closed hull, such as a floating deck scanned from above.
+pub enum SignMethod {
+    Raycast,
+    Normal,
+}
+
+// The pop limit: how many entries may be taken. The pass, which no answer and no buffer shows. And the method of the signs.
 pub struct Terms {
     pub limit: u32,
     pub pass: Pass,
+    pub sign: SignMethod,
 }
