@@ -7,3 +7,7 @@ pub mod Patterns
 pub mod Total
 pub mod Laws
 pub mod Edges
+pub mod Tested
+pub mod Nearer
+pub mod Height
+pub mod Keys

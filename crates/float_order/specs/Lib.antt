@@ -1,3 +1,4 @@
 pub mod Compare
 pub mod Asked
 pub mod Total
+pub mod Nearer

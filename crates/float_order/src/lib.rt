@@ -1,4 +1,5 @@
-// The order of two distances, `compare_distances` of document 004. A part of the public face `sdf`.
+// The order of two distances, `compare_distances` of document 004, and what the run asks of it: which of two is nearer, and
+// the key by which the queue orders. A part of the public face `sdf`.
 //
 // A magnitude is carried here as its bit pattern: without a sign bit patterns are ordered as the
 // numbers that they stand for, infinity's being the largest, so one comparison of whole numbers
@@ -9,6 +10,7 @@ ghost use Prim.Native.Nat.{_≤_};
 ghost use lib.Dec.{T};
 ghost use lib.Ieee.{binary32, isNan, ofBits};
 ghost use Rattle.float_order.specs.Compare as Compare;
+ghost use Rattle.float_order.specs.Nearer as Nearer;
 ghost use Rattle.float_order.specs.Asked.{Compared};
 
 // The sign bit of a pattern.
@@ -68,6 +70,29 @@ pub fn compare_distances(a: f32, b: f32) -> Order
     }
     let far = beyond(q, p - SIGN);
     if far { Order::Less } else { Order::Greater }
+}
+
+// Whether a is nearer than b. A NaN is nearer than nothing, and nothing than a NaN.
+pub fn is_nearer(a: f32, b: f32) -> bool
+    ensures { λ r. ⌜ r ≡ Nearer.nearer a b ⌝ }
+{
+    if (a != a) | (b != b) {
+        return false;
+    }
+    match compare_distances(a, b) {
+        Order::Less => true,
+        Order::Equal => false,
+        Order::Greater => false,
+    }
+}
+
+// The key of a distance, by which the queue orders: its magnitude's bit pattern, and behind it the sign bit.
+pub fn key_of(d: f32) -> u32
+    requires { ⌜ T (not (isNan d)) ⌝ }
+    ensures { λ r. ⌜ r ≡ Nearer.keyOf d ⌝ }
+{
+    let b = f32::to_bits(d);
+    b % SIGN * 2 + b / SIGN
 }
 
 // The comparison asked by itself: it refuses a NaN, where the Rust panics or goes by the NaN's bits.

@@ -1,15 +1,22 @@
--- When a squared length shows that its root is not below a distance, with no root worked out. Definitions only.
+-- The distance that a signed square stands for, and when the square shows that this distance is not nearer than another, with no root worked
+-- out. Definitions only.
 use mathlib.Core.Path.{_≡_}
-use mathlib.Core.Bool.{Bool, true, false}
-use lib.Ieee.{Float, binary64, mul, le}
-use Rattle.float.specs.Arith.{_≺_}
+use mathlib.Core.Bool.{Bool, true, false, not, _&&_, _||_}
+use lib.Ieee.{Float, binary64, neg, mul, le}
+use Rattle.float.specs.Arith.{if_then_else_}
 use Rattle.float.specs.RootOf.{rootOf}
+use Rattle.float.specs.Steps.{absOf, signBit}
+use Rattle.float_order.specs.Nearer.{nearer}
 
--- q is at least the square of h, worked out exactly: as a binary64 the square of a binary32 is not rounded (`square`, crates/float/proofs/NotBelow.antt)
+-- the root of the magnitude, with the sign of q
+unfoldable pub signedRoot : Float → Float
+signedRoot q = if signBit q then neg (rootOf (absOf q)) else rootOf (absOf q)
+
+-- q is in magnitude at least the square of h, worked out exactly: as a binary64 the square of a binary32 is not rounded (`square`, crates/float/proofs/NotBelow.antt)
 abbrev pub atLeastSquare : Float → Float → Bool
-atLeastSquare q h = le (mul binary64 h h) q
+atLeastSquare q h = le (mul binary64 h h) (absOf q)
 
--- what `root_not_below` ensures: its answer is that test, and where the test holds the rounded root of q is not below h
+-- what `not_nearer` ensures: its answer is that test, but for a positive q where h is negative, and where it holds the signed root of q is not nearer than h
 pub record Shown (q h : Float) (r : Bool) : Type 0 where
-  pub is : r ≡ atLeastSquare q h
-  pub not-below : r ≡ true → (rootOf q ≺ h) ≡ false
+  pub is : r ≡ atLeastSquare q h && (signBit q || not (signBit h))
+  pub not-nearer : r ≡ true → nearer (signedRoot q) h ≡ false

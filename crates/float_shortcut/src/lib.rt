@@ -1,12 +1,26 @@
-// Most offers of a triangle to a cell are no nearer than what the cell holds. Where the squared length
-// already shows that, no root is worked out. A part of the port: users call `sdf`.
-ghost use Rattle.float_shortcut.specs.Shown.{Shown};
+// A triangle is offered to a cell by its signed square: the squared distance, negated where the cell lies behind the triangle.
+// Here is the distance that it stands for; and most offers are no nearer than what the cell holds: where the square already
+// shows that, no root is worked out. A part of the port: users call `sdf`.
+ghost use mathlib.Core.Path.{_≡_};
+ghost use Rattle.float_shortcut.specs.Shown.{signedRoot, Shown};
 
-// Whether q is at least the square of h: then the root of q is not below h. The square of an f32 is exact in an
-// f64. A NaN shows nothing.
-pub fn root_not_below(q: f32, h: f32) -> bool
+// The root of the magnitude, with the sign of q.
+pub fn signed_root(q: f32) -> f32
+    ensures { λ r. ⌜ r ≡ signedRoot q ⌝ }
+{
+    let root = float_root::sqrt(float::abs(q));
+    if float::sign_bit(q) { -root } else { root }
+}
+
+// Whether q shows that its signed root is not nearer than h: it is at least the square of h in magnitude, and no positive
+// value that meets a negative one, before which it may go all the same. The square of an f32 is exact in an f64. A NaN
+// shows nothing.
+pub fn not_nearer(q: f32, h: f32) -> bool
     ensures { λ r. ⌜ Shown q h r ⌝ }
 {
     let wide = std::num::f32_to_f64_with_nan(h);
-    wide * wide <= std::num::f32_to_f64_with_nan(q)
+    if wide * wide <= std::num::f32_to_f64_with_nan(float::abs(q)) {
+        return float::sign_bit(q) | !float::sign_bit(h);
+    }
+    false
 }

@@ -1,0 +1,2 @@
+-- Laws that the crate's proofs, and those of the crates above it, cite.
+pub mod Signed

@@ -1,0 +1,117 @@
+-- The signed root has the magnitude's root for its magnitude and the sign of the square, unless that is a NaN. So what is not below in magnitude
+-- is not nearer, but where a positive value meets a negative one. Assumes nothing.
+use mathlib.Core.Path.{_≡_, refl, sym, ap, ap₂, _∙_, subst}
+use mathlib.Core.Bool.{Bool, true, false, not, cond, true≢false, _&&_, _||_}
+use lib.Dec.{T, T-not}
+use lib.Ieee.{Float, nan, inf, fin, binary32, binary64, fits, isNan, neg, mul, le, lt, eq}
+use lib.Ieee.Bits.{is-false}
+use Rattle.float.specs.Arith.{_≺_}
+use Rattle.float.specs.Distance.{Distance}
+use Rattle.float.specs.RootOf.{rootOf}
+use Rattle.float.specs.Steps.{absOf, signBit}
+use Rattle.float.proofs.Order.{distance-no-nan}
+use Rattle.float.proofs.Magnitude.{abs-fits, abs-distance, abs-itself, own-magnitude, distance-sign}
+use Rattle.float.proofs.NotBelow.{not-below}
+use Rattle.float.proofs.Roots.{root-distance, root-fits}
+use Rattle.float_order.specs.Nearer.{nearer}
+use Rattle.float_order.proofs.Nearer.{not-nearer}
+use Prim.Native.Nat.{zero, suc}
+use Rattle.float_shortcut.specs.Shown.{signedRoot, atLeastSquare}
+
+-- ---- the sign taken away, and set
+
+neg-abs : (x : Float) → absOf (neg x) ≡ absOf x
+unfolding absOf neg
+neg-abs nan = refl
+neg-abs (inf s) = refl
+neg-abs (fin s m e) = refl
+
+neg-sign : (x : Float) → T (not (isNan x)) → signBit (neg x) ≡ not (signBit x)
+unfolding neg isNan
+neg-sign nan n = absurd n
+neg-sign (inf s) n = refl
+neg-sign (fin s m e) n = refl
+
+pub neg-nan : (x : Float) → isNan (neg x) ≡ isNan x
+unfolding neg isNan
+neg-nan nan = refl
+neg-nan (inf s) = refl
+neg-nan (fin s m e) = refl
+
+pub neg-fits : (x : Float) → T (fits binary32 x) → T (fits binary32 (neg x))
+unfolding neg fits
+neg-fits nan f = tt
+neg-fits (inf s) f = tt
+neg-fits (fin s zero e) f = f
+neg-fits (fin s (suc m) e) f = f
+
+-- ---- without a sign bit it is the root
+
+pub unsigned-root : (q : Float) → signBit q ≡ false → signedRoot q ≡ rootOf q
+unfolding signedRoot
+unsigned-root q s = rw s (ap rootOf (own-magnitude q s))
+
+-- ---- a number's signed root
+
+module _ (q : Float) (f : T (fits binary32 q)) (n : T (not (isNan q))) where
+  root : Distance (rootOf (absOf q))
+  root = root-distance (absOf q) (abs-distance q f n)
+
+  pub magnitude-is : absOf (signedRoot q) ≡ rootOf (absOf q)
+  unfolding signedRoot
+  magnitude-is = go (signBit q)
+    where
+      go : (s : Bool) → absOf (cond s (neg (rootOf (absOf q))) (rootOf (absOf q))) ≡ rootOf (absOf q)
+      go true = neg-abs (rootOf (absOf q)) ∙ abs-itself (rootOf (absOf q)) root
+      go false = abs-itself (rootOf (absOf q)) root
+
+  pub sign-is : signBit (signedRoot q) ≡ signBit q
+  unfolding signedRoot
+  sign-is = go (signBit q)
+    where
+      go : (s : Bool) → signBit (cond s (neg (rootOf (absOf q))) (rootOf (absOf q))) ≡ s
+      go true = neg-sign (rootOf (absOf q)) (distance-no-nan (rootOf (absOf q)) root) ∙ ap not (distance-sign (rootOf (absOf q)) root)
+      go false = distance-sign (rootOf (absOf q)) root
+
+-- it is a NaN where the square is
+pub signed-nan : (q : Float) → T (fits binary32 q) → isNan (signedRoot q) ≡ isNan q
+unfolding signedRoot isNan absOf rootOf neg
+signed-nan nan f = refl
+signed-nan (inf true) f = refl
+signed-nan (inf false) f = refl
+signed-nan (fin s m e) f = go s
+  where
+    number : isNan (rootOf (fin false m e)) ≡ false
+    number = is-false (isNan (rootOf (fin false m e))) (distance-no-nan (rootOf (fin false m e)) (root (fin s m e) f tt))
+
+    go : (t : Bool) → isNan (cond t (neg (rootOf (fin false m e))) (rootOf (fin false m e))) ≡ false
+    go true = neg-nan (rootOf (fin false m e)) ∙ number
+    go false = number
+
+-- ---- what a square shows
+
+-- the square of h is that of its magnitude
+own-square : (h : Float) → mul binary64 h h ≡ mul binary64 (absOf h) (absOf h)
+unfolding mul absOf
+own-square nan = refl
+own-square (inf true) = refl
+own-square (inf false) = refl
+own-square (fin true m e) = refl
+own-square (fin false m e) = refl
+
+-- nothing is at most a NaN
+at-most-number : (x q : Float) → le x (absOf q) ≡ true → T (not (isNan q))
+unfolding le lt eq absOf isNan
+at-most-number nan nan h = absurd (true≢false (sym h))
+at-most-number (inf s) nan h = absurd (true≢false (sym h))
+at-most-number (fin s m e) nan h = absurd (true≢false (sym h))
+at-most-number x (inf s) h = tt
+at-most-number x (fin s m e) h = tt
+
+pub shown : (q h : Float) → T (fits binary32 q) → T (fits binary32 h) → atLeastSquare q h ≡ true → (signBit q ≡ false → signBit h ≡ true → ⊥) → nearer (signedRoot q) h ≡ false
+shown q h fq fh t s =
+    let n = at-most-number (mul binary64 h h) q t in
+    not-nearer (signedRoot q) h
+    (ap (λ (v : Float). v ≺ absOf h) (magnitude-is q fq n)
+    ∙ not-below (absOf q) (absOf h) (abs-fits q fq) (abs-fits h fh) (ap (λ (v : Float). le v (absOf q)) (sym (own-square h)) ∙ t))
+    (λ e. s (sym (sign-is q fq n) ∙ e))
