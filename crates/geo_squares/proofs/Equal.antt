@@ -4,22 +4,32 @@ use mathlib.Core.Path.{_≡_, refl, ap, _∙_}
 use mathlib.Core.Bool.{Bool, true, false, cond, _&&_}
 use mathlib.Core.List.{List}
 use lib.Ieee.{Float}
-use Rattle.point.specs.Point.{_-ᵥ_, _·_, _≐ᵥ_}
+use Rattle.point.specs.Point.{_≐ᵥ_}
 use Rattle.point.specs.declared.Point.{Point}
 use Rattle.geo_closest.specs.Closest.{closestPointSegment, closestPointEqual, closestOn, nearest, dotsOf}
 use Rattle.geo_closest.specs.declared.Facet.{Facet}
 use Rattle.geo_closest.proofs.Picks.{picked, passed}
 use Rattle.geo_distance.specs.Distance.{squaredOn}
-use Rattle.geo_squares.specs.Squares.{pointAt, Squares, SquaresTo}
+use Rattle.geo_side.specs.Side.{normalOf, above, signedSquareTo, signedSquaredOn}
+use Rattle.geo_squares.specs.Squares.{pointAt, Values, Squares, SignedSquares, squareTo, SquaresTo, SignedSquaresTo}
 
--- squared lengths to the closest points are the squared distances
-pub to-closest : {xs ys zs out : List Float} (f : Facet) (near : Point → Point) → ((p : Point) → near p ≡ closestOn f p) → SquaresTo near xs ys zs out → Squares f xs ys zs out
-unfolding squaredOn
-to-closest {xs} {ys} {zs} f near same all =
-    record {
-      long = all .long;
-      each = λ i h. all .each i h ∙ ap (λ (q : Point). (pointAt xs ys zs i -ᵥ q) · (pointAt xs ys zs i -ᵥ q)) (same (pointAt xs ys zs i));
-    }
+-- what is said of the points that are near is said of the closest points: of the squared lengths, which are the squared distances,
+module _ {xs ys zs out : List Float} (f : Facet) (near : Point → Point) (same : (p : Point) → near p ≡ closestOn f p) where
+  alike : (value : Point → Point → Float) → Values (λ p. value p (near p)) xs ys zs out → Values (λ p. value p (closestOn f p)) xs ys zs out
+  alike value all =
+      record {
+        long = all .long;
+        each = λ i h. let p = pointAt xs ys zs i in all .each i h ∙ ap (value p) (same p);
+      }
+
+  pub to-closest : SquaresTo near xs ys zs out → Squares f xs ys zs out
+  unfolding squaredOn
+  to-closest = alike squareTo
+
+  -- and of those with a sign
+  pub to-sided : SignedSquaresTo (normalOf f) near xs ys zs out → SignedSquares f xs ys zs out
+  unfolding squaredOn above signedSquaredOn
+  to-sided = alike (signedSquareTo (normalOf f))
 
 pub to-regions : (f : Facet) → f .equal ≡ false → (p : Point) → nearest (dotsOf f p) f ≡ closestOn f p
 unfolding closestOn

@@ -9,7 +9,7 @@ use Rattle.point.specs.declared.Axis.{Axis}
 use Rattle.point.specs.declared.Axis.the-variants.{X, Y, Z}
 
 infixl 6 _+ᵥ_ _-ᵥ_
-infixl 7 _*ᵥ_ _÷ᵥ_
+infixl 7 _*ᵥ_ _÷ᵥ_ _×ᵥ_
 infixl 8 _·_
 infix 5 _≐ᵥ_
 abbrev pub vec : Float → Float → Float → Point
@@ -30,6 +30,10 @@ p ÷ᵥ q = vec (p .x ⊘ q .x) (p .y ⊘ q .y) (p .z ⊘ q .z)
 
 abbrev pub _·_ : Point → Point → Float
 p · q = (p .x ⊗ q .x ⊕ p .y ⊗ q .y) ⊕ p .z ⊗ q .z
+
+-- `cross`, which the normal of a triangle is made by (document 02, §8)
+abbrev pub _×ᵥ_ : Point → Point → Point
+p ×ᵥ q = vec (p .y ⊗ q .z ⊖ p .z ⊗ q .y) (p .z ⊗ q .x ⊖ p .x ⊗ q .z) (p .x ⊗ q .y ⊖ p .y ⊗ q .x)
 
 -- the length of a vector, and the distance of two points
 abbrev pub lengthOf : Point → Float

@@ -1,7 +1,7 @@
 // A point: a plain record of three f32, after `point.rs`, with its steps by value. Each step rounds
 // once for each operation, in the source's order. A part of the public face `sdf`.
 ghost use mathlib.Core.Path.{_≡_};
-ghost use Rattle.point.specs.Point.{_+ᵥ_, _-ᵥ_, _*ᵥ_, _÷ᵥ_, _·_, _≐ᵥ_};
+ghost use Rattle.point.specs.Point.{_+ᵥ_, _-ᵥ_, _*ᵥ_, _÷ᵥ_, _·_, _×ᵥ_, _≐ᵥ_};
 ghost use Rattle.point.specs.Point as Spec;
 
 pub struct Point {
@@ -42,6 +42,16 @@ impl Point {
         ensures { λ r. ⌜ r ≡ self · other ⌝ }
     {
         self.x * other.x + self.y * other.y + self.z * other.z
+    }
+
+    pub fn cross(self, other: Point) -> Point
+        ensures { λ r. ⌜ r ≡ self ×ᵥ other ⌝ }
+    {
+        Point {
+            x: self.y * other.z - self.z * other.y,
+            y: self.z * other.x - self.x * other.z,
+            z: self.x * other.y - self.y * other.x,
+        }
     }
 
     pub fn length(self) -> f32

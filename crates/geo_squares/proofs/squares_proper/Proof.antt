@@ -3,12 +3,13 @@ use Prim.Native.Nat.{_-_}
 use native.Mathlib.Omega.{arith}
 use lib.ListN.{length}
 use Rattle.geo_closest.specs.Closest.{nearest, dotsOf}
+use Rattle.geo_squares.specs.Squares.{squareTo}
 use Rattle.geo_squares.proofs.Loop.{Upto, starts, turn, ends}
 use Rattle.geo_squares.proofs.squares_proper.Statement.{statement}
 use Rattle.geo_squares.proofs.squares_proper.Tie as tie
 
 abbrev Inv-loop : tie.InvT-loop
-Inv-loop f xs ys zs out₀ i₀ out i = Upto (λ p. nearest (dotsOf f p) f) xs ys zs out₀ i out
+Inv-loop f xs ys zs out₀ i₀ out i = Upto (λ p. squareTo p (nearest (dotsOf f p) f)) xs ys zs out₀ i out
 
 abbrev μ-loop : tie.MeasureT-loop
 μ-loop f xs ys zs out₀ i₀ out i = length xs - i
@@ -20,6 +21,6 @@ squares-proper-spec =
     (λ c. starts (c .before .before .before .before .pre))
     (λ c κs. (omega arith, omega arith, omega arith))
     (λ c κs. tt) (λ c κs. tt) (λ c. omega arith) (λ c. omega arith) (λ c. omega arith) (λ c. omega arith)
-    (λ c. let p = c .before .before in turn _ _ _ (p .before .loop-test .taken) (p .point-at .ensures) (c .before .nearest-to .ensures) (c .square .ensures) (p .before .before .loop .inv))
+    (λ c. let p = c .before .before in turn _ _ (p .before .loop-test .taken) (p .point-at .ensures) (rw (c .before .nearest-to .ensures) at (c .square .ensures)) (p .before .before .loop .inv))
     (λ c. omega arith)
     (λ c. ends (omega arith) (c .before .loop .inv)))
