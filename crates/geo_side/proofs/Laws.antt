@@ -83,11 +83,14 @@ module _ (f : Facet) (p : Point) where
   unfolding squaredOn
   square-no-sign = dot-no-sign (p -ᵥ closestOn f p)
 
-  square-bare : signBit (squaredOn f p) ≡ false
+  pub square-bare : signBit (squaredOn f p) ≡ false
   square-bare = bare (squaredOn f p) square-no-sign
 
-  distance-bare : signBit (distanceOn f p) ≡ false
+  pub distance-bare : signBit (distanceOn f p) ≡ false
   distance-bare = bare (distanceOn f p) (root-no-sign (squaredOn f p) square-fits square-no-sign)
+
+  pub distance-fits : T (fits binary32 (distanceOn f p))
+  distance-fits = root-fits (squaredOn f p) square-fits
 
   -- ---- the signed distance
 
@@ -97,7 +100,7 @@ module _ (f : Facet) (p : Point) where
 
   pub signed-fits : T (fits binary32 (signedOn f p))
   unfolding signedOn
-  signed-fits = sided-fits (above f p) (distanceOn f p) (root-fits (squaredOn f p) square-fits)
+  signed-fits = sided-fits (above f p) (distanceOn f p) distance-fits
 
   pub signed-magnitude : absOf (signedOn f p) ≡ distanceOn f p
   unfolding signedOn

@@ -1,5 +1,5 @@
--- What a run is told of a job's grid and mesh is fair: snapped boxes and steps stay on the grid, and a distance that is no NaN has no
--- sign bit, since it is the root of the dot of a vector with itself. Assumes nothing.
+-- What a run is told of a job's grid and mesh is fair: snapped boxes and steps stay on the grid, and distances are values of binary32. With
+-- Raycast a distance that is no NaN has no sign bit, since it is the root of the dot of a vector with itself. Assumes nothing.
 use Prim.Native.Nat.{ℕ, _+_, _-_, _≤_, _<_}
 use native.Mathlib.Omega.{arith}
 use mathlib.Core.Path.{_≡_, refl}
@@ -12,6 +12,8 @@ use Rattle.float.specs.Distance.{Distance}
 use Rattle.float.specs.RootOf.{rootOf}
 use Rattle.float_floor.proofs.Floors.{cell-lt}
 use Rattle.float.proofs.Roots.{root-distance}
+use Rattle.terms.specs.declared.SignMethod.{SignMethod}
+use Rattle.terms.specs.declared.SignMethod.the-variants.{Raycast}
 use Rattle.point.specs.declared.Point.{Point}
 use Rattle.point.specs.declared.Axis.{Axis}
 use Rattle.point.specs.declared.Axis.the-variants.{X, Y, Z}
@@ -20,9 +22,11 @@ use Rattle.grid.specs.declared.Grid.{Grid}
 use Rattle.grid.specs.declared.Cell.{Cell}
 use Rattle.grid.specs.Axes.{countOn, cellOn, cellNumbered}
 use Rattle.grid.specs.Index.{indexOf, cellAt, total, Inside}
-use Rattle.grid.specs.Place.{snapCell, floorOn}
+use Rattle.grid.specs.Place.{centreOf, snapCell, floorOn}
 use Rattle.grid.proofs.Laws.{index-below}
+use Rattle.geo_closest.specs.Closest.{facetOf}
 use Rattle.geo_distance.specs.Distance.{squaredOn}
+use Rattle.geo_measure.proofs.Laws.{measured-fits}
 use Rattle.mesh.specs.declared.Corners.{Corners}
 use Rattle.mesh.specs.Mesh.{Mesh, trianglesIn, cornersAt}
 use Rattle.run.specs.Run.{none}
@@ -69,18 +73,18 @@ root-number nan h = absurd (true≢false h)
 root-number (inf s) h = tt
 root-number (fin s m e) h = tt
 
-pub distance-unsigned : (g : Grid) (t : Corners) (c : Cell) → isNan (distanceFrom g t c) ≡ false → Distance (distanceFrom g t c)
+pub distance-unsigned : (g : Grid) (t : Corners) (c : Cell) → isNan (distanceFrom Raycast g t c) ≡ false → Distance (distanceFrom Raycast g t c)
 unfolding distanceFrom squaredOn
 distance-unsigned g t c h = root-distance _ (dot-self _ (root-number _ h))
 
 -- ---- so a job's input is fair
 
-pub fair-input : (g : Grid) (m : Mesh) (room limit : ℕ) → ((a : Axis) → 0 < countOn a g) → length (trianglesIn m) ≤ none → Fair (runInput g m room limit)
-unfolding runInput
-fair-input g m room limit some few =
+pub fair-input : (g : Grid) (m : Mesh) (sign : SignMethod) (room limit : ℕ) → ((a : Axis) → 0 < countOn a g) → length (trianglesIn m) ≤ none → Fair (runInput g m sign room limit)
+unfolding runInput distanceFrom
+fair-input g m sign room limit some few =
     record {
       few = few;
-      distances = λ k c. distance-unsigned g (cornersAt m k) (cellAt g c);
+      distances = λ k c. measured-fits sign (let t = cornersAt m k in facetOf (t .a) (t .b) (t .c)) (centreOf g (cellAt g c));
       steps-on = around-on g;
       boxes-on = boxes-on;
     }

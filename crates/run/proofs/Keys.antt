@@ -9,6 +9,7 @@ use lib.Dec.{ltb}
 use lib.ListN.{length}
 use lib.Ieee.{Float, isNan}
 use Rattle.float.specs.Arith.{_≺_, fMax}
+use Rattle.float_order.specs.Nearer.{nearer}
 use Rattle.lists.specs.Turns.{Turn, goes, refuses, andThen}
 use Rattle.lists.proofs.Turns.{then-alike, turns-alike}
 use Rattle.queue.specs.declared.Entry.{Entry}
@@ -43,13 +44,13 @@ module _ (g : RunInput) (F : Fair g) (agree : Agree (g .goesFirst) byKeys) where
       taken : (also : Entry → State → Turn State) → Turn State
       taken also = also (entry d c k) (takes c k d s)
 
-      less : isNan d ≡ false → (b : Bool) → (d ≺ held s c) ≡ b → cond b (taken (queue g)) (goes s) ≡ cond b (taken (queue (keyed g))) (goes s)
+      less : isNan d ≡ false → (b : Bool) → nearer d (held s c) ≡ b → cond b (taken (queue g)) (goes s) ≡ cond b (taken (queue (keyed g))) (goes s)
       less n true l = same-queue (entry d c k) (takes c k d s) (new-offered-differs g F k c kl cl s G (record { number = n; less = l }))
       less n false l = refl
 
-      number : (b : Bool) → isNan d ≡ b → cond b (refuses 6) (cond (d ≺ held s c) (taken (queue g)) (goes s)) ≡ cond b (refuses 6) (cond (d ≺ held s c) (taken (queue (keyed g))) (goes s))
+      number : (b : Bool) → isNan d ≡ b → cond b (refuses 6) (cond (nearer d (held s c)) (taken (queue g)) (goes s)) ≡ cond b (refuses 6) (cond (nearer d (held s c)) (taken (queue (keyed g))) (goes s))
       number true n = refl
-      number false n = less n (d ≺ held s c) refl
+      number false n = less n (nearer d (held s c)) refl
 
   -- ---- the offers of an entry that is taken
   module _ (e : Entry) (cl : e .cell < g .cells) (kl : e .triangle < g .triangles) where

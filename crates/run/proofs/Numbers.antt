@@ -6,6 +6,7 @@ use lib.Dec.{ltb}
 use lib.ListN.{length}
 use lib.Ieee.{isNan}
 use Rattle.float.specs.Arith.{_≺_, fMax}
+use Rattle.float_order.specs.Nearer.{nearer}
 use Rattle.lists.specs.Turns.{Turn, goes, refuses, andThen}
 use Rattle.lists.specs.OnlyBy.{OnlyBy}
 use Rattle.lists.proofs.OnlyBy.{only-if, only-then, only-turns, only-between}
@@ -20,7 +21,7 @@ module _ (set : ℕ → Type 0) (g : RunInput) where
   offer-by six also h k c s =
       let d = g .distance k c in
       only-if set (isNan d) (refuses 6) _ six
-      (only-if set (d ≺ held s c) (also (entry d c k) (takes c k d s)) (goes s) (h (entry d c k) (takes c k d s)) tt)
+      (only-if set (nearer d (held s c)) (also (entry d c k) (takes c k d s)) (goes s) (h (entry d c k) (takes c k d s)) tt)
 
   pub seeding-by : set 6 → OnlyBy set (seeding g)
   unfolding seeding seedTriangle seedPlane seedLine

@@ -10,6 +10,7 @@ use lib.Ieee.{Float, isNan}
 use borrow.Author.Tests.{ltb-true}
 use native.Mathlib.Omega.{arith}
 use Rattle.float.specs.Arith.{_≺_, fMax}
+use Rattle.float_order.specs.Nearer.{nearer}
 use Rattle.lists.specs.Turns.{Turn, goes, refuses, andThen}
 use Rattle.lists.proofs.Turns.{then-went}
 use Rattle.lists.proofs.Made.{goes-same}
@@ -23,8 +24,8 @@ refused e = let z : _≡_ {A = ℕ} 0 1 = cc in omega arith
 
 -- triangle k, d away, was offered to cell c, and the turn went on from s to t
 pub data Offer (also : Entry → State → Turn State) (k c : ℕ) (d : Float) (s t : State) : Type 0 where
-  passes : isNan d ≡ false → (d ≺ held s c) ≡ false → t ≡ s → Offer also k c d s t
-  takesIt : isNan d ≡ false → (d ≺ held s c) ≡ true → also (entry d c k) (takes c k d s) ≡ goes t → Offer also k c d s t
+  passes : isNan d ≡ false → nearer d (held s c) ≡ false → t ≡ s → Offer also k c d s t
+  takesIt : isNan d ≡ false → nearer d (held s c) ≡ true → also (entry d c k) (takes c k d s) ≡ goes t → Offer also k c d s t
 
 pub offer-went : (g : RunInput) (also : Entry → State → Turn State) (k c : ℕ) (s t : State) → offer g also k c s ≡ goes t → Offer also k c (g .distance k c) s t
 unfolding offer offerAt
@@ -33,13 +34,13 @@ offer-went g also k c s t h = number (isNan d) refl h
     d : Float
     d = g .distance k c
 
-    less : (b : Bool) → isNan d ≡ false → (d ≺ held s c) ≡ b → cond b (also (entry d c k) (takes c k d s)) (goes s) ≡ goes t → Offer also k c d s t
+    less : (b : Bool) → isNan d ≡ false → nearer d (held s c) ≡ b → cond b (also (entry d c k) (takes c k d s)) (goes s) ≡ goes t → Offer also k c d s t
     less true n e w = takesIt n e w
     less false n e w = passes n e (sym (goes-same w))
 
-    number : (b : Bool) → isNan d ≡ b → cond b (refuses 6) (cond (d ≺ held s c) (also (entry d c k) (takes c k d s)) (goes s)) ≡ goes t → Offer also k c d s t
+    number : (b : Bool) → isNan d ≡ b → cond b (refuses 6) (cond (nearer d (held s c)) (also (entry d c k) (takes c k d s)) (goes s)) ≡ goes t → Offer also k c d s t
     number true e w = absurd (refused w)
-    number false e w = less (d ≺ held s c) e refl w
+    number false e w = less (nearer d (held s c)) e refl w
 
 -- ---- a queueing
 

@@ -15,7 +15,8 @@ use Rattle.queue.specs.declared.Entry.{Entry}
 use Rattle.queue.proofs.Meaning.{in-insert, still-in, from-insert}
 use Rattle.queue.proofs.Keys.{FromAll}
 use Rattle.run.specs.Run.{RunInput, State, held, named, entry, queued, queueCell, queueing}
-use Rattle.run.specs.Good.{bits, Waits, Good}
+use Rattle.float_order.specs.Nearer.{height, keyOf}
+use Rattle.run.specs.Good.{Waits, Good}
 use Rattle.run.proofs.Values.{Fair, has-named, has-below}
 use Rattle.run.proofs.Offers.{Queued, QueuedCell, notBelow, below, queueCell-went}
 use Rattle.run.proofs.Waiting.{good-queued, WaitsFor, waits-for-on}
@@ -40,8 +41,8 @@ module _ (g : RunInput) (F : Fair g) (s : State) where
           cell-on = il;
           triangle-is = h .0;
           number = sym (ap isNan (h .1)) ∙ h .2;
-          far = ap bits (h .1);
-          above = omega arith;
+          far = ap keyOf (h .1);
+          above = rw (ap height (h .1)) (omega arith);
         }
 
     pub new-differs : FromAll (entry (held u i) i (named u i)) (u .waiting)

@@ -8,6 +8,7 @@ use lib.Ieee.{Float, nan, neg}
 use Rattle.float.specs.Arith.{if_then_else_}
 use Rattle.lists.specs.Range.{countBelow, sumBelow}
 use Rattle.lists.specs.Table.{table}
+use Rattle.terms.specs.declared.SignMethod.{SignMethod}
 use Rattle.point.specs.declared.Axis.{Axis}
 use Rattle.point.specs.declared.Axis.the-variants.{X, Y, Z}
 use Rattle.grid.specs.declared.Grid.{Grid}
@@ -35,16 +36,16 @@ module _ (g : Grid) {m n : Mesh} (same : SameMesh m n) where
   corners-same k = λ i. cornersOf (same .vertices i) (kth (same .triangles i) k)
 
   -- what the run is told
-  pub input-same : (room limit : ℕ) → runInput g m room limit ≡ runInput g n room limit
+  pub input-same : (sign : SignMethod) (room limit : ℕ) → runInput g m sign room limit ≡ runInput g n sign room limit
   unfolding runInput
-  input-same room limit =
+  input-same sign room limit =
       λ i.
       record {
         cells = total g;
         triangles = length (same .triangles i);
         index = λ x y z. indexOf g (cellNumbered x y z);
         box = λ k. snappedBox g (corners-same k i);
-        distance = λ k c. distanceFrom g (corners-same k i) (cellAt g c);
+        distance = λ k c. distanceFrom sign g (corners-same k i) (cellAt g c);
         around = aroundCell g;
         goesFirst = Order.goesFirst (kth (same .triangles i));
         room = room;

@@ -1,30 +1,35 @@
 -- What the cells of a run hold: each is bare, with f32::MAX and no triangle, or has a triangle below f32::MAX, at that triangle's
--- distance. A distance that is no NaN has no sign bit, so values are compared as their bit patterns, and a cell that takes a triangle
--- holds less than before. Assumes nothing but what the record `Fair` asks of the input.
+-- distance. Values are compared by their heights, and a cell that takes a triangle holds what is nearer than before. Assumes nothing but
+-- what the record `Fair` asks of the input.
 use Prim.Native.Nat.{ℕ, _≤_, _<_}
 use native.Mathlib.Decide.{ℕ-discrete}
 use native.Mathlib.Omega.{arith}
-use mathlib.Core.Path.{_≡_, refl, sym, ap, _∙_, subst}
-use mathlib.Core.Bool.{true, false, true≢false}
+use mathlib.Core.Path.{_≡_, refl, sym, ap, _∙_}
+use mathlib.Core.Bool.{true, false, not, true≢false}
 use mathlib.Core.List.{List}
-use lib.Dec.{lit≤}
+use lib.Dec.{T, lit≤}
 use lib.ListN.{getD, set, replicate, length-set, length-replicate, getD-replicate}
 use lib.Seq.{getD-set-other}
-use lib.Ieee.{Float, nan, isNan}
-use borrow.Author.Tests.{ltb-true, ltb-false, lt-ltb, le-ltb}
+use lib.Ieee.{Float, nan, isNan, binary32, fits}
+use borrow.Author.Tests.{le-ltb}
 use Rattle.float.specs.Arith.{_≺_, fMax}
 use Rattle.float.specs.Distance.{Distance}
-use Rattle.float.proofs.Order.{bits-distance, bits-lt, distance-lt}
+use Rattle.float.proofs.Order.{bits-distance, bits-lt, distance-no-nan}
+use Rattle.float_order.specs.Nearer.{nearer, height}
+use Rattle.float_order.specs.Total.{Value}
+use Rattle.float_order.proofs.Nearer.{nearer-below}
+use Rattle.float_order.proofs.Height.{height-less, height-not-less, height-nearer}
 use Rattle.lists.proofs.Table.{stored-at}
 use Rattle.run.specs.Run.{RunInput, at, none}
-use Rattle.run.specs.Good.{bits, CellHolds, isBare, has, FieldSound, Falls}
+use Rattle.run.specs.Good.{CellHolds, isBare, has, FieldSound, Falls}
+use Rattle.run.proofs.Ways.{no-nan}
 
 -- what the laws of a run ask of what it is told
 pub record Fair (g : RunInput) : Type 0 where
   -- no triangle has the name of none
   pub few : g .triangles ≤ none
-  -- a distance that is no NaN has no sign bit
-  pub distances : (k c : ℕ) → isNan (g .distance k c) ≡ false → Distance (g .distance k c)
+  -- distances are values of binary32
+  pub distances : (k c : ℕ) → T (fits binary32 (g .distance k c))
   -- the steps from a cell, and the cells of a snapped box, are on the grid
   pub steps-on : (c j d : ℕ) → c < g .cells → g .around c j ≡ at d → d < g .cells
   pub boxes-on : (k x y z : ℕ) → k < g .triangles → x ≤ g .box k .high .x → y ≤ g .box k .high .y → z ≤ g .box k .high .z → g .index x y z < g .cells
@@ -32,10 +37,10 @@ pub record Fair (g : RunInput) : Type 0 where
 pub falls-on : (g : RunInput) (a b c : List Float) → Falls g a b → Falls g b c → Falls g a c
 falls-on g a b c p q i l = omega (arith, p i l, q i l)
 
--- triangle k was met at cell c: its distance is a number, and the cell holds no more
+-- triangle k was met at cell c: its distance is a number, and the cell holds nothing farther
 pub record Met (g : RunInput) (field : List Float) (k c : ℕ) : Type 0 where
   pub number : isNan (g .distance k c) ≡ false
-  pub least : bits (getD field c nan) ≤ bits (g .distance k c)
+  pub least : height (getD field c nan) ≤ height (g .distance k c)
 
 pub met-on : (g : RunInput) (a b : List Float) (k c : ℕ) → c < g .cells → Falls g a b → Met g a k c → Met g b k c
 met-on g a b k c l p m = record { number = m .number; least = omega (arith, p c l, m .least) }
@@ -43,11 +48,11 @@ met-on g a b k c l p m = record { number = m .number; least = omega (arith, p c 
 -- triangle k, whose distance is a number, is nearer to cell c than what the cell holds
 pub record Nearer (g : RunInput) (field : List Float) (k c : ℕ) : Type 0 where
   pub number : isNan (g .distance k c) ≡ false
-  pub less : (g .distance k c ≺ getD field c nan) ≡ true
+  pub less : nearer (g .distance k c) (getD field c nan) ≡ true
 
--- cell c takes triangle k, in place of what it holds: it holds less, and the other cells' names are kept
+-- cell c takes triangle k, in place of what it holds: it holds what is nearer, and the other cells' names are kept
 pub record Took (g : RunInput) (field : List Float) (names : List ℕ) (k c : ℕ) : Type 0 where
-  pub less : bits (g .distance k c) < bits (getD field c nan)
+  pub less : height (g .distance k c) < height (getD field c nan)
   pub sound : FieldSound g (set field c (g .distance k c)) (set names c k)
   pub falls : Falls g field (set field c (g .distance k c))
   pub met : Met g (set field c (g .distance k c)) k c
@@ -58,6 +63,9 @@ pub record Took (g : RunInput) (field : List Float) (names : List ℕ) (k c : �
 
 pub max-distance : Distance fMax
 max-distance = bits-distance 0x7f7f_ffff (lit≤ tt)
+
+abbrev pub maxValue : Value
+maxValue = record { float = fMax; held = max-distance .held; number = distance-no-nan fMax max-distance }
 
 pub max-not-less : (fMax ≺ fMax) ≡ false
 max-not-less = bits-lt 0x7f7f_ffff 0x7f7f_ffff (lit≤ tt) (lit≤ tt) ∙ le-ltb 0x7f7f_ffff 0x7f7f_ffff (lit≤ tt)
@@ -75,25 +83,26 @@ sound-bare g =
 -- ---- what a sound state says of a cell
 
 module _ (g : RunInput) (F : Fair g) where
-  pub holds-distance : {d : Float} {k c : ℕ} → CellHolds g d k c → Distance d
-  holds-distance (isBare e n) = subst Distance (sym e) max-distance
-  holds-distance {k = k} {c = c} (has l e n b) = subst Distance (sym e) (F .distances k c (sym (ap isNan e) ∙ n))
+  -- a distance that is a number, and what a cell holds, as values
+  abbrev pub distanceAt : (k c : ℕ) → isNan (g .distance k c) ≡ false → Value
+  distanceAt k c n = record { float = g .distance k c; held = F .distances k c; number = no-nan (g .distance k c) n }
 
-  pub less-bits : (x y : Float) → Distance x → Distance y → (x ≺ y) ≡ true → bits x < bits y
-  less-bits x y p q h = ltb-true (bits x) (bits y) (sym (distance-lt x y p q) ∙ h)
+  pub holds-value : {d : Float} {k c : ℕ} → CellHolds g d k c → T (fits binary32 d) × T (not (isNan d))
+  holds-value (isBare e n) = rw e (maxValue .held, maxValue .number)
+  holds-value {d} {k} {c} (has l e n b) = (rw e (F .distances k c), no-nan d n)
 
-  pub not-less-bits : (x y : Float) → Distance x → Distance y → (x ≺ y) ≡ false → bits y ≤ bits x
-  not-less-bits x y p q h = ltb-false (bits x) (bits y) (sym (distance-lt x y p q) ∙ h)
+  abbrev pub heldBy : {d : Float} {k c : ℕ} → CellHolds g d k c → Value
+  heldBy {d} h = record { float = d; held = holds-value h .0; number = holds-value h .1 }
 
-  -- no cell holds more than f32::MAX
-  pub holds-at-most-max : {d : Float} {k c : ℕ} → CellHolds g d k c → bits d ≤ bits fMax
+  -- no cell holds what is farther than f32::MAX
+  pub holds-at-most-max : {d : Float} {k c : ℕ} → CellHolds g d k c → height d ≤ height fMax
   holds-at-most-max (isBare e n) = rw e (omega arith)
-  holds-at-most-max {d} {k} {c} (has l e n b) = omega (arith, less-bits d fMax (holds-distance {d = d} {k = k} {c = c} (has l e n b)) max-distance b)
+  holds-at-most-max (has l e n b) = omega (arith, height-less (heldBy (has l e n b)) maxValue b)
 
   -- a cell that names a triangle has it
   pub has-named : {d : Float} {k c : ℕ} → CellHolds g d k c → k < g .triangles → (d ≡ g .distance k c) × (isNan d ≡ false) × ((d ≺ fMax) ≡ true)
   has-named (isBare e n) l = absurd (omega (arith, F .few))
-  has-named (has m e n b) l = (e, n, b)
+  has-named {d} (has m e n b) l = (e, n, nearer-below d b)
 
   -- and so does one below f32::MAX
   pub has-below : {d : Float} {k c : ℕ} → CellHolds g d k c → (d ≺ fMax) ≡ true → (k < g .triangles) × (d ≡ g .distance k c) × (isNan d ≡ false)
@@ -102,17 +111,13 @@ module _ (g : RunInput) (F : Fair g) where
 
   -- ---- a cell takes a triangle
 
-  -- what is below a cell's value is below f32::MAX
-  below-max : {v : Float} {n c : ℕ} → CellHolds g v n c → (d : Float) → Distance d → (d ≺ v) ≡ true → (d ≺ fMax) ≡ true
-  below-max (isBare e n) d p h = ap (λ (x : Float). d ≺ x) (sym e) ∙ h
-  below-max {v} {n} {c} (has l e m b) d p h =
-      let q : Distance v = holds-distance {d = v} {k = n} {c = c} (has l e m b) in
-      distance-lt d fMax p max-distance
-      ∙ lt-ltb (bits d) (bits fMax) (omega (arith, less-bits d v p q h, less-bits v fMax q max-distance b))
+  -- what is nearer than a cell's value is nearer than f32::MAX
+  below-max : {v : Float} {n c : ℕ} → CellHolds g v n c → (d : Value) → nearer (d .float) v ≡ true → nearer (d .float) fMax ≡ true
+  below-max h d l = height-nearer d maxValue (omega (arith, height-less d (heldBy h) l, holds-at-most-max h))
 
   module _ (field : List Float) (names : List ℕ) (k c : ℕ) (S : FieldSound g field names) (kl : k < g .triangles) (cl : c < g .cells) (N : Nearer g field k c) where
-    takes-less : bits (g .distance k c) < bits (getD field c nan)
-    takes-less = less-bits (g .distance k c) (getD field c nan) (F .distances k c (N .number)) (holds-distance (S .each c cl)) (N .less)
+    takes-less : height (g .distance k c) < height (getD field c nan)
+    takes-less = height-less (distanceAt k c (N .number)) (heldBy (S .each c cl)) (N .less)
 
     stored : (i : ℕ) → i ≡ c → getD (set field c (g .distance k c)) i nan ≡ g .distance k c
     stored i e = stored-at nan field c i (g .distance k c) (omega (arith, S .field-long)) e
@@ -128,13 +133,13 @@ module _ (g : RunInput) (F : Fair g) where
         at-cell : (i : ℕ) → i < g .cells → Dec (i ≡ c) → CellHolds g (getD (set field c (g .distance k c)) i nan) (getD (set names c k) i 0) i
         at-cell i l (yes e) =
             let name = stored-at 0 names c i k (omega (arith, S .names-long)) e in
-            rw (stored i e, name, e) (has kl refl (N .number) (below-max (S .each c cl) (g .distance k c) (F .distances k c (N .number)) (N .less)))
+            rw (stored i e, name, e) (has kl refl (N .number) (below-max (S .each c cl) (distanceAt k c (N .number)) (N .less)))
         at-cell i l (no n) = rw (getD-set-other field c i (g .distance k c) nan n, getD-set-other names c i k 0 n) (S .each i l)
 
     takes-falls : Falls g field (set field c (g .distance k c))
     takes-falls i l = go (ℕ-discrete i c)
       where
-        go : Dec (i ≡ c) → bits (getD (set field c (g .distance k c)) i nan) ≤ bits (getD field i nan)
+        go : Dec (i ≡ c) → height (getD (set field c (g .distance k c)) i nan) ≤ height (getD field i nan)
         go (yes e) = rw (stored i e, e) (omega (arith, takes-less))
         go (no n) = rw (getD-set-other field c i (g .distance k c) nan n) (omega arith)
 
@@ -152,8 +157,7 @@ module _ (g : RunInput) (F : Fair g) where
           other-names = λ i n. getD-set-other names c i k 0 n;
         }
 
-  -- a cell that does not find a triangle smaller holds no more than its distance
+  -- a cell that does not find a triangle nearer holds nothing farther
   pub passes-met : (field : List Float) (names : List ℕ) (k c : ℕ) → FieldSound g field names → c < g .cells → isNan (g .distance k c) ≡ false
-      → (g .distance k c ≺ getD field c nan) ≡ false → Met g field k c
-  passes-met field names k c S cl n h =
-      record { number = n; least = not-less-bits (g .distance k c) (getD field c nan) (F .distances k c n) (holds-distance (S .each c cl)) h }
+      → nearer (g .distance k c) (getD field c nan) ≡ false → Met g field k c
+  passes-met field names k c S cl n h = record { number = n; least = height-not-less (distanceAt k c n) (heldBy (S .each c cl)) h }

@@ -1,5 +1,5 @@
--- What waits in a run. Every waiting entry is of a cell and a triangle of the job, has that triangle's distance, and its cell holds no
--- more since. A cell queues an entry only when its value falls, so two waiting entries never agree in both distance and cell. The
+-- What waits in a run. Every waiting entry is of a cell and a triangle of the job, has the key of that triangle's distance, and its cell
+-- holds nothing farther since. A cell queues an entry only when it takes a nearer value, and a key has one value, so two waiting entries never agree in both distance and cell. The
 -- entries that wait never outgrow the peak, nor the peak the room. Assumes nothing but what `Fair` asks of the input.
 use Prim.Native.Nat.{ℕ, zero, suc, _≤_, _<_}
 use native.Mathlib.Nat.{le-of-suc-le-suc, not-suc-le-zero}
@@ -18,8 +18,10 @@ use Rattle.queue.specs.Keys.{Differ, Apart}
 use Rattle.queue.proofs.Keys.{FromAll}
 use Rattle.queue.proofs.Meaning.{length-insert, in-insert, still-in, from-insert}
 use Rattle.run.specs.Run.{RunInput, State, named, entry, takes, offer, queued, queue, taken}
-use Rattle.run.specs.Good.{bits, Falls, Waits, Good}
-use Rattle.run.proofs.Values.{Fair, Met, Nearer, Took, took, passes-met}
+use Rattle.float_order.specs.Nearer.{height}
+use Rattle.float_order.proofs.Keys.{one-key}
+use Rattle.run.specs.Good.{Falls, Waits, Good}
+use Rattle.run.proofs.Values.{Fair, Met, Nearer, Took, distanceAt, took, passes-met}
 use Rattle.run.proofs.Offers.{Offer, passes, takesIt, offer-went, Queued, queue-went}
 
 -- ---- the entries that wait
@@ -167,9 +169,10 @@ module _ (g : RunInput) (F : Fair g) (k c : ℕ) (kl : k < g .triangles) (cl : c
 
     pub new-differs : FromAll new (s .waiting)
     new-differs z m d e =
-        let less = T .less in
-        let above : bits (getD (s .field) c nan) ≤ z .distance = rw e (G .waits z m .above) in
-        omega arith
+        let w = G .waits z m in
+        let above : height (getD (s .field) c nan) ≤ height (g .distance (z .triangle) (z .cell)) = rw e (w .above) in
+        let one = one-key (distanceAt g F k c (N .number)) (distanceAt g F (z .triangle) (z .cell) (w .number)) (d ∙ w .far) in
+        omega (arith, T .less, above, ap height one)
 
     takes-names : (i : ℕ) → Dec (i ≡ c) → (named between i ≡ named s i) ⊎ WaitsFor (queued g new between) i (named between i)
     takes-names i (yes e) =

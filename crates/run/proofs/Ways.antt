@@ -2,11 +2,11 @@
 -- definition with its tests put in. Assumes nothing.
 use Prim.Native.Nat.{ℕ}
 use mathlib.Core.Path.{_≡_, refl, sym, ap, subst}
-use mathlib.Core.Bool.{true, false, not}
+use mathlib.Core.Bool.{Bool, true, false, not}
 use lib.Dec.{T}
-use lib.Ieee.{Float, nan, inf, fin, isNan, ne, lt}
+use lib.Ieee.{Float, nan, inf, fin, isNan, ne}
 use lib.Ieee.Compare.{differs-from-itself}
-use Rattle.float.specs.Arith.{_≺_}
+use Rattle.float_order.specs.Nearer.{nearer}
 use Rattle.lists.specs.Turns.{Turn, goes, refuses}
 use Rattle.queue.specs.declared.Entry.{Entry}
 use Rattle.run.specs.Run.{State, held, entry, takes, offerAt}
@@ -16,11 +16,11 @@ module _ (also : Entry → State → Turn State) (k c : ℕ) (d : Float) (s : St
   unfolding offerAt
   offer-nan n = rw n
 
-  pub offer-passed : isNan d ≡ false → (d ≺ held s c) ≡ false → offerAt also k c d s ≡ goes s
+  pub offer-passed : isNan d ≡ false → nearer d (held s c) ≡ false → offerAt also k c d s ≡ goes s
   unfolding offerAt
   offer-passed n h = rw (n, h)
 
-  pub offer-taken : isNan d ≡ false → (d ≺ held s c) ≡ true → offerAt also k c d s ≡ also (entry d c k) (takes c k d s)
+  pub offer-taken : isNan d ≡ false → nearer d (held s c) ≡ true → offerAt also k c d s ≡ also (entry d c k) (takes c k d s)
   unfolding offerAt
   offer-taken n h = rw (n, h)
 
@@ -35,9 +35,6 @@ is-number nan h = h
 is-number (inf s) h = refl
 is-number (fin s m e) h = refl
 
--- what is smaller than something is no NaN
-pub less-no-nan : (x y : Float) → (x ≺ y) ≡ true → T (not (isNan x))
-unfolding isNan lt
-less-no-nan nan y h = absurd (subst T (sym h) tt)
-less-no-nan (inf s) y h = tt
-less-no-nan (fin s m e) y h = tt
+-- what is no NaN, by a test and by its negation
+pub no-nan : (x : Float) → isNan x ≡ false → T (not (isNan x))
+no-nan x h = subst (λ (b : Bool). T (not b)) (sym h) tt

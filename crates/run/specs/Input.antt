@@ -1,10 +1,11 @@
--- What the run is told of a job's grid and mesh (document 01, "The run", 1 and 3). Definitions only.
+-- What the run is told of a job's grid, mesh and method of signs (document 01, "The run", 1 and 3; document 02, §8). Definitions only.
 use Prim.Native.Nat.{ℕ, _+_, _-_}
 use mathlib.Core.Bool.{Bool, _&&_}
 use lib.Dec.{ltb}
 use lib.ListN.{length}
 use lib.Ieee.{Float}
 use Rattle.float.specs.Arith.{_≺_, if_then_else_}
+use Rattle.terms.specs.declared.SignMethod.{SignMethod}
 use Rattle.point.specs.declared.Point.{Point}
 use Rattle.point.specs.declared.Axis.{Axis}
 use Rattle.point.specs.declared.Axis.the-variants.{X, Y, Z}
@@ -17,7 +18,8 @@ use Rattle.grid_axis.specs.OnAxis.{centreOn}
 use Rattle.grid.specs.Place.{centreOf, snapCell}
 use Rattle.geo_box.specs.declared.TriangleBox.{TriangleBox}
 use Rattle.geo_box.specs.Box as Triangle
-use Rattle.geo_distance.specs.Distance.{distance}
+use Rattle.geo_closest.specs.Closest.{facetOf}
+use Rattle.geo_measure.specs.Measured.{measured}
 use Rattle.mesh.specs.declared.Corners.{Corners}
 use Rattle.mesh.specs.Mesh.{Mesh, vertexCount, trianglesIn, cornersAt}
 use Rattle.queue.specs.Order.{orderOf}
@@ -48,21 +50,21 @@ seedLast g high = cellBy (λ a. raised a g high (cellOn a (snapCell g high)))
 unfoldable pub snappedBox : Grid → Corners → Box
 snappedBox g t = let b = Triangle.paddedBox (t .a) (t .b) (t .c) in record { low = seedFirst g (b .low); high = seedLast g (b .high) }
 
--- ---- the distance of a triangle from a cell
+-- ---- the distance of a triangle from a cell's centre: with Normal signs the signed one
 
-unfoldable pub distanceFrom : Grid → Corners → Cell → Float
-distanceFrom g t c = distance (centreOf g c) (t .a) (t .b) (t .c)
+unfoldable pub distanceFrom : SignMethod → Grid → Corners → Cell → Float
+distanceFrom sign g t c = measured sign (facetOf (t .a) (t .b) (t .c)) (centreOf g c)
 
 -- ---- all of it
 
-unfoldable pub runInput : Grid → Mesh → ℕ → ℕ → RunInput
-runInput g m room limit =
+unfoldable pub runInput : Grid → Mesh → SignMethod → ℕ → ℕ → RunInput
+runInput g m sign room limit =
     record {
       cells = total g;
       triangles = length (trianglesIn m);
       index = λ x y z. indexOf g (cellNumbered x y z);
       box = λ k. snappedBox g (cornersAt m k);
-      distance = λ k c. distanceFrom g (cornersAt m k) (cellAt g c);
+      distance = λ k c. distanceFrom sign g (cornersAt m k) (cellAt g c);
       around = aroundCell g;
       goesFirst = orderOf (m .topology) (m .given) (m .indices) (vertexCount (m .vertices));
       room = room;

@@ -6,8 +6,9 @@ use mathlib.Core.Bool.{Bool, true, false}
 use mathlib.Core.List.{List, [], _∷_}
 use lib.Dec.{ltb}
 use lib.ListN.{length, getD, set, replicate}
-use lib.Ieee.{Float, nan, isNan, binary32, toBits}
+use lib.Ieee.{Float, nan, isNan}
 use Rattle.float.specs.Arith.{_≺_, fMax, if_then_else_}
+use Rattle.float_order.specs.Nearer.{nearer, keyOf}
 use Rattle.lists.specs.Turns.{Turn, goes, refuses, andThen, turns, through}
 use Rattle.grid.specs.declared.Cell.{Cell}
 use Rattle.queue.specs.declared.Entry.{Entry}
@@ -68,17 +69,18 @@ named s c = getD (s .names) c 0
 
 -- ---- an offer
 
+-- "the queue has an order of its own: magnitude, then positive first, then larger cell" (document 02, §8): an entry has its distance's key
 abbrev pub entry : Float → ℕ → ℕ → Entry
-entry d c k = record { distance = toBits binary32 d; cell = c; triangle = k }
+entry d c k = record { distance = keyOf d; cell = c; triangle = k }
 
 -- cell c takes triangle k, which is d away
 abbrev pub takes : ℕ → ℕ → Float → State → State
 takes c k d s = record { field = set (s .field) c d; names = set (s .names) c k; waiting = s .waiting; pops = s .pops; peak = s .peak }
 
--- Triangle k, d away, is offered to cell c: "takes the triangle if its distance is smaller than what it holds". Refusal 6, "a distance
--- met in seeding or spreading is NaN", is tested at each distance. `also` is what else a cell does that takes the triangle.
+-- Triangle k, d away, is offered to cell c: "takes the triangle if its distance is smaller than what it holds", by "`compare_distances` in
+-- full". Refusal 6, "a distance met in seeding or spreading is NaN", is tested at each distance. `also` is what else a cell does that takes it.
 unfoldable pub offerAt : (Entry → State → Turn State) → ℕ → ℕ → Float → State → Turn State
-offerAt also k c d s = if isNan d then refuses 6 else if d ≺ held s c then also (entry d c k) (takes c k d s) else goes s
+offerAt also k c d s = if isNan d then refuses 6 else if nearer d (held s c) then also (entry d c k) (takes c k d s) else goes s
 
 unfoldable pub offer : RunInput → (Entry → State → Turn State) → ℕ → ℕ → State → Turn State
 offer g also k c s = offerAt also k c (g .distance k c) s

@@ -1,0 +1,2 @@
+-- what crates above cite
+pub mod Laws
