@@ -7,10 +7,11 @@ use mathlib.Core.Path.{_≡_, refl, sym, ap, _∙_, subst}
 use mathlib.Core.Bool.{Bool, true, false}
 use mathlib.Core.List.{List, [], _∷_}
 use lib.ListN.{length, getD}
-use lib.Ieee.{Float, nan, isNan}
+use lib.Ieee.{Float, nan}
 use borrow.Author.Tests.{ltb-true, eq-eqb, ne-eqb}
 use Rattle.float.specs.Arith.{if_then_else_}
-use Rattle.float.specs.RootOf.{rootOf}
+use Rattle.float_shortcut.specs.Shown.{signedRoot}
+use Rattle.terms.specs.declared.SignMethod.{SignMethod}
 use Rattle.point.specs.declared.Axis.{Axis}
 use Rattle.point.specs.declared.Axis.the-variants.{X, Y, Z}
 use Rattle.lists.specs.Table.{table}
@@ -25,9 +26,9 @@ use Rattle.grid.proofs.Laws.{index-below, cell-of-index, cell-within}
 use Rattle.grid.proofs.Facts.{each, bounds-of}
 use Rattle.geo_closest.specs.declared.Facet.{Facet}
 use Rattle.geo_closest.specs.Closest.{facetOf}
-use Rattle.geo_distance.specs.Distance.{squaredOn, distanceOn}
-use Rattle.geo_squares.specs.Squares.{Squares}
-use Rattle.geo_distance.proofs.Laws.{nan-alike}
+use Rattle.geo_squares.specs.Squares.{Values}
+use Rattle.geo_measure.specs.Measured.{measured, squaredBy}
+use Rattle.geo_measure.proofs.Laws.{measured-root}
 use Rattle.mesh.specs.Mesh.{Mesh, trianglesIn, cornersAt}
 use Rattle.queue.specs.declared.Entry.{Entry}
 use Rattle.run.specs.Run.{Place, off, at, none}
@@ -181,18 +182,18 @@ spot-cell g c s i b w e = record { below = found .0; cell-is = found .1 }
     found : (i < total g) × (cellAt g i ≡ spotOf g c s .cell)
     found = go (stays g c s) (next-inside g c s w) e
 
--- ---- the squared distances
+-- ---- the signed squares
 
 -- what is gathered is 27 long
 pub gathered-long : {g : Grid} {c : Cell} {to : List ℕ} {xs ys zs : List Float} → Gathered g c to xs ys zs → (length xs ≡ 27) × (length ys ≡ 27) × (length zs ≡ 27)
 gathered-long p = (ap length (p .on-x) ∙ length-table _ 27, ap length (p .on-y) ∙ length-table _ 27, ap length (p .on-z) ∙ length-table _ 27)
 
 -- what is gathered, and the squares of it
-pub looked : (g : Grid) (m : Mesh) (e : Entry) {d : Cell} {to : List ℕ} {xs ys zs out : List Float} {f : Facet} → inBounds g ≡ true → Known (total g) (length (trianglesIn m)) e
+pub looked : (g : Grid) (m : Mesh) (sign : SignMethod) (e : Entry) {d : Cell} {to : List ℕ} {xs ys zs out : List Float} {f : Facet} → inBounds g ≡ true → Known (total g) (length (trianglesIn m)) e
     → f ≡ facetOf (cornersAt m (e .triangle) .a) (cornersAt m (e .triangle) .b) (cornersAt m (e .triangle) .c)
-    → d ≡ cellAt g (e .cell) → Gathered g d to xs ys zs → Squares f xs ys zs out → Around g m e to out
+    → d ≡ cellAt g (e .cell) → Gathered g d to xs ys zs → Values (squaredBy sign f) xs ys zs out → Around g m sign e to out
 unfolding aroundCell distanceFrom
-looked g m e {d} {to} {xs} {ys} {zs} {out} {f} b k w z p₀ q =
+looked g m sign e {d} {to} {xs} {ys} {zs} {out} {f} b k w z p₀ q =
     record {
       to-long = ap length (p .leads) ∙ length-table (λ j. spotOf g c (stepAt j) .index) 27;
       squares-long = q .long ∙ long;
@@ -201,10 +202,10 @@ looked g m e {d} {to} {xs} {ys} {zs} {out} {f} b k w z p₀ q =
           record {
             below = λ i l. found j h i l .below;
             root = λ i l.
-                ap rootOf (square j h)
-                ∙ ap (λ (d : Cell). distanceOn f (centreOf g d)) (sym (found j h i l .cell-is))
-                ∙ ap (λ (v : Facet). distanceOn v (centreOf g (cellAt g i))) w;
-            alike = ap (λ v. isNan (rootOf v)) (square j h) ∙ nan-alike f (centreOf g (spotOf g c (stepAt j) .cell)) ∙ ap isNan (sym (square j h));
+                ap signedRoot (square j h)
+                ∙ measured-root sign f (centreOf g (spotOf g c (stepAt j) .cell))
+                ∙ ap (λ (d : Cell). measured sign f (centreOf g d)) (sym (found j h i l .cell-is))
+                ∙ ap (λ (v : Facet). measured sign v (centreOf g (cellAt g i))) w;
           };
     }
   where
@@ -235,5 +236,5 @@ looked g m e {d} {to} {xs} {ys} {zs} {out} {f} b k w z p₀ q =
     z-at : (j : ℕ) → j < 27 → getD zs j nan ≡ centreOf g (spotOf g c (stepAt j) .cell) .z
     z-at j h = ap (λ (l : List Float). getD l j nan) (p .on-z) ∙ table-at (λ j. centreOf g (spotOf g c (stepAt j) .cell) .z) 27 j nan h
 
-    square : (j : ℕ) → j < 27 → getD out j nan ≡ squaredOn f (centreOf g (spotOf g c (stepAt j) .cell))
-    square j h = q .each j (subst (λ (n : ℕ). j < n) (sym long) h) ∙ λ i. squaredOn f (record { x = x-at j h i; y = y-at j h i; z = z-at j h i })
+    square : (j : ℕ) → j < 27 → getD out j nan ≡ squaredBy sign f (centreOf g (spotOf g c (stepAt j) .cell))
+    square j h = q .each j (subst (λ (n : ℕ). j < n) (sym long) h) ∙ λ i. squaredBy sign f (record { x = x-at j h i; y = y-at j h i; z = z-at j h i })

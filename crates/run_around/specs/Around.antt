@@ -1,15 +1,16 @@
 -- "offered to the cells around, itself included, by a fixed table of 27 steps" (document 01, "The run", 3): the table in numbers, where
--- its steps lead, and the squared distances there. Definitions only.
+-- its steps lead, and the signed squares there. Definitions only.
 use Prim.Native.Nat.{ℕ, zero, suc, _+_, _*_, _/_, _%_, _<_}
 use mathlib.Core.Path.{_≡_}
 use mathlib.Core.List.{List, map}
 use lib.Dec.{eqb}
 use lib.ListN.{length, getD}
-use lib.Ieee.{Float, nan, isNan}
+use lib.Ieee.{Float, nan}
 use Rattle.float.specs.Arith.{if_then_else_}
-use Rattle.float.specs.RootOf.{rootOf}
+use Rattle.float_shortcut.specs.Shown.{signedRoot}
 use Rattle.lists.specs.Table.{table}
 use Rattle.lists.specs.Turns.{Turn, goes, turns}
+use Rattle.terms.specs.declared.SignMethod.{SignMethod}
 use Rattle.grid.specs.declared.Grid.{Grid}
 use Rattle.grid.specs.declared.Cell.{Cell}
 use Rattle.grid.specs.Axes.{countOn, cellOn, cellBy, onEvery}
@@ -65,20 +66,19 @@ pub record Gathered (g : Grid) (c : Cell) (to : List ℕ) (xs ys zs : List Float
   pub on-y : ys ≡ table (λ j. centreOf g (spotOf g c (stepAt j) .cell) .y) 27
   pub on-z : zs ≡ table (λ j. centreOf g (spotOf g c (stepAt j) .cell) .z) 27
 
--- ---- the squared distances there
+-- ---- the signed squares there
 
--- a step leads nowhere, or to a cell from which triangle k is as far as the root of q
-pub record StepNear (g : Grid) (m : Mesh) (k to : ℕ) (q : Float) : Type 0 where
+-- a step leads nowhere, or to a cell from which triangle k is as far as the signed root of q
+pub record StepNear (g : Grid) (m : Mesh) (sign : SignMethod) (k to : ℕ) (q : Float) : Type 0 where
   pub below : (c : ℕ) → placeOf to ≡ at c → c < total g
-  pub root : (c : ℕ) → placeOf to ≡ at c → rootOf q ≡ distanceFrom g (cornersAt m k) (cellAt g c)
-  pub alike : isNan (rootOf q) ≡ isNan q
+  pub root : (c : ℕ) → placeOf to ≡ at c → signedRoot q ≡ distanceFrom sign g (cornersAt m k) (cellAt g c)
 
 -- the same of all steps from the cell of an entry, for its triangle
-pub record Around (g : Grid) (m : Mesh) (e : Entry) (to : List ℕ) (squares : List Float) : Type 0 where
+pub record Around (g : Grid) (m : Mesh) (sign : SignMethod) (e : Entry) (to : List ℕ) (squares : List Float) : Type 0 where
   pub to-long : length to ≡ 27
   pub squares-long : length squares ≡ 27
   pub leads : (j : ℕ) → j < 27 → placeOf (getD to j 0) ≡ aroundCell g (e .cell) j
-  pub near : (j : ℕ) → j < 27 → StepNear g m (e .triangle) (getD to j 0) (getD squares j nan)
+  pub near : (j : ℕ) → j < 27 → StepNear g m sign (e .triangle) (getD to j 0) (getD squares j nan)
 
 -- ---- the offers there
 
@@ -89,16 +89,15 @@ offerPlace also k (at c) d s = offerAt also k c d s
 
 -- triangle k is offered to where each step leads, one after another
 abbrev pub offerAll : (Entry → State → Turn State) → ℕ → List ℕ → List Float → State → Turn State
-offerAll also k to squares s = turns (λ j. offerPlace also k (placeOf (getD to j 0)) (rootOf (getD squares j nan))) 27 s
+offerAll also k to squares s = turns (λ j. offerPlace also k (placeOf (getD to j 0)) (signedRoot (getD squares j nan))) 27 s
 
 -- where the index is one of a cell, it is below the lengths
-pub record Passable (to : ℕ) (q : Float) (field : List Float) (names : List ℕ) : Type 0 where
+pub record Passable (to : ℕ) (field : List Float) (names : List ℕ) : Type 0 where
   pub below : (to ≡ none → ⊥) → to < length field
-  pub alike : isNan (rootOf q) ≡ isNan q
   pub even : length names ≡ length field
 
 -- so it is of each of the 27 places
 pub record PlacesFit (to : List ℕ) (squares : List Float) (field : List Float) (names : List ℕ) : Type 0 where
   pub to-long : length to ≡ 27
   pub squares-long : length squares ≡ 27
-  pub each : (j : ℕ) → j < 27 → Passable (getD to j 0) (getD squares j nan) field names
+  pub each : (j : ℕ) → j < 27 → Passable (getD to j 0) field names

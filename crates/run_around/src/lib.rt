@@ -1,10 +1,11 @@
-// The cells around a cell: where the 27 steps lead from it, and how far the cells there are from a
-// triangle, squared (document 01, "The run", 3). A part of the port: users call `sdf`.
+// The cells around a cell: where the 27 steps lead from it, and the signed squares of a triangle's
+// distance from there (document 01, "The run", 3). A part of the port: users call `sdf`.
 use grid::Cell;
 use grid::Grid;
 use mesh_topology::Indices;
 use mesh_topology::Topology;
 use queue::Entry;
+use terms::SignMethod;
 ghost use mathlib.Core.Path.{_≡_};
 ghost use mathlib.Core.Bool.{true};
 ghost use Prim.Native.Nat.{_<_};
@@ -140,13 +141,14 @@ fn gather(
     }
 }
 
-// Where each step leads from the cell of e, and the squared distance there of the triangle of e.
+// Where each step leads from the cell of e, and the signed square there of the triangle of e.
 pub fn look_around(
     grid: Grid,
     vertices: &[f32],
     topology: Topology,
     given: Indices,
     indices: &[u32],
+    sign: SignMethod,
     steps: &[u16],
     e: Entry,
     to: &mut [u32],
@@ -157,7 +159,7 @@ pub fn look_around(
     requires { ⌜ (now steps ≡ codes Steps.steps) × (length (now to) ≡ 27) × (length (now squares) ≡ 27) ⌝ }
     ensures { λ _.
         let m = meshOf (now (vertices .entry)) topology given (now (indices .entry)) in
-        ⌜ Around grid m e (now (to .exit)) (now (squares .exit)) ⌝ }
+        ⌜ Around grid m sign e (now (to .exit)) (now (squares .exit)) ⌝ }
 {
     let t = mesh::corners_at(vertices, topology, given, indices, e.triangle as usize);
     let facet = geo_closest::facet_of(t.a, t.b, t.c);
@@ -166,5 +168,5 @@ pub fn look_around(
     let mut zs = [0.0f32; 27];
     let cell = grid::parts::get_cell_integer_coordinates(grid, e.cell);
     gather(grid, cell, steps, to, &mut xs, &mut ys, &mut zs);
-    geo_squares::squares_on(facet, &xs, &ys, &zs, squares);
+    geo_measure::squares_by(sign, facet, &xs, &ys, &zs, squares);
 }

@@ -17,12 +17,14 @@ use grid::Grid;
 use mesh::Corners;
 use mesh_topology::Indices;
 use mesh_topology::Topology;
+use terms::SignMethod;
 
 // To the cells of a box that have one x.
 fn seed_plane(
     field: &mut [f32],
     names: &mut [u32],
     grid: Grid,
+    sign: SignMethod,
     f: Facet,
     k: u32,
     x: u32,
@@ -34,14 +36,14 @@ fn seed_plane(
     ensures { λ r.
         let s = seedState (now (field .entry)) (now (names .entry)) in
         let t = seedState (now (field .exit)) (now (names .exit)) in
-        ⌜ alongPlane grid f k x low high s ≡ told r t ⌝ }
+        ⌜ alongPlane grid sign f k x low high s ≡ told r t ⌝ }
 {
     let lo = low.z;
     let hi = high.z;
     let last = high.y;
     let mut y = low.y;
     while y <= last {
-        let r = run_seed_line::seed_line(field, names, grid, f, k, x, y, lo, hi);
+        let r = run_seed_line::seed_line(field, names, grid, sign, f, k, x, y, lo, hi);
         if r != 0 {
             return r;
         }
@@ -55,6 +57,7 @@ fn seed_box(
     field: &mut [f32],
     names: &mut [u32],
     grid: Grid,
+    sign: SignMethod,
     f: Facet,
     k: u32,
     low: Cell,
@@ -65,12 +68,12 @@ fn seed_box(
     ensures { λ r.
         let s = seedState (now (field .entry)) (now (names .entry)) in
         let t = seedState (now (field .exit)) (now (names .exit)) in
-        ⌜ alongBox grid f k low high s ≡ told r t ⌝ }
+        ⌜ alongBox grid sign f k low high s ≡ told r t ⌝ }
 {
     let last = high.x;
     let mut x = low.x;
     while x <= last {
-        let r = seed_plane(field, names, grid, f, k, x, low, high);
+        let r = seed_plane(field, names, grid, sign, f, k, x, low, high);
         if r != 0 {
             return r;
         }
@@ -80,19 +83,26 @@ fn seed_box(
 }
 
 // Offers triangle k, by its corners, to the cells of its snapped box.
-fn seed_triangle(field: &mut [f32], names: &mut [u32], grid: Grid, corners: Corners, k: u32) -> u32
+fn seed_triangle(
+    field: &mut [f32],
+    names: &mut [u32],
+    grid: Grid,
+    sign: SignMethod,
+    corners: Corners,
+    k: u32,
+) -> u32
     requires { ⌜ inBounds grid ≡ true ⌝ }
     requires { ⌜ (length (now field) ≡ total grid) × (length (now names) ≡ total grid) ⌝ }
     ensures { λ r.
         let s = seedState (now (field .entry)) (now (names .entry)) in
         let t = seedState (now (field .exit)) (now (names .exit)) in
-        ⌜ overBox grid corners k s ≡ told r t ⌝ }
+        ⌜ overBox grid sign corners k s ≡ told r t ⌝ }
 {
     let b = geo_box::triangle_bounding_box(corners.a, corners.b, corners.c);
     let low = run_seed_box::first_of(grid, b.low);
     let high = run_seed_box::last_of(grid, b.high);
     let f = geo_closest::facet_of(corners.a, corners.b, corners.c);
-    seed_box(field, names, grid, f, k, low, high)
+    seed_box(field, names, grid, sign, f, k, low, high)
 }
 
 // Offers every triangle, in order. Tells 6 where a distance is a NaN.
@@ -104,6 +114,7 @@ pub fn seed(
     topology: Topology,
     given: Indices,
     indices: &[u32],
+    sign: SignMethod,
 ) -> u32
     requires { ⌜ inBounds grid ≡ true ⌝ }
     requires { ⌜ (length (now field) ≡ total grid) × (length (now names) ≡ total grid) ⌝ }
@@ -113,13 +124,13 @@ pub fn seed(
         let m = meshOf (now (vertices .entry)) topology given (now (indices .entry)) in
         let s = seedState (now (field .entry)) (now (names .entry)) in
         let t = seedState (now (field .exit)) (now (names .exit)) in
-        ⌜ turns (overTriangle grid m) (length (trianglesIn m)) s ≡ told r t ⌝ }
+        ⌜ turns (overTriangle grid m sign) (length (trianglesIn m)) s ≡ told r t ⌝ }
 {
     let n = mesh::triangle_count(vertices, topology, given, indices);
     let mut k = 0;
     while k < n {
         let corners = mesh::corners_at(vertices, topology, given, indices, k);
-        let r = seed_triangle(field, names, grid, corners, k as u32);
+        let r = seed_triangle(field, names, grid, sign, corners, k as u32);
         if r != 0 {
             return r;
         }

@@ -3,32 +3,30 @@
 ghost use mathlib.Core.Path.{_≡_};
 ghost use Prim.Native.Nat.{_<_};
 ghost use lib.ListN.{length};
-ghost use lib.Ieee.{isNan};
-ghost use Rattle.float.specs.RootOf.{rootOf};
+ghost use Rattle.float_shortcut.specs.Shown.{signedRoot};
 ghost use Rattle.lists.specs.Turns.{told};
 ghost use Rattle.run.specs.Run.{offerAt, nothingElse};
 ghost use Rattle.run_seed_cells.specs.Parts.{seedState};
 
-// Offers triangle k, whose squared distance is q, to cell c, which takes it if it is nearer than what it
-// holds. Tells 6 where the distance is a NaN, which it is where q is.
+// Offers triangle k, whose signed square is q, to cell c, which takes it if it is nearer than what it holds.
+// Tells 6 where the distance is a NaN, which it is where q is.
 pub fn offer(field: &mut [f32], names: &mut [u32], c: usize, k: u32, q: f32) -> u32
     requires { ⌜ (c < length (now field)) × (c < length (now names)) ⌝ }
-    requires { ⌜ isNan (rootOf q) ≡ isNan q ⌝ }
     ensures { λ r.
         let s = seedState (now (field .entry)) (now (names .entry)) in
         let t = seedState (now (field .exit)) (now (names .exit)) in
-        ⌜ offerAt nothingElse k c (rootOf q) s ≡ told r t ⌝ }
+        ⌜ offerAt nothingElse k c (signedRoot q) s ≡ told r t ⌝ }
 {
     if q != q {
         return 6;
     }
     let held = field[c];
-    let far = float_shortcut::root_not_below(q, held);
+    let far = float_shortcut::not_nearer(q, held);
     if far {
         return 0;
     }
-    let d = float_root::sqrt(q);
-    if d < held {
+    let d = float_shortcut::signed_root(q);
+    if float_order::is_nearer(d, held) {
         field[c] = d;
         names[c] = k;
         return 0;

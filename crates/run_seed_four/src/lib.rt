@@ -2,6 +2,7 @@
 use geo_closest::Facet;
 use grid::Cell;
 use grid::Grid;
+use terms::SignMethod;
 ghost use mathlib.Core.Path.{_≡_};
 ghost use mathlib.Core.Bool.{true};
 ghost use Prim.Native.Nat.{_+_, _≤_, _<_};
@@ -13,11 +14,11 @@ ghost use Rattle.grid.specs.Bounds.{inBounds};
 ghost use Rattle.run_seed_cells.specs.Parts.{seedState, alongLine};
 ghost use Rattle.run_seed_four.specs.Four.{SquaresFrom};
 
-// The squared distances of f from the centres of four cells: `at` and the three behind it along z, which need not
+// The signed squares of f from the centres of four cells: `at` and the three behind it along z, which need not
 // be on the grid. Four are worked out with no branch in little more time than one.
-fn squares_from(grid: Grid, f: Facet, at: Cell) -> [f32; 4]
+fn squares_from(grid: Grid, sign: SignMethod, f: Facet, at: Cell) -> [f32; 4]
     requires { ⌜ (inBounds grid ≡ true) × Inside grid at ⌝ }
-    ensures { λ r. ⌜ SquaresFrom grid f at r ⌝ }
+    ensures { λ r. ⌜ SquaresFrom grid sign f at r ⌝ }
 {
     let p = grid::parts::get_cell_center(grid, at);
     let first = grid.first_cell.z;
@@ -31,7 +32,7 @@ fn squares_from(grid: Grid, f: Facet, at: Cell) -> [f32; 4]
         grid_axis::centre_on(first, size, at.z + 3),
     ];
     let mut squares = [0.0f32; 4];
-    geo_squares::squares_on(f, &xs, &ys, &zs, &mut squares);
+    geo_measure::squares_by(sign, f, &xs, &ys, &zs, &mut squares);
     squares
 }
 
@@ -40,6 +41,7 @@ pub fn offer_four(
     field: &mut [f32],
     names: &mut [u32],
     grid: Grid,
+    sign: SignMethod,
     f: Facet,
     k: u32,
     at: Cell,
@@ -51,9 +53,9 @@ pub fn offer_four(
     ensures { λ r.
         let s = seedState (now (field .entry)) (now (names .entry)) in
         let t = seedState (now (field .exit)) (now (names .exit)) in
-        ⌜ alongLine grid f k (at .x) (at .y) (at .z) last s ≡ told r t ⌝ }
+        ⌜ alongLine grid sign f k (at .x) (at .y) (at .z) last s ≡ told r t ⌝ }
 {
-    let squares = squares_from(grid, f, at);
+    let squares = squares_from(grid, sign, f, at);
     let c = grid::parts::get_cell_idx(grid, at) as usize;
     let n = (last - at.z) as usize;
     let mut i = 0;

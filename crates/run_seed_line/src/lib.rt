@@ -12,6 +12,7 @@ ghost use Rattle.run_seed_cells.specs.Parts.{seedState, alongLine};
 use geo_closest::Facet;
 use grid::Cell;
 use grid::Grid;
+use terms::SignMethod;
 
 // Where the four cells from z on end, and no further than hi.
 fn last_of_four(z: u32, hi: u32) -> u32
@@ -26,6 +27,7 @@ pub fn seed_line(
     field: &mut [f32],
     names: &mut [u32],
     grid: Grid,
+    sign: SignMethod,
     f: Facet,
     k: u32,
     x: u32,
@@ -38,7 +40,7 @@ pub fn seed_line(
     ensures { λ r.
         let s = seedState (now (field .entry)) (now (names .entry)) in
         let t = seedState (now (field .exit)) (now (names .exit)) in
-        ⌜ alongLine grid f k x y lo hi s ≡ told r t ⌝ }
+        ⌜ alongLine grid sign f k x y lo hi s ≡ told r t ⌝ }
 {
     let mut z = lo;
     while z <= hi {
@@ -47,6 +49,7 @@ pub fn seed_line(
             field,
             names,
             grid,
+            sign,
             f,
             k,
             Cell { x: x, y: y, z: z },

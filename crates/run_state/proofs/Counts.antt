@@ -9,6 +9,7 @@ use lib.Dec.{ltb}
 use lib.ListN.{length}
 use lib.Ieee.{isNan}
 use Rattle.float.specs.Arith.{_≺_, fMax}
+use Rattle.float_order.specs.Nearer.{nearer}
 use Rattle.lists.specs.Turns.{Turn, goes, refuses}
 use Rattle.lists.proofs.Turns.{turns-keep, then-went}
 use Rattle.queue.specs.declared.Entry.{Entry}
@@ -49,7 +50,7 @@ unfolding spreadTo offer offerAt
 to-counts g e off s = if-goes s refl
 to-counts g e (at c) s =
     let d = g .distance (e .triangle) c in
-    either (isNan d) _ _ (if-refuses 6) (either (d ≺ held s c) _ _ (queue-counts g _ (takes c (e .triangle) d s)) (if-goes s refl))
+    either (isNan d) _ _ (if-refuses 6) (either (nearer d (held s c)) _ _ (queue-counts g _ (takes c (e .triangle) d s)) (if-goes s refl))
 
 around-counts : (g : RunInput) (e : Entry) (s : State) → Counts (s .pops) (spreadAround g e s)
 unfolding spreadAround

@@ -9,6 +9,7 @@ use lib.ListN.{length}
 use lib.Ieee.{Float}
 use Rattle.lists.specs.Turns.{Turn, goes, told}
 use Rattle.lists.proofs.Turns.{told-goes, told-any}
+use Rattle.terms.specs.declared.SignMethod.{SignMethod}
 use Rattle.grid.specs.declared.Grid.{Grid}
 use Rattle.grid.specs.Index.{total}
 use Rattle.grid.proofs.Facts.{bounds-of, on-axis}
@@ -51,12 +52,12 @@ told-of m field names ds cs ts r a = go (ℕ-discrete (r .number) 0)
         (same-waiting (agree-back (agrees m)) ds cs ts (r .waiting) (a z))
     go (no z) = told-any (r .number) _ _ z
 
-module _ {g : Grid} {m : Mesh} (fit : Fit g m) (room any : ℕ) where
+module _ {g : Grid} {m : Mesh} (fit : Fit g m) (sign : SignMethod) (room any : ℕ) where
   abbrev G : RunInput
-  G = runInput g m room any
+  G = runInput g m sign room any
 
   pub fair : Fair G
-  fair = fair-input g m room any (λ a. on-axis (bounds-of g (fit .ready .bounded)) a .some) (omega (arith, fit .few))
+  fair = fair-input g m sign room any (λ a. on-axis (bounds-of g (fit .ready .bounded)) a .some) (omega (arith, fit .few))
 
   goes-by : Agree (G .goesFirst) byKeys
   unfolding runInput

@@ -7,6 +7,7 @@ use mathlib.Core.List.{List}
 use lib.ListN.{length}
 use lib.Ieee.{Float}
 use Rattle.lists.specs.Turns.{Turn, turns, told}
+use Rattle.terms.specs.declared.SignMethod.{SignMethod}
 use Rattle.grid.specs.declared.Grid.{Grid}
 use Rattle.grid.specs.Index.{total}
 use Rattle.grid.specs.Bounds.{inBounds}
@@ -57,8 +58,8 @@ pub record Holds (g : Grid) (field : List Float) (names ds cs ts : List ℕ) (n 
   pub held : Held byKeys ds cs ts n
 
 -- and with the counts they hold a state of the run: what is true of every such state is true of it, whatever the pop limit
-pub record GoodIn (g : Grid) (m : Mesh) (field : List Float) (names ds cs ts : List ℕ) (p : Progress) : Type 0 where
-  pub good : (any : ℕ) → Good (runInput g m (length ds) any) (stateOf (orderIn m) field names ds cs ts p)
+pub record GoodIn (g : Grid) (m : Mesh) (sign : SignMethod) (field : List Float) (names ds cs ts : List ℕ) (p : Progress) : Type 0 where
+  pub good : (any : ℕ) → Good (runInput g m sign (length ds) any) (stateOf (orderIn m) field names ds cs ts p)
 
 -- the slices where a run has ended: nothing waits unless it was refused
 pub record Ran (g : Grid) (field : List Float) (names ds cs ts : List ℕ) (p : Progress) : Type 0 where
@@ -70,10 +71,10 @@ pub record Ran (g : Grid) (field : List Float) (names ds cs ts : List ℕ) (p : 
 -- A turn of the run over what is lent: the slices, which held field to ts and the counts at, hold in the end field′ to ts′ and r, which
 -- is what the turn leaves, or it was refused. On a refusal the number alone says what the run came to. The input's pop limit is any:
 -- no turn asks for it.
-pub record Told (g : Grid) (m : Mesh) (turn : RunInput → State → Turn State)
+pub record Told (g : Grid) (m : Mesh) (sign : SignMethod) (turn : RunInput → State → Turn State)
     (field : List Float) (names ds cs ts : List ℕ) (at : Progress) (field′ : List Float) (names′ ds′ cs′ ts′ : List ℕ) (r : Progress) : Type 0 where
   pub holds : Holds g field′ names′ ds′ cs′ ts′ (r .waiting)
-  pub is : (any : ℕ) → turn (runInput g m (length ds) any) (stateOf (orderIn m) field names ds cs ts at) ≡ told (r .number) (stateOf (orderIn m) field′ names′ ds′ cs′ ts′ r)
+  pub is : (any : ℕ) → turn (runInput g m sign (length ds) any) (stateOf (orderIn m) field names ds cs ts at) ≡ told (r .number) (stateOf (orderIn m) field′ names′ ds′ cs′ ts′ r)
 
 -- The same of a turn that looks at nothing of the grid and the mesh: over every input of that room whose entries go by keys. In the run
 -- of a job they go by all three keys, which comes to the same (proofs/Keys.antt).

@@ -20,7 +20,7 @@ entry c = c .before .before .before .before .before .before .before .before
 abbrev located : tie.After-zs → tie.After-get-cell-integer-coordinates
 located c = c .before .before .before .before
 
-abbrev gathered : tie.After-squares-on-arg → tie.After-gather
+abbrev gathered : tie.After-squares-by-arg → tie.After-gather
 gathered c = c .before .before .before .before .before .before .before .before .before
 
 inside : (l : tie.After-get-cell-integer-coordinates) → Inside (entry (l .before) .args .grid) (l .get-cell-integer-coordinates .result)
@@ -31,8 +31,8 @@ gather-requires c κs =
     let s = entry (located c .before) in
     ((s .pre .0 .bounded, inside (located c), s .pre .1 .1 .0), (s .pre .1 .1 .1, refl, refl, refl))
 
-squares-on-requires : tie.Need-squares-on-requires
-squares-on-requires c κs =
+squares-by-requires : tie.Need-squares-by-requires
+squares-by-requires c κs =
     let s = entry (located (gathered c .before) .before) in
     let l = gathered-long (gathered c .gather .ensures) in
     (l .1 ∙ sym (l .0), l .2 ∙ sym (l .0), s .pre .1 .1 .2 ∙ sym (l .0))
@@ -44,14 +44,14 @@ returns c =
     let l = located (g .before) in
     let f = l .before in
     let s = entry f in
-    looked (s .args .grid) (mesh s) (s .args .e) (s .pre .0 .bounded) (s .pre .1 .0)
+    looked (s .args .grid) (mesh s) (s .args .sign) (s .args .e) (s .pre .0 .bounded) (s .pre .1 .0)
     (f .facet-of .ensures ∙ ap (λ (t : Corners). facetOf (t .a) (t .b) (t .c)) (f .before .corners-at .ensures))
-    (l .get-cell-integer-coordinates .ensures) (g .gather .ensures) (squared .squares-on .ensures)
+    (l .get-cell-integer-coordinates .ensures) (g .gather .ensures) (squared .squares-by .ensures)
 
 pub look-around-spec : {M : Type 1} → statement M
 look-around-spec =
     tie.close (tie.spec
     (λ c. search needs) (λ c κs. search needs) (λ c κs. search needs) (λ c κs. entry c .pre .0 .bounded)
     (λ c. search needs) (λ c. search needs) (λ c. search needs) gather-requires
-    (λ c. search needs) (λ c. search needs) (λ c. search needs) squares-on-requires
+    (λ c. search needs) (λ c. search needs) (λ c. search needs) squares-by-requires
     (λ c. search needs) (λ c. search needs) returns)

@@ -12,15 +12,15 @@ use Rattle.run_seed.proofs.seed.Statement.{statement}
 use Rattle.run_seed.proofs.seed.Tie as tie
 
 abbrev Inv-loop : tie.InvT-loop
-Inv-loop field₀ names₀ grid vertices topology given indices n k₀ field names k =
+Inv-loop field₀ names₀ grid vertices topology given indices sign n k₀ field names k =
     (k ≤ n)
     × (n ≡ length (trianglesIn (meshOf vertices topology given indices)))
     × (length field ≡ length field₀)
     × (length names ≡ length names₀)
-    × (turns (overTriangle grid (meshOf vertices topology given indices)) k (seedState field₀ names₀) ≡ goes (seedState field names))
+    × (turns (overTriangle grid (meshOf vertices topology given indices) sign) k (seedState field₀ names₀) ≡ goes (seedState field names))
 
 abbrev μ-loop : tie.MeasureT-loop
-μ-loop field₀ names₀ grid vertices topology given indices n k₀ field names k = n - k
+μ-loop field₀ names₀ grid vertices topology given indices sign n k₀ field names k = n - k
 
 abbrev entry : tie.At-loop Inv-loop μ-loop → tie.Start Inv-loop μ-loop
 entry l = l .before .before .before .before .before .before
@@ -48,7 +48,7 @@ turned : (c : tie.After-seed-triangle Inv-loop μ-loop) →
     let a = c .before .before .before in
     let l = a .before .before in
     let s = entry l in
-    overTriangle (s .args .grid) (meshOf (s .args .vertices .now) (s .args .topology) (s .args .given) (s .args .indices .now)) (l .loop .k) (seedState (l .loop .field) (l .loop .names))
+    overTriangle (s .args .grid) (meshOf (s .args .vertices .now) (s .args .topology) (s .args .given) (s .args .indices .now)) (s .args .sign) (l .loop .k) (seedState (l .loop .field) (l .loop .names))
     ≡ told (c .seed-triangle .result) (seedState (c .seed-triangle .last .0) (c .seed-triangle .last .1 .0))
 unfolding overTriangle
 turned c = rw (c .before .before .before .corners-at .ensures) at (c .seed-triangle .ensures)

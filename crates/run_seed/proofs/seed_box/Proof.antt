@@ -9,10 +9,10 @@ use Rattle.run_seed.proofs.seed_box.Statement.{statement}
 use Rattle.run_seed.proofs.seed_box.Tie as tie
 
 abbrev Inv-loop : tie.InvT-loop
-Inv-loop field₀ names₀ grid f k low high last x₀ field names x = Along (λ x. alongPlane grid f k x low high) x₀ last field₀ names₀ field names x
+Inv-loop field₀ names₀ grid sign f k low high last x₀ field names x = Along (λ x. alongPlane grid sign f k x low high) x₀ last field₀ names₀ field names x
 
 abbrev μ-loop : tie.MeasureT-loop
-μ-loop field₀ names₀ grid f k low high last x₀ field names x = last + 1 - x
+μ-loop field₀ names₀ grid sign f k low high last x₀ field names x = last + 1 - x
 
 -- the function's entry, from the loop's head; and this, from behind the call
 abbrev entry : tie.At-loop Inv-loop μ-loop → tie.Start Inv-loop μ-loop

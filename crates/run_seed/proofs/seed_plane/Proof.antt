@@ -9,10 +9,10 @@ use Rattle.run_seed.proofs.seed_plane.Statement.{statement}
 use Rattle.run_seed.proofs.seed_plane.Tie as tie
 
 abbrev Inv-loop : tie.InvT-loop
-Inv-loop field₀ names₀ grid f k x lo hi last y₀ field names y = Along (λ y. alongLine grid f k x y lo hi) y₀ last field₀ names₀ field names y
+Inv-loop field₀ names₀ grid sign f k x lo hi last y₀ field names y = Along (λ y. alongLine grid sign f k x y lo hi) y₀ last field₀ names₀ field names y
 
 abbrev μ-loop : tie.MeasureT-loop
-μ-loop field₀ names₀ grid f k x lo hi last y₀ field names y = last + 1 - y
+μ-loop field₀ names₀ grid sign f k x lo hi last y₀ field names y = last + 1 - y
 
 -- the function's entry, from the loop's head; and this, from behind the call
 abbrev entry : tie.At-loop Inv-loop μ-loop → tie.Start Inv-loop μ-loop

@@ -8,7 +8,7 @@ use Rattle.lists.proofs.Turns.{turns-none, turns-on, turns-stop, turns-end}
 use Rattle.grid.specs.Index.{Inside, total}
 use Rattle.grid.proofs.Laws.{index-below}
 use Rattle.run_seed_cells.specs.Parts.{seedState, alongLine}
-use Rattle.run_seed_four.proofs.Fours.{inRow, index-behind, inside-behind, alike, row-is-line}
+use Rattle.run_seed_four.proofs.Fours.{inRow, index-behind, inside-behind, row-is-line}
 use Rattle.run_seed_four.proofs.offer_four.Statement.{statement}
 use Rattle.run_seed_four.proofs.offer_four.Tie as tie
 
@@ -53,19 +53,19 @@ below c =
     let a = s .args in
     let e = index-behind (a .grid) (a .at) _ (l .loop .i) (found l .get-cell-idx .ensures) in
     let behind : a .at .z + l .loop .i ≤ a .last = omega (arith, c .loop-test .taken, s .pre .0 .2) in
-    omega (arith, e, index-below (inside-behind (a .grid) (a .f) (a .at) (a .last) (s .pre .0 .1) _ (squared l .squares-from .ensures) (l .loop .i) behind))
+    omega (arith, e, index-below (inside-behind (a .grid) (a .sign) (a .f) (a .at) (a .last) (s .pre .0 .1) _ (squared l .squares-from .ensures) (l .loop .i) behind))
 
 few : (c : tie.In-loop Inv-loop μ-loop) → c .before .loop .i < 4
 few c = let s = entry (c .before) in omega (arith, c .loop-test .taken, s .pre .0 .2, s .pre .0 .3)
 
 -- the offers in a row are those along the line
 line : (l : tie.At-loop Inv-loop μ-loop) → let a = entry l .args in let state = seedState (a .field .now) (a .names .now) in
-    alongLine (a .grid) (a .f) (a .k) (a .at .x) (a .at .y) (a .at .z) (a .last) state
+    alongLine (a .grid) (a .sign) (a .f) (a .k) (a .at .x) (a .at .y) (a .at .z) (a .last) state
     ≡ turns (inRow (a .k) (found l .get-cell-idx .result) (squared l .squares-from .result)) (a .last - a .at .z + 1) state
 line l =
     let s = entry l in
     let a = s .args in
-    row-is-line (a .grid) (a .f) (a .at) (a .last) (s .pre .0 .1) _ (squared l .squares-from .ensures) (a .k) _ _ _ (found l .get-cell-idx .ensures) refl
+    row-is-line (a .grid) (a .sign) (a .f) (a .at) (a .last) (s .pre .0 .1) _ (squared l .squares-from .ensures) (a .k) _ _ _ (found l .get-cell-idx .ensures) refl
     (s .pre .0 .2) (s .pre .0 .3)
 
 offer-requires : tie.Need-offer-requires Inv-loop μ-loop
@@ -73,10 +73,7 @@ offer-requires c κs =
     let turn : tie.In-loop Inv-loop μ-loop = search in
     let l = turn .before in
     let s = entry l in
-    let a = s .args in (
-      (omega (arith, below turn, l .loop .inv .1, s .pre .1 .0), omega (arith, below turn, l .loop .inv .2, s .pre .1 .1)),
-      alike (a .grid) (a .f) (a .at) (a .last) (s .pre .0 .1) _ (squared l .squares-from .ensures) (l .loop .i) (few turn),
-    )
+    (omega (arith, below turn, l .loop .inv .1, s .pre .1 .0), omega (arith, below turn, l .loop .inv .2, s .pre .1 .1))
 
 returns : tie.Need-returns Inv-loop μ-loop
 returns c =

@@ -1,4 +1,4 @@
--- `run_seed_four::squares_from`: the four points are the centres of the cells, so what `squares_on` tells of them is what is asked. Assumes
+-- `run_seed_four::squares_from`: the four points are the centres of the cells, so what `squares_by` tells of them is what is asked. Assumes
 -- nothing.
 use borrow.Author.Needs.{needs}
 use native.Mathlib.Omega.{arith}
@@ -39,7 +39,7 @@ returns c =
     let z₁ = z₂ .before .before in
     let p = z₁ .before .before in
     let s = p .before in
-    four (s .args .grid) (s .args .at) (p .get-cell-center .result) (p .get-cell-center .ensures) (s .args .f) _ _ _ _ (z₁ .centre-on .ensures) (z₂ .centre-on2 .ensures) (z₃ .centre-on3 .ensures) (q .squares-on .ensures)
+    four (s .args .grid) (s .args .at) (p .get-cell-center .result) (p .get-cell-center .ensures) (s .args .sign) (s .args .f) _ _ _ _ (z₁ .centre-on .ensures) (z₂ .centre-on2 .ensures) (z₃ .centre-on3 .ensures) (q .squares-by .ensures)
 
 pub squares-from-spec : {M : Type 1} → statement M
 squares-from-spec =

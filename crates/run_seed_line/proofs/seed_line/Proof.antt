@@ -11,10 +11,10 @@ use Rattle.run_seed_line.proofs.seed_line.Statement.{statement}
 use Rattle.run_seed_line.proofs.seed_line.Tie as tie
 
 abbrev Inv-loop : tie.InvT-loop
-Inv-loop field₀ names₀ grid f k x y lo hi z₀ field names z = Along (λ z. offerTo grid f k (indexOf grid (cellNumbered x y z))) lo hi field₀ names₀ field names z
+Inv-loop field₀ names₀ grid sign f k x y lo hi z₀ field names z = Along (λ z. offerTo grid sign f k (indexOf grid (cellNumbered x y z))) lo hi field₀ names₀ field names z
 
 abbrev μ-loop : tie.MeasureT-loop
-μ-loop field₀ names₀ grid f k x y lo hi z₀ field names z = hi + 1 - z
+μ-loop field₀ names₀ grid sign f k x y lo hi z₀ field names z = hi + 1 - z
 
 -- the function's entry, and where the four cells of a turn end
 abbrev entry : tie.At-loop Inv-loop μ-loop → tie.Start Inv-loop μ-loop
