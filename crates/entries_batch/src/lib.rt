@@ -9,8 +9,8 @@ ghost use Prim.Native.Nat.{_≤_, _<_};
 ghost use lib.ListN.{length};
 ghost use Rattle.entries_batch.specs.Batch.{entryIn, queuedBy, Cell};
 
-// The entries, in the order in which they are queued: the count of them, their triangle, their cells and the bit
-// patterns of their distances. The number is 0, or that of the refusal that was met after the last of them.
+// The entries, in the order in which they are queued: the count of them, their triangle, their cells and the keys
+// of their distances. The number is 0, or that of the refusal that was met after the last of them.
 pub struct Batch {
     pub number: u32,
     pub count: usize,
@@ -43,7 +43,7 @@ pub fn cell_batch(field: &[f32], names: &[u32], c: usize) -> Batch
     let d = field[c];
     if d < 3.4028235e38 {
         cells[0] = c as u32;
-        distances[0] = f32::to_bits(d);
+        distances[0] = float_order::key_of(d);
         return Batch {
             number: 0,
             count: 1,

@@ -5,9 +5,11 @@ use mathlib.Core.Path.{_≡_, sym, ap, _∙_}
 use mathlib.Core.Bool.{true, false}
 use mathlib.Core.List.{List}
 use lib.ListN.{getD, set}
-use lib.Ieee.{Float, nan, isNan, ne, binary32, toBits}
-use Rattle.float.specs.Arith.{_≺_}
-use Rattle.float.specs.RootOf.{rootOf}
+use lib.Dec.{T}
+use lib.Ieee.{Float, nan, isNan, ne, binary32, fits}
+use Rattle.float_order.specs.Nearer.{nearer, keyOf}
+use Rattle.float_shortcut.specs.Shown.{signedRoot}
+use Rattle.float_shortcut.proofs.Signed.{signed-nan}
 use Rattle.lists.specs.Turns.{Turn}
 use Rattle.queue.specs.declared.Entry.{Entry}
 use Rattle.run.specs.Run.{State, Place, none, offerAt}
@@ -20,31 +22,28 @@ use Rattle.entries_consider.specs.Considered.{verdict, Considered}
 module _ (k to : ℕ) (q : Float) (field : List Float) (names : List ℕ) where
   pub was-off : to ≡ none → Considered k to q field names field names (record { number = 0; taken = false; distance = 0 })
   unfolding offerPlace verdict
-  was-off e = record { is = λ also s. ap (λ (p : Place). offerPlace also k p (rootOf q) (over field names s)) (place-off to e) }
+  was-off e = record { is = λ also s. ap (λ (p : Place). offerPlace also k p (signedRoot q) (over field names s)) (place-off to e) }
 
-  module _ (on : to ≡ none → ⊥) where
-    offered : (also : Entry → State → Turn State) (s : State) → offerPlace also k (placeOf to) (rootOf q) (over field names s) ≡ offerAt also k to (rootOf q) (over field names s)
+  module _ (on : to ≡ none → ⊥) (fq : T (fits binary32 q)) where
+    offered : (also : Entry → State → Turn State) (s : State) → offerPlace also k (placeOf to) (signedRoot q) (over field names s) ≡ offerAt also k to (signedRoot q) (over field names s)
     unfolding offerPlace
-    offered also s = ap (λ (p : Place). offerPlace also k p (rootOf q) (over field names s)) (place-at to on)
+    offered also s = ap (λ (p : Place). offerPlace also k p (signedRoot q) (over field names s)) (place-at to on)
 
-    pub was-nan : isNan (rootOf q) ≡ isNan q → ne q q ≡ true → Considered k to q field names field names (record { number = 6; taken = false; distance = 0 })
+    pub was-nan : ne q q ≡ true → Considered k to q field names field names (record { number = 6; taken = false; distance = 0 })
     unfolding verdict
-    was-nan a t = record { is = λ also s. offered also s ∙ offer-nan also k to (rootOf q) (over field names s) (a ∙ is-nan q t) }
+    was-nan t = record { is = λ also s. offered also s ∙ offer-nan also k to (signedRoot q) (over field names s) (signed-nan q fq ∙ is-nan q t) }
 
-    pub was-passed : isNan (rootOf q) ≡ isNan q → ne q q ≡ false → (rootOf q ≺ getD field to nan) ≡ false → Considered k to q field names field names (record { number = 0; taken = false; distance = 0 })
+    pub was-passed : ne q q ≡ false → nearer (signedRoot q) (getD field to nan) ≡ false → Considered k to q field names field names (record { number = 0; taken = false; distance = 0 })
     unfolding verdict
-    was-passed a t l = record { is = λ also s. offered also s ∙ offer-passed also k to (rootOf q) (over field names s) (a ∙ is-number q t) l }
+    was-passed t l = record { is = λ also s. offered also s ∙ offer-passed also k to (signedRoot q) (over field names s) (signed-nan q fq ∙ is-number q t) l }
 
-    pub was-taken : {d : Float} → isNan (rootOf q) ≡ isNan q → ne q q ≡ false → d ≡ rootOf q → (d ≺ getD field to nan) ≡ true
-        → Considered k to q field names (set field to d) (set names to k) (record { number = 0; taken = true; distance = toBits binary32 d })
+    pub was-taken : {d : Float} {key : ℕ} → ne q q ≡ false → d ≡ signedRoot q → nearer d (getD field to nan) ≡ true → key ≡ keyOf d
+        → Considered k to q field names (set field to d) (set names to k) (record { number = 0; taken = true; distance = key })
     unfolding verdict
-    was-taken {d} a t e l = record {
+    was-taken {d} t e l f = record {
       is = λ also s.
           offered also s
           ∙ ap (λ (v : Float). offerAt also k to v (over field names s)) (sym e)
-          ∙ offer-taken also k to d (over field names s) (ap isNan e ∙ a ∙ is-number q t) l;
+          ∙ offer-taken also k to d (over field names s) (ap isNan e ∙ signed-nan q fq ∙ is-number q t) l
+          ∙ ap (λ (n : ℕ). also (record { distance = n; cell = to; triangle = k }) (over (set field to d) (set names to k) s)) (sym f);
     }
-
--- a test on a value that is another
-pub not-below : {d x : Float} (h : Float) → d ≡ x → (d ≺ h) ≡ false → (x ≺ h) ≡ false
-not-below h e t = ap (λ (v : Float). v ≺ h) (sym e) ∙ t

@@ -4,7 +4,7 @@ use mathlib.Core.Path.{_≡_}
 use mathlib.Core.Bool.{Bool, true, false}
 use mathlib.Core.List.{List}
 use lib.Ieee.{Float}
-use Rattle.float.specs.RootOf.{rootOf}
+use Rattle.float_shortcut.specs.Shown.{signedRoot}
 use Rattle.lists.specs.Turns.{Turn, goes, refuses}
 use Rattle.queue.specs.declared.Entry.{Entry}
 use Rattle.run.specs.Run.{State}
@@ -21,4 +21,4 @@ verdict zero false also e s = goes s
 -- an offer came to a verdict
 pub record Considered (k to : ℕ) (q : Float) (field : List Float) (names : List ℕ) (field′ : List Float) (names′ : List ℕ) (v : Verdict) : Type 0 where
   pub is : (also : Entry → State → Turn State) (s : State)
-      → offerPlace also k (placeOf to) (rootOf q) (over field names s) ≡ verdict (v .number) (v .taken) also (record { distance = v .distance; cell = to; triangle = k }) (over field′ names′ s)
+      → offerPlace also k (placeOf to) (signedRoot q) (over field names s) ≡ verdict (v .number) (v .taken) also (record { distance = v .distance; cell = to; triangle = k }) (over field′ names′ s)

@@ -9,9 +9,9 @@ pub struct Verdict {
     pub distance: u32,
 }
 
-// Where a triangle's squared distance is no NaN and the distance is below what the cell holds, the cell takes it.
+// Where a triangle's signed square is no NaN and the distance is nearer than what the cell holds, the cell takes it.
 pub fn consider(field: &mut [f32], names: &mut [u32], k: u32, to: u32, q: f32) -> Verdict
-    requires { ⌜ Passable to q (now field) (now names) ⌝ }
+    requires { ⌜ Passable to (now field) (now names) ⌝ }
     ensures { λ r. ⌜ Considered k to q (now (field .entry)) (now (names .entry)) (now (field .exit)) (now (names .exit)) r ⌝ }
 {
     let mut v = Verdict {
@@ -28,15 +28,15 @@ pub fn consider(field: &mut [f32], names: &mut [u32], k: u32, to: u32, q: f32) -
     }
     let i = to as usize;
     let held = field[i];
-    if float_shortcut::root_not_below(q, held) {
+    if float_shortcut::not_nearer(q, held) {
         return v;
     }
-    let d = float_root::sqrt(q);
-    if d < held {
+    let d = float_shortcut::signed_root(q);
+    if float_order::is_nearer(d, held) {
         field[i] = d;
         names[i] = k;
         v.taken = true;
-        v.distance = f32::to_bits(d);
+        v.distance = float_order::key_of(d);
     }
     v
 }

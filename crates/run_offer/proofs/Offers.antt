@@ -5,47 +5,46 @@ use mathlib.Core.Path.{_≡_, sym, ap, _∙_}
 use mathlib.Core.Bool.{true, false}
 use mathlib.Core.List.{List}
 use lib.ListN.{getD, set}
-use lib.Ieee.{Float, nan, isNan, ne}
-use Rattle.float.specs.Arith.{_≺_}
-use Rattle.float.specs.RootOf.{rootOf}
+use lib.Dec.{T}
+use lib.Ieee.{Float, nan, isNan, ne, binary32, fits}
+use Rattle.float_order.specs.Nearer.{nearer, keyOf}
+use Rattle.float_shortcut.specs.Shown.{signedRoot}
+use Rattle.float_shortcut.proofs.Signed.{signed-nan}
 use Rattle.lists.specs.Turns.{told}
 use Rattle.lists.proofs.Turns.{told-goes}
 use Rattle.queue.specs.Keys.{byKeys}
 use Rattle.queue.specs.Queue.{Held}
-use Rattle.run.specs.Run.{Place, none, entry, queue, offerAt}
+use Rattle.run.specs.Run.{Place, none, takes, queue, offerAt}
 use Rattle.run.proofs.Ways.{offer-nan, offer-passed, offer-taken, is-nan, is-number}
 use Rattle.run_state.specs.declared.Progress.{Progress}
 use Rattle.run_state.specs.Told.{refusedBy, stateOf, ToldByKeys, Queued}
 use Rattle.run_around.specs.Around.{placeOf, offerPlace}
 use Rattle.run_around.proofs.Places.{place-off, place-at}
 
--- a test on a value that is another
-pub not-below : {d x : Float} (h : Float) → d ≡ x → (d ≺ h) ≡ false → (x ≺ h) ≡ false
-not-below h e t = ap (λ (v : Float). v ≺ h) (sym e) ∙ t
-
-module _ {field : List Float} {names ds cs ts : List ℕ} (p : Progress) (k c : ℕ) (q : Float) where
-  pub offered-nan : Held byKeys ds cs ts (p .waiting) → isNan (rootOf q) ≡ isNan q → ne q q ≡ true
-      → ToldByKeys (λ g. offerAt (queue g) k c (rootOf q)) field names ds cs ts p field names ds cs ts (refusedBy 6 p)
+module _ {field : List Float} {names ds cs ts : List ℕ} (p : Progress) (k c : ℕ) (q : Float) (fq : T (fits binary32 q)) where
+  pub offered-nan : Held byKeys ds cs ts (p .waiting) → ne q q ≡ true
+      → ToldByKeys (λ g. offerAt (queue g) k c (signedRoot q)) field names ds cs ts p field names ds cs ts (refusedBy 6 p)
   unfolding told
-  offered-nan h a t = record { held = h; is = λ g o r. offer-nan (queue g) k c (rootOf q) (stateOf byKeys field names ds cs ts p) (a ∙ is-nan q t) }
+  offered-nan h t = record { held = h; is = λ g o r. offer-nan (queue g) k c (signedRoot q) (stateOf byKeys field names ds cs ts p) (signed-nan q fq ∙ is-nan q t) }
 
-  pub offered-passed : Held byKeys ds cs ts (p .waiting) → p .number ≡ 0 → isNan (rootOf q) ≡ isNan q → ne q q ≡ false
-      → (rootOf q ≺ getD field c nan) ≡ false → ToldByKeys (λ g. offerAt (queue g) k c (rootOf q)) field names ds cs ts p field names ds cs ts p
-  offered-passed h z a t l =
+  pub offered-passed : Held byKeys ds cs ts (p .waiting) → p .number ≡ 0 → ne q q ≡ false
+      → nearer (signedRoot q) (getD field c nan) ≡ false → ToldByKeys (λ g. offerAt (queue g) k c (signedRoot q)) field names ds cs ts p field names ds cs ts p
+  offered-passed h z t l =
       let s = stateOf byKeys field names ds cs ts p in
-      record { held = h; is = λ g o r. offer-passed (queue g) k c (rootOf q) s (a ∙ is-number q t) l ∙ sym (told-goes (p .number) s z) }
+      record { held = h; is = λ g o r. offer-passed (queue g) k c (signedRoot q) s (signed-nan q fq ∙ is-number q t) l ∙ sym (told-goes (p .number) s z) }
 
-  pub offered-taken : {d : Float} {ds′ cs′ ts′ : List ℕ} {r : Progress} → isNan (rootOf q) ≡ isNan q → ne q q ≡ false → d ≡ rootOf q → (d ≺ getD field c nan) ≡ true
-      → Queued (entry d c k) ds cs ts p ds′ cs′ ts′ r
-      → ToldByKeys (λ g. offerAt (queue g) k c (rootOf q)) field names ds cs ts p (set field c d) (set names c k) ds′ cs′ ts′ r
-  offered-taken {d} a t e w j =
+  pub offered-taken : {d : Float} {ds′ cs′ ts′ : List ℕ} {r : Progress} {key : ℕ} → ne q q ≡ false → d ≡ signedRoot q → nearer d (getD field c nan) ≡ true → key ≡ keyOf d
+      → Queued (record { distance = key; cell = c; triangle = k }) ds cs ts p ds′ cs′ ts′ r
+      → ToldByKeys (λ g. offerAt (queue g) k c (signedRoot q)) field names ds cs ts p (set field c d) (set names c k) ds′ cs′ ts′ r
+  offered-taken {d} t e w f j =
       let s = stateOf byKeys field names ds cs ts p in
       let queued = j (set field c d) (set names c k) in
       record {
         held = queued .held;
         is = λ g o r.
             ap (λ (v : Float). offerAt (queue g) k c v s) (sym e)
-            ∙ offer-taken (queue g) k c d s (ap isNan e ∙ a ∙ is-number q t) w
+            ∙ offer-taken (queue g) k c d s (ap isNan e ∙ signed-nan q fq ∙ is-number q t) w
+            ∙ ap (λ (n : ℕ). queue g (record { distance = n; cell = c; triangle = k }) (takes c k d s)) (sym f)
             ∙ queued .is g o r;
       }
 

@@ -5,15 +5,14 @@ use run_state::Progress;
 ghost use mathlib.Core.Path.{_≡_};
 ghost use Prim.Native.Nat.{_<_};
 ghost use lib.ListN.{length};
-ghost use lib.Ieee.{isNan};
-ghost use Rattle.float.specs.RootOf.{rootOf};
+ghost use Rattle.float_shortcut.specs.Shown.{signedRoot};
 ghost use Rattle.queue.specs.Keys.{byKeys};
 ghost use Rattle.queue.specs.Queue.{Held};
 ghost use Rattle.run.specs.Run.{queue, offerAt};
 ghost use Rattle.run_around.specs.Around.{placeOf, offerPlace, offerAll, Passable, PlacesFit};
 ghost use Rattle.run_state.specs.Told.{ToldByKeys};
 
-// Offers triangle k, whose squared distance is q, to cell c. Where q shows that the distance is not below
+// Offers triangle k, whose signed square is q, to cell c. Where q shows that the distance is not nearer than
 // what the cell holds, no root is worked out.
 fn offer(
     field: &mut [f32],
@@ -27,10 +26,9 @@ fn offer(
     q: f32,
 ) -> Progress
     requires { ⌜ Held byKeys (now distances) (now cells) (now triangles) (at .waiting) ⌝ }
-    requires { ⌜ (at .number ≡ 0) × (c < length (now field)) × (length (now names) ≡ length (now field)) ×
-        (isNan (rootOf q) ≡ isNan q) ⌝ }
+    requires { ⌜ (at .number ≡ 0) × (c < length (now field)) × (length (now names) ≡ length (now field)) ⌝ }
     ensures { λ r.
-        ⌜ ToldByKeys (λ g. offerAt (queue g) k c (rootOf q))
+        ⌜ ToldByKeys (λ g. offerAt (queue g) k c (signedRoot q))
         (now (field .entry)) (now (names .entry)) (now (distances .entry)) (now (cells .entry)) (now (triangles .entry)) at
         (now (field .exit)) (now (names .exit)) (now (distances .exit)) (now (cells .exit)) (now (triangles .exit)) r ⌝ }
 {
@@ -39,14 +37,14 @@ fn offer(
     }
     let i = c as usize;
     let held = field[i];
-    if float_shortcut::root_not_below(q, held) {
+    if float_shortcut::not_nearer(q, held) {
         return at;
     }
-    let d = float_root::sqrt(q);
-    if d < held {
+    let d = float_shortcut::signed_root(q);
+    if float_order::is_nearer(d, held) {
         field[i] = d;
         names[i] = k;
-        let distance = f32::to_bits(d);
+        let distance = float_order::key_of(d);
         let e = Entry {
             distance: distance,
             cell: c,
@@ -70,9 +68,9 @@ fn offer_to(
     q: f32,
 ) -> Progress
     requires { ⌜ Held byKeys (now distances) (now cells) (now triangles) (at .waiting) ⌝ }
-    requires { ⌜ (at .number ≡ 0) × Passable to q (now field) (now names) ⌝ }
+    requires { ⌜ (at .number ≡ 0) × Passable to (now field) (now names) ⌝ }
     ensures { λ r.
-        ⌜ ToldByKeys (λ g. offerPlace (queue g) k (placeOf to) (rootOf q))
+        ⌜ ToldByKeys (λ g. offerPlace (queue g) k (placeOf to) (signedRoot q))
         (now (field .entry)) (now (names .entry)) (now (distances .entry)) (now (cells .entry)) (now (triangles .entry)) at
         (now (field .exit)) (now (names .exit)) (now (distances .exit)) (now (cells .exit)) (now (triangles .exit)) r ⌝ }
 {

@@ -8,6 +8,7 @@ use lib.ListN.{length, getD}
 use lib.Ieee.{Float, nan}
 use borrow.Author.Tests.{lt-ltb, le-ltb}
 use Rattle.float.specs.Arith.{_≺_, fMax, if_then_else_}
+use Rattle.float_order.specs.Nearer.{keyOf}
 use Rattle.lists.specs.Turns.{goes, refuses, told}
 use Rattle.lists.proofs.Turns.{told-goes}
 use Rattle.queue.specs.declared.Entry.{Entry}
@@ -73,7 +74,15 @@ module _ {field : List Float} {names ds cs ts : List ℕ} {at : Progress} (c : �
       let s = stateOf byKeys field names ds cs ts at in
       record { held = h; is = λ g o r. cell-above c g s t ∙ sym (told-goes (at .number) s z) }
 
-  pub cell-queued : {ds′ cs′ ts′ : List ℕ} {r : Progress} → (getD field c nan ≺ fMax) ≡ true → Queued (entry (getD field c nan) c (getD names c 0)) ds cs ts at ds′ cs′ ts′ r
+  pub cell-queued : {ds′ cs′ ts′ : List ℕ} {r : Progress} {key : ℕ} → (getD field c nan ≺ fMax) ≡ true → key ≡ keyOf (getD field c nan)
+      → Queued (record { distance = key; cell = c; triangle = getD names c 0 }) ds cs ts at ds′ cs′ ts′ r
       → ToldByKeys (λ g. queueCell g c) field names ds cs ts at field names ds′ cs′ ts′ r
-  cell-queued t q =
-      record { held = q field names .held; is = λ g o r. cell-below c g (stateOf byKeys field names ds cs ts at) t ∙ q field names .is g o r }
+  cell-queued t e q =
+      let s = stateOf byKeys field names ds cs ts at in
+      record {
+        held = q field names .held;
+        is = λ g o r.
+            cell-below c g s t
+            ∙ ap (λ (k : ℕ). queue g (record { distance = k; cell = c; triangle = getD names c 0 }) s) (sym e)
+            ∙ q field names .is g o r;
+      }

@@ -62,7 +62,7 @@ fn queue_cell(
 {
     let d = field[c];
     if d < 3.4028235e38 {
-        let distance = f32::to_bits(d);
+        let distance = float_order::key_of(d);
         let cell = c as u32;
         let triangle = names[c];
         let e = Entry {

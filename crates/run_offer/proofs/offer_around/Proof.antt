@@ -5,7 +5,7 @@ use mathlib.Core.Path.{_≡_, _∙_}
 use mathlib.Core.List.{List}
 use lib.ListN.{length, getD}
 use lib.Ieee.{Float, nan}
-use Rattle.float.specs.RootOf.{rootOf}
+use Rattle.float_shortcut.specs.Shown.{signedRoot}
 use Rattle.lists.specs.Turns.{Turn}
 use Rattle.run.specs.Run.{RunInput, State, queue}
 use Rattle.run_around.specs.Around.{placeOf, offerPlace, Passable}
@@ -15,7 +15,7 @@ use Rattle.run_offer.proofs.offer_around.Tie as tie
 
 -- turn j
 abbrev turn : ℕ → List ℕ → List Float → RunInput → ℕ → State → Turn State
-turn k to squares g j = offerPlace (queue g) k (placeOf (getD to j 0)) (rootOf (getD squares j nan))
+turn k to squares g j = offerPlace (queue g) k (placeOf (getD to j 0)) (signedRoot (getD squares j nan))
 
 abbrev Inv-loop : tie.InvT-loop
 Inv-loop field₀ names₀ distances₀ cells₀ triangles₀ k to squares reached₀ j₀ field names distances cells triangles reached j =
@@ -57,9 +57,9 @@ loop-holds : tie.Need-loop-holds Inv-loop μ-loop
 loop-holds c = let s = c .before .before .before .before .before .before .before in (begins _ (s .pre .1 .0) (s .pre .0), omega arith)
 
 -- a place that fits at the entry fits at each turn
-passable : {to : ℕ} {q : Float} {field field₀ : List Float} {names names₀ : List ℕ} → length field ≡ length field₀ → length names ≡ length names₀
-    → Passable to q field₀ names₀ → Passable to q field names
-passable fl nl p = record { below = λ z. omega (arith, p .below z, fl); alike = p .alike; even = omega (arith, fl, nl, p .even) }
+passable : {to : ℕ} {field field₀ : List Float} {names names₀ : List ℕ} → length field ≡ length field₀ → length names ≡ length names₀
+    → Passable to field₀ names₀ → Passable to field names
+passable fl nl p = record { below = λ z. omega (arith, p .below z, fl); even = omega (arith, fl, nl, p .even) }
 
 offer-to-requires : tie.Need-offer-to-requires Inv-loop μ-loop
 offer-to-requires c κs =

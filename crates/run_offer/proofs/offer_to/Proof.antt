@@ -18,7 +18,7 @@ offer-requires : tie.Need-offer-requires
 offer-requires c κs =
     let s = entry (somewhere c .before) in
     let n = s .pre .1 .1 in
-    (s .pre .0, (s .pre .1 .0, n .below (somewhere c .if1 .left), n .even, n .alike))
+    (s .pre .0, (s .pre .1 .0, n .below (somewhere c .if1 .left), n .even))
 
 returns-2 : tie.Need-returns-2
 returns-2 c =

@@ -10,20 +10,19 @@ use Rattle.run_queue.proofs.queue_cell.Tie as tie
 abbrev entry : tie.After-shared-slice-known3 → tie.Start
 entry c = c .before .before .before .before .before .before
 
-float-to-bits-distance : tie.Need-float-to-bits-distance
-float-to-bits-distance c = less-no-nan _ _ (c .if1 .taken)
+key-of-requires : tie.Need-key-of-requires
+key-of-requires c κs = less-no-nan _ _ (c .if1 .taken)
 
 cast-cell : tie.Need-cast-cell
 cast-cell c =
-    let s = entry (c .before) in
+    let s = entry (c .before .before) in
     omega (arith, s .pre .1 .3)
 
 returns : tie.Need-returns
 returns c =
     let queued = c .before .before .before .before .before .before in
-    let small = queued .before .before .before .before .before in
-    let s = entry (small .before) in
-    cell-queued _ (small .if1 .taken) (queued .enqueue .ensures)
+    let key = queued .before .before .before .before .before in
+    cell-queued _ (key .before .if1 .taken) (key .key-of .ensures) (queued .enqueue .ensures)
 
 returns-2 : tie.Need-returns-2
 returns-2 c = let s = entry (c .before) in cell-passed _ (s .pre .0) (s .pre .1 .0) (c .if1 .left)
@@ -31,6 +30,6 @@ returns-2 c = let s = entry (c .before) in cell-passed _ (s .pre .0) (s .pre .1 
 pub queue-cell-spec : {M : Type 1} → statement M
 queue-cell-spec =
     tie.close (tie.spec
-    (λ c. search needs) (λ c. search needs) float-to-bits-distance cast-cell
+    (λ c. search needs) (λ c. search needs) key-of-requires cast-cell
     (λ c. search needs) (λ c. search needs) (λ c κs. search needs) (λ c. search needs) (λ c. search needs)
     (λ c. search needs) returns returns-2)

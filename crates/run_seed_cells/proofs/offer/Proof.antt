@@ -1,13 +1,13 @@
 -- `run_seed_cells::offer`: each return is one of the three ways of an offer. Assumes nothing.
 use borrow.Author.Needs.{needs}
-use mathlib.Core.Path.{_≡_, sym, ap, _∙_, subst}
+use mathlib.Core.Path.{_≡_, sym, subst}
 use lib.ListN.{getD, set}
 use lib.Dec.{T}
 use lib.Ieee.{Float, nan, binary32, fits}
-use Rattle.float_order.specs.Nearer.{nearer}
 use Rattle.float_shortcut.specs.Shown.{signedRoot}
 use Rattle.lists.specs.Turns.{told}
 use Rattle.run.specs.Run.{offerAt, nothingElse}
+use Rattle.run.proofs.Ways.{told-nearer}
 use Rattle.run_seed_cells.specs.Parts.{seedState}
 use Rattle.run_seed_cells.proofs.Offers.{refused, passed, took}
 use Rattle.run_seed_cells.proofs.offer.Statement.{statement}
@@ -40,7 +40,7 @@ returns-3 c =
     ≡ told 0 (seedState (set field (s .args .c) d) (set (s .args .names .now) (s .args .c) (s .args .k))))
     (sym is)
     (took field (s .args .names .now) (s .args .c) (s .args .k) (s .args .q) (held-q s) (e .if1 .left)
-    (sym (ap (λ (d : Float). nearer d (getD field (s .args .c) nan)) is) ∙ sym (c .before .is-nearer .ensures) ∙ c .if3 .taken))
+    (told-nearer (getD field (s .args .c) nan) is (c .before .is-nearer .ensures) (c .if3 .taken)))
 
 returns-4 : tie.Need-returns-4
 returns-4 c =
@@ -49,7 +49,7 @@ returns-4 c =
     let s = e .before .before .before in
     let field = s .args .field .now in
     passed field (s .args .names .now) (s .args .c) (s .args .k) (s .args .q) (held-q s) (e .if1 .left)
-    (sym (ap (λ (d : Float). nearer d (getD field (s .args .c) nan)) (root .signed-root .ensures)) ∙ sym (c .before .is-nearer .ensures) ∙ c .if3 .left)
+    (told-nearer (getD field (s .args .c) nan) (root .signed-root .ensures) (c .before .is-nearer .ensures) (c .if3 .left))
 
 pub offer-spec : {M : Type 1} → statement M
 offer-spec =
