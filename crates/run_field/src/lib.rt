@@ -30,10 +30,10 @@ fn spread_seeds(
     requires { ⌜ Fit grid (meshOf (now vertices) topology given (now indices)) ⌝ }
     requires { ⌜ Holds grid (now field) (now names) (now distances) (now cells) (now triangles) 0 ⌝ }
     requires { let m = meshOf (now vertices) topology given (now indices) in
-        ⌜ GoodIn grid m (now field) (now names) (now distances) (now cells) (now triangles) before ⌝ }
+        ⌜ GoodIn grid m (terms .sign) (now field) (now names) (now distances) (now cells) (now triangles) before ⌝ }
     ensures { λ r.
         let m = meshOf (now (vertices .entry)) topology given (now (indices .entry)) in
-        let input = runInput grid m (length (now (distances .entry))) in
+        let input = runInput grid m (terms .sign) (length (now (distances .entry))) in
         let s = seeded m (now (field .entry)) (now (names .entry)) (now (distances .entry)) (now (cells .entry)) (now (triangles .entry)) in
         ⌜ Leaves grid m (λ any. andThen (queueing (input any) s) (spreading (input any) (terms .limit)))
         (now (field .exit)) (now (names .exit)) (now (distances .exit)) (now (cells .exit)) (now (triangles .exit)) r ⌝ }
@@ -82,10 +82,20 @@ pub fn run_field(
     requires { ⌜ Fresh grid (now field) (now names) (now distances) (now cells) (now triangles) ⌝ }
     ensures { λ r.
         let m = meshOf (now (vertices .entry)) topology given (now (indices .entry)) in
-        ⌜ Leaves grid m (λ any. run (runInput grid m (length (now (distances .entry))) (terms .limit)))
+        ⌜ Leaves grid m (λ any. run (runInput grid m (terms .sign) (length (now (distances .entry))) (terms .limit)))
         (now (field .exit)) (now (names .exit)) (now (distances .exit)) (now (cells .exit)) (now (triangles .exit)) r ⌝ }
 {
-    let number = run_seed::seed(field, names, grid, vertices, topology, given, indices);
+    let sign = terms.sign;
+    let number = run_seed::seed(
+        field,
+        names,
+        grid,
+        vertices,
+        topology,
+        given,
+        indices,
+        sign,
+    );
     if number != 0 {
         return Progress {
             number: number,

@@ -5,6 +5,7 @@ use grid::Grid;
 use mesh_topology::Indices;
 use mesh_topology::Topology;
 use run_state::Progress;
+use terms::Terms;
 ghost use mathlib.Core.Path.{_≡_};
 ghost use Prim.Native.Nat.{_<_};
 ghost use Rattle.lists.specs.Turns.{goes};
@@ -28,15 +29,16 @@ pub fn pop(
     cells: &mut [u32],
     triangles: &mut [u32],
     at: Progress,
+    terms: Terms,
 ) -> Progress
     requires { ⌜ Fit grid (meshOf (now vertices) topology given (now indices)) ⌝ }
     requires { ⌜ Holds grid (now field) (now names) (now distances) (now cells) (now triangles) (at .waiting) ⌝ }
     requires { let m = meshOf (now vertices) topology given (now indices) in
-        ⌜ GoodIn grid m (now field) (now names) (now distances) (now cells) (now triangles) at ⌝ }
+        ⌜ GoodIn grid m (terms .sign) (now field) (now names) (now distances) (now cells) (now triangles) at ⌝ }
     requires { ⌜ (now steps ≡ codes Steps.steps) × (0 < at .waiting) × (at .pops < 4294967295) ⌝ }
     ensures { λ r.
         let m = meshOf (now (vertices .entry)) topology given (now (indices .entry)) in
-        ⌜ Told grid m (λ g s. takeFirst g goes (s .waiting) s) (now (field .entry)) (now (names .entry))
+        ⌜ Told grid m (terms .sign) (λ g s. takeFirst g goes (s .waiting) s) (now (field .entry)) (now (names .entry))
         (now (distances .entry)) (now (cells .entry)) (now (triangles .entry)) at (now (field .exit))
         (now (names .exit)) (now (distances .exit)) (now (cells .exit)) (now (triangles .exit)) r ⌝ }
 {
@@ -53,12 +55,14 @@ pub fn pop(
     );
     let mut to = [0u32; 27];
     let mut squares = [0.0f32; 27];
+    let sign = terms.sign;
     run_around::look_around(
         grid,
         vertices,
         topology,
         given,
         indices,
+        sign,
         steps,
         e,
         &mut to,

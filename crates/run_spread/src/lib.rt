@@ -28,11 +28,11 @@ pub fn spread(
     requires { ⌜ Fit grid (meshOf (now vertices) topology given (now indices)) ⌝ }
     requires { ⌜ Holds grid (now field) (now names) (now distances) (now cells) (now triangles) (at .waiting) ⌝ }
     requires { let m = meshOf (now vertices) topology given (now indices) in
-        ⌜ GoodIn grid m (now field) (now names) (now distances) (now cells) (now triangles) at ⌝ }
+        ⌜ GoodIn grid m (terms .sign) (now field) (now names) (now distances) (now cells) (now triangles) at ⌝ }
     requires { ⌜ (at .number ≡ 0) × (at .pops ≡ 0) ⌝ }
     ensures { λ r.
         let m = meshOf (now (vertices .entry)) topology given (now (indices .entry)) in
-        ⌜ Told grid m (λ g. spreading g (terms .limit))
+        ⌜ Told grid m (terms .sign) (λ g. spreading g (terms .limit))
         (now (field .entry)) (now (names .entry)) (now (distances .entry)) (now (cells .entry)) (now (triangles .entry)) at
         (now (field .exit)) (now (names .exit)) (now (distances .exit)) (now (cells .exit)) (now (triangles .exit)) r ⌝ }
 {
@@ -55,6 +55,7 @@ pub fn spread(
             cells,
             triangles,
             run,
+            terms,
         );
         if run.number != 0 {
             return run;

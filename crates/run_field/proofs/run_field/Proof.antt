@@ -26,18 +26,20 @@ returns : tie.Need-returns
 returns c =
     let q = seeded (c .before) .seed in
     let s = entry (seeded (c .before) .before) in
-    seeding-stops (s .pre .0) (s .pre .1) (q .last .0) (q .last .1 .0) (q .result) (q .ensures) (length (s .args .distances .now)) (s .args .terms .limit)
+    seeding-stops (s .args .terms .sign) (s .pre .0) (s .pre .1) (q .last .0) (q .last .1 .0) (q .result) (q .ensures) (length (s .args .distances .now)) (s .args .terms .limit)
     (q .kept .0) (q .kept .1 .0) (c .if1 .taken)
 
 spread-seeds-requires : tie.Need-spread-seeds-requires
 spread-seeds-requires c κs =
     let f = fine c in
     let q = seeded (f .before) .seed in
-    let p = entry (seeded (f .before) .before) .pre in (
+    let s = entry (seeded (f .before) .before) in
+    let a = s .args in
+    let p = s .pre in (
       p .0,
       (
-        seeding-holds (p .0) (p .1) (q .last .0) (q .last .1 .0) (q .result) (q .ensures) (f .if1 .left),
-        seeding-states (p .0) (p .1) (q .last .0) (q .last .1 .0) (q .result) (q .ensures) (f .if1 .left),
+        seeding-holds (a .terms .sign) (p .0) (p .1) (q .last .0) (q .last .1 .0) (q .result) (q .ensures) (f .if1 .left),
+        seeding-states (a .terms .sign) (p .0) (p .1) (q .last .0) (q .last .1 .0) (q .result) (q .ensures) (f .if1 .left),
       ),
     )
 
@@ -47,7 +49,7 @@ returns-2 c =
     let f = fine (spread .before) in
     let q = seeded (f .before) .seed in
     let s = entry (seeded (f .before) .before) in
-    seeding-goes-on (s .pre .0) (s .pre .1) (q .last .0) (q .last .1 .0) (q .result) (q .ensures) (f .if1 .left)
+    seeding-goes-on (s .args .terms .sign) (s .pre .0) (s .pre .1) (q .last .0) (q .last .1 .0) (q .result) (q .ensures) (f .if1 .left)
     (length (s .args .distances .now)) (s .args .terms .limit) (spread .spread-seeds .ensures)
 
 pub run-field-spec : {M : Type 1} → statement M

@@ -13,7 +13,7 @@ use Rattle.run_spread.proofs.spread.Tie as tie
 
 abbrev Inv-loop : tie.InvT-loop
 Inv-loop grid vertices topology given indices field₀ names₀ distances₀ cells₀ triangles₀ terms steps run₀ field names distances cells triangles run =
-    Spreads grid (meshOf vertices topology given indices) (terms .limit) field₀ names₀ distances₀ cells₀ triangles₀ run₀ field names distances cells triangles run
+    Spreads grid (meshOf vertices topology given indices) (terms .sign) (terms .limit) field₀ names₀ distances₀ cells₀ triangles₀ run₀ field names distances cells triangles run
     × (steps ≡ codes Steps.steps)
 
 abbrev μ-loop : tie.MeasureT-loop
