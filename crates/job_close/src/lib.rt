@@ -5,14 +5,50 @@ use job_outcome::Tally;
 use mesh_topology::Indices;
 use mesh_topology::Topology;
 use run_state::Progress;
+use terms::SignMethod;
 use terms::Terms;
 ghost use mathlib.Core.Path.{_≡_};
+ghost use Prim.Native.Nat.{_*_};
 ghost use lib.ListN.{length};
 ghost use Rattle.grid.specs.Index.{total};
 ghost use Rattle.mesh.specs.Mesh.{meshOf};
-ghost use Rattle.run.specs.Grazed.{grazed};
+ghost use Rattle.run.specs.Method.{fieldBy, crossingsBy, grazedBy};
 ghost use Rattle.run_state.specs.Told.{Fit};
 ghost use Rattle.job_outcome.specs.Finished.{Long, Finished, Closed};
+
+// The crossings and the signs, by the method. Tells how often a ray grazed a triangle. With Normal signs there are no rays:
+// the distances have their signs, and the crossings are left zero.
+fn sign_field(
+    grid: Grid,
+    vertices: &[f32],
+    topology: Topology,
+    given: Indices,
+    indices: &[u32],
+    field: &mut [f32],
+    crossings: &mut [u32],
+    terms: Terms,
+) -> u64
+    requires { ⌜ Fit grid (meshOf (now vertices) topology given (now indices)) ⌝ }
+    requires { ⌜ (length (now field) ≡ total grid) × (length (now crossings) ≡ 3 * total grid) ⌝ }
+    ensures { λ r.
+        let m = meshOf (now (vertices .entry)) topology given (now (indices .entry)) in
+        ⌜ (now (field .exit) ≡ fieldBy (terms .sign) grid m (now (field .entry))) ×
+        (now (crossings .exit) ≡ crossingsBy (terms .sign) grid m) × (r ≡ grazedBy (terms .sign) grid m) ⌝ }
+{
+    let sign = terms.sign;
+    match sign {
+        SignMethod::Raycast => {
+            let pass = terms.pass;
+            let grazed = run_cross::cross(grid, vertices, topology, given, indices, crossings, pass);
+            run_signs::sign(crossings, field);
+            grazed
+        }
+        SignMethod::Normal => {
+            slices::fill_numbers(crossings, 0);
+            0
+        }
+    }
+}
 
 // What follows a run that is not refused: the crossings, the signs and the rows. Tells how often a ray grazed a triangle.
 fn finish(
@@ -31,12 +67,19 @@ fn finish(
     requires { ⌜ Long grid (now crossings) (now rows) ⌝ }
     ensures { λ _.
         let m = meshOf (now (vertices .entry)) topology given (now (indices .entry)) in
-        ⌜ Finished grid m (now (field .entry)) (now (field .exit)) (now (crossings .exit)) (now (rows .exit)) ⌝ }
-    ensures { λ r. ⌜ r ≡ grazed grid (meshOf (now (vertices .entry)) topology given (now (indices .entry))) ⌝ }
+        ⌜ Finished grid m (terms .sign) (now (field .entry)) (now (field .exit)) (now (crossings .exit)) (now (rows .exit)) ⌝ }
+    ensures { λ r. ⌜ r ≡ grazedBy (terms .sign) grid (meshOf (now (vertices .entry)) topology given (now (indices .entry))) ⌝ }
 {
-    let pass = terms.pass;
-    let grazed = run_cross::cross(grid, vertices, topology, given, indices, crossings, pass);
-    run_signs::sign(crossings, field);
+    let grazed = sign_field(
+        grid,
+        vertices,
+        topology,
+        given,
+        indices,
+        field,
+        crossings,
+        terms,
+    );
     run_rows::count_rows(grid, field, rows);
     grazed
 }
@@ -60,7 +103,7 @@ pub fn close(
         ⌜ Fit grid m × (length (now field) ≡ total grid) × Long grid (now crossings) (now rows) ⌝ }
     ensures { λ r.
         let m = meshOf (now (vertices .entry)) topology given (now (indices .entry)) in
-        ⌜ Closed grid m ran (now (field .entry)) (now (names .entry)) (now (crossings .entry)) (now (rows .entry))
+        ⌜ Closed grid m (terms .sign) ran (now (field .entry)) (now (names .entry)) (now (crossings .entry)) (now (rows .entry))
         (now (field .exit)) (now (names .exit)) (now (crossings .exit)) (now (rows .exit)) r ⌝ }
 {
     if ran.number != 0 {

@@ -40,7 +40,7 @@ comesTo g m sign limit field names crossings layers ds cs ts p =
 
 -- by what `close` did with all but the queue
 module _ (g : Grid) (m : Mesh) (sign : SignMethod) (limit : ℕ) (field : List Float) (names crossings layers ds cs ts : List ℕ) (p : Progress)
-    {field′ : List Float} {names′ crossings′ layers′ : List ℕ} {r : Answer} (closed : Closed g m p field names crossings layers field′ names′ crossings′ layers′ r) where
+    {field′ : List Float} {names′ crossings′ layers′ : List ℕ} {r : Answer} (closed : Closed g m sign p field names crossings layers field′ names′ crossings′ layers′ r) where
   pub gives-refused : {ds′ cs′ ts′ : List ℕ} → (p .number ≡ 0 → ⊥) → Cleared ds cs ts ds′ cs′ ts′
       → Gives (comesTo g m sign limit field names crossings layers ds cs ts p) r (lentOf field′ names′ crossings′ layers′ ds′ cs′ ts′)
   unfolding ended
@@ -72,7 +72,7 @@ same-ended j b c (goes s) e =
 same-ended j b c (refuses n) e = λ i. record { answer = Refused n; left = same-cleared b c e i }
 
 pub same-run : (j : Job) (b c : Lent) → lengthsOf b ≡ lengthsOf c → runOf j b ≡ runOf j c
-same-run j b c e = ap (λ (l : Lengths). run (runInput (j .grid) (j .mesh) (l .distances) (j .limit))) e
+same-run j b c e = ap (λ (l : Lengths). run (runInput (j .grid) (j .mesh) (j .sign) (l .distances) (j .limit))) e
 
 pub gives-run : (j : Job) (b c : Lent) {r : Answer} {left : Lent} {o : Turn State} → lengthsOf b ≡ lengthsOf c → runOf j c ≡ o → Gives (ended j b o) r left
     → Gives (ended j c (runOf j c)) r left

@@ -8,7 +8,7 @@ use Rattle.grid.specs.declared.Grid.{Grid}
 use Rattle.mesh.specs.Mesh.{Mesh}
 use Rattle.run.specs.Run.{State, run}
 use Rattle.run.specs.Signs.{rows}
-use Rattle.run.proofs.SameMesh.{SameMesh, input-same, all-crossings-same, signed-same, grazed-same}
+use Rattle.run.proofs.SameMesh.{SameMesh, input-same, field-by-same, crossings-by-same, grazed-by-same}
 use Rattle.job_checks.specs.Job.{Job, Lent}
 use Rattle.job_clear.specs.Cleared.{zeros}
 use Rattle.job_outcome.specs.declared.Answer.the-variants.{Done}
@@ -19,19 +19,19 @@ jobWith g sign limit m = record { grid = g; mesh = m; sign = sign; limit = limit
 
 module _ (g : Grid) (sign : SignMethod) (limit : ℕ) {m n : Mesh} (same : SameMesh m n) (b : Lent) where
   pub run-same : runOf (jobWith g sign limit m) b ≡ runOf (jobWith g sign limit n) b
-  run-same = ap run (input-same g same (length (b .distances)) limit)
+  run-same = ap run (input-same g same sign (length (b .distances)) limit)
 
   pub ended-same : (o : Turn State) → ended (jobWith g sign limit m) b o ≡ ended (jobWith g sign limit n) b o
   unfolding ended
   ended-same (goes s) =
-      let field = signed-same g same (s .field) in
+      let field = field-by-same g same sign (s .field) in
       λ i.
       record {
-        answer = Done (record { pops = s .pops; peak = s .peak; grazed = grazed-same g same i });
+        answer = Done (record { pops = s .pops; peak = s .peak; grazed = grazed-by-same g same sign i });
         left = record {
           field = field i;
           names = s .names;
-          crossings = all-crossings-same g same i;
+          crossings = crossings-by-same g same sign i;
           rows = rows g (field i);
           distances = zeros (b .distances);
           cells = zeros (b .cells);

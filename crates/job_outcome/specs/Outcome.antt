@@ -6,8 +6,8 @@ use lib.ListN.{length}
 use Rattle.lists.specs.Turns.{Turn, goes, refuses}
 use Rattle.run.specs.Run.{State, run}
 use Rattle.run.specs.Input.{runInput}
-use Rattle.run.specs.Signs.{signedField, allCrossings, rows}
-use Rattle.run.specs.Grazed.{grazed}
+use Rattle.run.specs.Signs.{rows}
+use Rattle.run.specs.Method.{fieldBy, crossingsBy, grazedBy}
 use Rattle.job_checks.specs.Job.{Job, Lent}
 use Rattle.job_checks.specs.Refusals.{refusal}
 use Rattle.job_clear.specs.Cleared.{zeros, cleared}
@@ -24,14 +24,14 @@ pub record Outcome : Type 0 where
 abbrev pub unchanged : ℕ → Lent → Outcome
 unchanged n b = record { answer = Refused n; left = b }
 
--- 0: the signed field, the names, the counts and the rows, and the queue all zero
+-- 0: the field with its signs, the names, the counts and the rows, by the method of the signs, and the queue all zero
 abbrev pub filled : Job → State → Lent → Lent
 filled j s b =
-    let field = signedField (j .grid) (j .mesh) (s .field) in
+    let field = fieldBy (j .sign) (j .grid) (j .mesh) (s .field) in
     record {
       field = field;
       names = s .names;
-      crossings = allCrossings (j .grid) (j .mesh);
+      crossings = crossingsBy (j .sign) (j .grid) (j .mesh);
       rows = rows (j .grid) field;
       distances = zeros (b .distances);
       cells = zeros (b .cells);
@@ -40,7 +40,7 @@ filled j s b =
 
 -- what is counted of a job: the entries taken in its run, the most that waited at once, and how often a ray grazed a triangle
 abbrev pub tallyOf : Job → State → Tally
-tallyOf j s = record { pops = s .pops; peak = s .peak; grazed = grazed (j .grid) (j .mesh) }
+tallyOf j s = record { pops = s .pops; peak = s .peak; grazed = grazedBy (j .sign) (j .grid) (j .mesh) }
 
 -- what a run that has ended gives
 unfoldable pub ended : Job → Lent → Turn State → Outcome
@@ -49,7 +49,7 @@ ended j b (refuses n) = record { answer = Refused n; left = cleared b }
 
 -- the run of a job over the lent queue, whose room is its length
 abbrev pub runOf : Job → Lent → Turn State
-runOf j b = run (runInput (j .grid) (j .mesh) (length (b .distances)) (j .limit))
+runOf j b = run (runInput (j .grid) (j .mesh) (j .sign) (length (b .distances)) (j .limit))
 
 unfoldable pub unlessRefused : ℕ → Lent → Outcome → Outcome
 unlessRefused zero b o = o

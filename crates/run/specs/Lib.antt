@@ -6,3 +6,4 @@ pub mod Good
 pub mod Keys
 pub mod Grazed
 pub mod Ends
+pub mod Method
