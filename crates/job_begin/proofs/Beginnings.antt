@@ -7,6 +7,7 @@ use lib.ListN.{length, replicate, length-replicate}
 use lib.Ieee.{Float}
 use Rattle.float.specs.Arith.{fMax}
 use Rattle.lists.specs.Turns.{turns, told}
+use Rattle.terms.specs.declared.SignMethod.{SignMethod}
 use Rattle.grid.specs.declared.Grid.{Grid}
 use Rattle.grid.specs.Index.{total}
 use Rattle.mesh.specs.Mesh.{Mesh, trianglesIn}
@@ -16,8 +17,8 @@ use Rattle.job_checks.specs.Refusals.{refusalBy}
 use Rattle.job_checks.proofs.Accepted.{Accepted, accepted}
 use Rattle.job_begin.specs.Begins.{lengthsWith, Begins}
 
-module _ (g : Grid) (m : Mesh) (crossings rows room : ℕ) (field : List Float) (names : List ℕ) (k : ℕ) (e : k ≡ refusalBy g m (lengthsWith field names crossings rows room)) where
-  pub begins-refused : (k ≡ 0 → ⊥) → Begins g m crossings rows room field names field names (record { refused = k; number = 0 })
+module _ (g : Grid) (m : Mesh) (sign : SignMethod) (crossings rows room : ℕ) (field : List Float) (names : List ℕ) (k : ℕ) (e : k ≡ refusalBy g m (lengthsWith field names crossings rows room)) where
+  pub begins-refused : (k ≡ 0 → ⊥) → Begins g m sign crossings rows room field names field names (record { refused = k; number = 0 })
   begins-refused z =
       record { refused-is = e; unchanged = λ w. (refl, refl); unseeded = λ w. refl; seeded = λ w. absurd (z w) }
 
@@ -37,13 +38,13 @@ module _ (g : Grid) (m : Mesh) (crossings rows room : ℕ) (field : List Float) 
       bare-long = (ap length field-bare ∙ length-replicate (total g) fMax, ap length names-bare ∙ length-replicate (total g) none)
 
       pub begins-seeded : (number : ℕ) {field′ : List Float} {names′ : List ℕ}
-          → turns (overTriangle g m) (length (trianglesIn m)) (seedState bare unnamed) ≡ told number (seedState field′ names′)
-          → Begins g m crossings rows room field names field′ names′ (record { refused = 0; number = number })
+          → turns (overTriangle g m sign) (length (trianglesIn m)) (seedState bare unnamed) ≡ told number (seedState field′ names′)
+          → Begins g m sign crossings rows room field names field′ names′ (record { refused = 0; number = number })
       begins-seeded number t =
           record {
             refused-is = sym z ∙ e;
             unchanged = λ w. absurd (w refl);
             unseeded = λ w. absurd (w refl);
             seeded = λ w.
-                sym (λ i. turns (overTriangle g m) (length (trianglesIn m)) (seedState (field-bare i) (names-bare i))) ∙ t;
+                sym (λ i. turns (overTriangle g m sign) (length (trianglesIn m)) (seedState (field-bare i) (names-bare i))) ∙ t;
           }

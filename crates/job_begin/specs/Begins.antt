@@ -6,6 +6,7 @@ use lib.ListN.{length, replicate}
 use lib.Ieee.{Float}
 use Rattle.float.specs.Arith.{fMax}
 use Rattle.lists.specs.Turns.{turns, told}
+use Rattle.terms.specs.declared.SignMethod.{SignMethod}
 use Rattle.grid.specs.declared.Grid.{Grid}
 use Rattle.grid.specs.Index.{total}
 use Rattle.mesh.specs.Mesh.{Mesh, trianglesIn}
@@ -29,9 +30,9 @@ lengthsWith field names crossings rows room =
     }
 
 -- The field and the names become field′ and names′: as they were where a number of the checks refuses, else seeded from bare ones.
-pub record Begins (g : Grid) (m : Mesh) (crossings rows room : ℕ) (field : List Float) (names : List ℕ) (field′ : List Float) (names′ : List ℕ) (r : Begun) : Type 0 where
+pub record Begins (g : Grid) (m : Mesh) (sign : SignMethod) (crossings rows room : ℕ) (field : List Float) (names : List ℕ) (field′ : List Float) (names′ : List ℕ) (r : Begun) : Type 0 where
   pub refused-is : r .refused ≡ refusalBy g m (lengthsWith field names crossings rows room)
   pub unchanged : (r .refused ≡ 0 → ⊥) → (field′ ≡ field) × (names′ ≡ names)
   pub unseeded : (r .refused ≡ 0 → ⊥) → r .number ≡ 0
   pub seeded : r .refused ≡ 0
-      → turns (overTriangle g m) (length (trianglesIn m)) (seedState (replicate (total g) fMax) (replicate (total g) none)) ≡ told (r .number) (seedState field′ names′)
+      → turns (overTriangle g m sign) (length (trianglesIn m)) (seedState (replicate (total g) fMax) (replicate (total g) none)) ≡ told (r .number) (seedState field′ names′)

@@ -30,7 +30,7 @@ pub fn begin(
 ) -> Begun
     ensures { λ r.
         let m = meshOf (now (vertices .entry)) topology given (now (indices .entry)) in
-        ⌜ Begins grid m crossings rows room (now (field .entry)) (now (names .entry)) (now (field .exit))
+        ⌜ Begins grid m (terms .sign) crossings rows room (now (field .entry)) (now (names .entry)) (now (field .exit))
         (now (names .exit)) r ⌝ }
 {
     let lengths = Lengths {
@@ -51,7 +51,17 @@ pub fn begin(
     }
     job_clear::fill_field(field);
     slices::fill_numbers(names, 4_294_967_295);
-    let number = run_seed::seed(field, names, grid, vertices, topology, given, indices);
+    let sign = terms.sign;
+    let number = run_seed::seed(
+        field,
+        names,
+        grid,
+        vertices,
+        topology,
+        given,
+        indices,
+        sign,
+    );
     Begun {
         refused: 0,
         number: number,

@@ -29,7 +29,7 @@ conclude-requires : tie.Need-conclude-requires
 conclude-requires c κs =
     let ran : tie.After-run-field = search in
     let s = entry ran in
-    (s .pre .0, (run-over (length (s .args .distances .now)) (s .args .terms .limit) (ran .run-field .ensures), s .pre .1 .1))
+    (s .pre .0, (run-over (s .args .terms .sign) (length (s .args .distances .now)) (s .args .terms .limit) (ran .run-field .ensures), s .pre .1 .1))
 
 returns : tie.Need-returns
 returns c =
