@@ -10,7 +10,7 @@ use lib.Dec.{ltb}
 use lib.ListN.{length, getD}
 use lib.Ieee.{Float, nan}
 use Rattle.float.specs.Arith.{if_then_else_}
-use Rattle.float.specs.RootOf.{rootOf}
+use Rattle.float_shortcut.specs.Shown.{signedRoot}
 use Rattle.lists.specs.Turns.{Turn, goes, refuses, andThen, turns}
 use Rattle.lists.proofs.Turns.{then-nothing, then-alike, turns-same, turns-refused}
 use Rattle.queue.specs.declared.Entry.{Entry}
@@ -68,7 +68,7 @@ turns-next f k s = ap (λ (n : ℕ). turns f n s) (add-one k)
 
 module _ (k : ℕ) (to : List ℕ) (squares : List Float) (field₀ : List Float) (names₀ : List ℕ) where
   abbrev offered : (Entry → State → Turn State) → ℕ → State → Turn State
-  offered also j = offerPlace also k (placeOf (getD to j 0)) (rootOf (getD squares j nan))
+  offered also j = offerPlace also k (placeOf (getD to j 0)) (signedRoot (getD squares j nan))
 
   abbrev step : RunInput → ℕ → State → Turn State
   step g = offered (queue g)

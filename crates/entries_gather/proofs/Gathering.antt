@@ -40,10 +40,10 @@ module _ (k : ℕ) (to : List ℕ) (squares : List Float) (field₀ : List Float
 
   module _ {field : List Float} {names cells distances : List ℕ} {count j : ℕ} (h : Gathering k to squares field₀ names₀ field names cells distances count j) (l : j < 27) where
     -- the offer may be made
-    pub may-pass : PlacesFit to squares field₀ names₀ → Passable (getD to j 0) (getD squares j nan) field names
+    pub may-pass : PlacesFit to squares field₀ names₀ → Passable (getD to j 0) field names
     may-pass fit =
         let p = fit .each j l in
-        record { below = λ z. omega (arith, p .below z, h .field-long); alike = p .alike; even = h .names-long ∙ p .even ∙ sym (h .field-long) }
+        record { below = λ z. omega (arith, p .below z, h .field-long); even = h .names-long ∙ p .even ∙ sym (h .field-long) }
 
     module _ {field′ : List Float} {names′ : List ℕ} (v : Verdict) (c : Considered k (getD to j 0) (getD squares j nan) field names field′ names′ v)
         (fl : length field′ ≡ length field) (nl : length names′ ≡ length names) where

@@ -4,6 +4,7 @@ use mathlib.Core.Path.{_≡_}
 use mathlib.Core.Bool.{Bool, true, false}
 use mathlib.Core.List.{List}
 use lib.Ieee.{Float}
+use Rattle.terms.specs.declared.SignMethod.{SignMethod}
 use Rattle.grid.specs.declared.Grid.{Grid}
 use Rattle.mesh.specs.Mesh.{Mesh}
 use Rattle.queue.specs.declared.Entry.{Entry}
@@ -25,6 +26,6 @@ pub record BatchGathered (k : ℕ) (to : List ℕ) (squares : List Float) (field
   pub is : (g : RunInput) (s : State) → offerAll (queue g) k to squares (over field names s) ≡ queueAll g b (over field′ names′ s)
 
 -- the same of the cells around an entry
-pub record PopOffered (g : Grid) (m : Mesh) (e : Entry) (field : List Float) (names : List ℕ) (field′ : List Float) (names′ : List ℕ) (b : Batch) : Type 0 where
+pub record PopOffered (g : Grid) (m : Mesh) (sign : SignMethod) (e : Entry) (field : List Float) (names : List ℕ) (field′ : List Float) (names′ : List ℕ) (b : Batch) : Type 0 where
   pub few : b .count < 28
-  pub is : (room any : ℕ) (s : State) → let G = keyed (runInput g m room any) in spreadAround G e (over field names s) ≡ queueAll G b (over field′ names′ s)
+  pub is : (room any : ℕ) (s : State) → let G = keyed (runInput g m sign room any) in spreadAround G e (over field names s) ≡ queueAll G b (over field′ names′ s)

@@ -77,17 +77,19 @@ pub fn offers(
         (length (now names) ≡ total grid) ⌝ }
     ensures { λ r.
         let m = meshOf (now (vertices .entry)) topology given (now (indices .entry)) in
-        ⌜ PopOffered grid m e (now (field .entry)) (now (names .entry)) (now (field .exit)) (now (names .exit)) r ⌝ }
+        ⌜ PopOffered grid m (terms .sign) e (now (field .entry)) (now (names .entry)) (now (field .exit)) (now (names .exit)) r ⌝ }
 {
     let steps = run_around::STEPS;
     let mut to = [0u32; 27];
     let mut squares = [0.0f32; 27];
+    let sign = terms.sign;
     run_around::look_around(
         grid,
         vertices,
         topology,
         given,
         indices,
+        sign,
         &steps,
         e,
         &mut to,

@@ -54,7 +54,7 @@ module _ (g : Grid) (m : Mesh) (sign : SignMethod) (limit : ℕ) (field : List F
     triangles = length-map queue (λ (e : Entry). e .triangle) i;
   }
 
-  module _ (field₁ : List Float) (names₁ : List ℕ) (begun : Begun) (s : Begins g m (length crossings) (length rows) (length queue) field names field₁ names₁ begun) where
+  module _ (field₁ : List Float) (names₁ : List ℕ) (begun : Begun) (s : Begins g m sign (length crossings) (length rows) (length queue) field names field₁ names₁ begun) where
     first : begun .refused ≡ refusal job lent
     first = s .refused-is ∙ ap (refusalBy g m) (sym one-length)
 
@@ -78,7 +78,7 @@ module _ (g : Grid) (m : Mesh) (sign : SignMethod) (limit : ℕ) (field : List F
       is-long = record { crossings-long = taken .long .crossings; rows-long = taken .long .rows }
 
       module _ (l-field : length field₁ ≡ length field) (l-names : length names₁ ≡ length names) (queue₁ : List Entry) (l-queue : length queue₁ ≡ length queue) (clear : ClearedRow queue queue₁) where
-        pub seeds : Seeded g m (begun .number) field₁ names₁ queue₁
+        pub seeds : Seeded g m sign (begun .number) field₁ names₁ queue₁
         seeds = record {
           seeds = s .seeded z;
           field-long = l-field ∙ taken .long .field;
@@ -89,13 +89,13 @@ module _ (g : Grid) (m : Mesh) (sign : SignMethod) (limit : ℕ) (field : List F
         }
 
         module _ (field₂ : List Float) (names₂ : List ℕ) (queue₂ : List Entry) (ran : Progress) (l-field₂ : length field₂ ≡ length field₁) (l-names₂ : length names₂ ≡ length names₁) (l-queue₂ : length queue₂ ≡ length queue₁)
-            (w : LeavesRow g m (length queue₁) limit field₂ names₂ queue₂ ran) where
+            (w : LeavesRow g m sign (length queue₁) limit field₂ names₂ queue₂ ran) where
           pub field-long : length field₂ ≡ total g
           field-long = w .holds .field-long
 
           -- the run of the job, whose room is the row's length
-          went : run (runInput g m (length (rowDistances queue)) limit) ≡ told (ran .number) (stateOf (orderIn m) field₂ names₂ (rowDistances queue₂) (rowCells queue₂) (rowTriangles queue₂) ran)
-          went = ap (λ (k : ℕ). run (runInput g m k limit)) (length-map queue (λ (e : Entry). e .distance) ∙ sym l-queue) ∙ w .is 0
+          went : run (runInput g m sign (length (rowDistances queue)) limit) ≡ told (ran .number) (stateOf (orderIn m) field₂ names₂ (rowDistances queue₂) (rowCells queue₂) (rowTriangles queue₂) ran)
+          went = ap (λ (k : ℕ). run (runInput g m sign k limit)) (length-map queue (λ (e : Entry). e .distance) ∙ sym l-queue) ∙ w .is 0
 
           -- what is lent stays as long as it was
           as-long : (f : Entry → ℕ) → length (map f queue₂) ≡ length (map f queue)
@@ -106,13 +106,13 @@ module _ (g : Grid) (m : Mesh) (sign : SignMethod) (limit : ℕ) (field : List F
               lengths-same (lentRow field₂ names₂ crossings rows queue₂) lent (l-field₂ ∙ l-field) (l-names₂ ∙ l-names) refl refl
               (as-long (λ (e : Entry). e .distance)) (as-long (λ (e : Entry). e .cell)) (as-long (λ (e : Entry). e .triangle))
 
-          module _ (field₃ : List Float) (names₃ crossings₃ rows₃ : List ℕ) (answer : Answer) (c : Closed g m ran field₂ names₂ crossings rows field₃ names₃ crossings₃ rows₃ answer) where
+          module _ (field₃ : List Float) (names₃ crossings₃ rows₃ : List ℕ) (answer : Answer) (c : Closed g m sign ran field₂ names₂ crossings rows field₃ names₃ crossings₃ rows₃ answer) where
             -- nothing waits: the row is all zero
             pub done-with : ran .number ≡ 0 → Gives (outcome job lent) answer (lentRow field₃ names₃ crossings₃ rows₃ queue₂)
             done-with y =
                 gives-outcome job lent none-refused
                 (gives-run job (lentRow field₂ names₂ crossings rows queue₂) lent long-as went
-                (gives-done g m sign limit field₂ names₂ crossings rows (rowDistances queue₂) (rowCells queue₂) (rowTriangles queue₂) ran c y (run-over (length queue₁) limit w)))
+                (gives-done g m sign limit field₂ names₂ crossings rows (rowDistances queue₂) (rowCells queue₂) (rowTriangles queue₂) ran c y (run-over sign (length queue₁) limit w)))
 
             -- or the row is cleared
             pub cleared-after : (ran .number ≡ 0 → ⊥) → (queue₃ : List Entry) → ClearedRow queue₂ queue₃ → Gives (outcome job lent) answer (lentRow field₃ names₃ crossings₃ rows₃ queue₃)

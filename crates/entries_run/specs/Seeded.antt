@@ -7,6 +7,7 @@ use lib.ListN.{length, replicate}
 use lib.Ieee.{Float}
 use Rattle.float.specs.Arith.{fMax}
 use Rattle.lists.specs.Turns.{turns, told}
+use Rattle.terms.specs.declared.SignMethod.{SignMethod}
 use Rattle.grid.specs.declared.Grid.{Grid}
 use Rattle.grid.specs.Index.{total}
 use Rattle.mesh.specs.Mesh.{Mesh, trianglesIn}
@@ -22,8 +23,8 @@ abbrev pub begunBy : ℕ → Progress
 begunBy number = record { number = number; waiting = 0; pops = 0; peak = 0 }
 
 -- seeding an all-clear field came to a number, and left these
-pub record Seeded (g : Grid) (m : Mesh) (number : ℕ) (field : List Float) (names : List ℕ) (row : List Entry) : Type 0 where
-  pub seeds : turns (overTriangle g m) (length (trianglesIn m)) (seedState (replicate (total g) fMax) (replicate (total g) none)) ≡ told number (seedState field names)
+pub record Seeded (g : Grid) (m : Mesh) (sign : SignMethod) (number : ℕ) (field : List Float) (names : List ℕ) (row : List Entry) : Type 0 where
+  pub seeds : turns (overTriangle g m sign) (length (trianglesIn m)) (seedState (replicate (total g) fMax) (replicate (total g) none)) ≡ told number (seedState field names)
   pub field-long : length field ≡ total g
   pub names-long : length names ≡ total g
   pub empty : HeldRow byKeys row 0

@@ -43,11 +43,11 @@ pub fn run_row(
     terms: Terms,
 ) -> Progress
     requires { let m = meshOf (now vertices) topology given (now indices) in
-        ⌜ Fit grid m × Seeded grid m number (now field) (now names) (now row) ⌝ }
+        ⌜ Fit grid m × Seeded grid m (terms .sign) number (now field) (now names) (now row) ⌝ }
     ensures { λ r.
         let m = meshOf (now (vertices .entry)) topology given (now (indices .entry)) in
         let left = now (row .exit) in
-        ⌜ Leaves grid m (λ any. run (runInput grid m (length (now (row .entry))) (terms .limit)))
+        ⌜ Leaves grid m (λ any. run (runInput grid m (terms .sign) (length (now (row .entry))) (terms .limit)))
         (now (field .exit)) (now (names .exit)) (rowDistances left) (rowCells left) (rowTriangles left) r ⌝ }
 {
     let at = begun(number);

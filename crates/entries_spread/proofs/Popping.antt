@@ -8,6 +8,7 @@ use mathlib.Core.List.{List}
 use lib.ListN.{length}
 use lib.Ieee.{Float}
 use Rattle.lists.specs.Turns.{goes}
+use Rattle.terms.specs.declared.SignMethod.{SignMethod}
 use Rattle.grid.specs.declared.Grid.{Grid}
 use Rattle.mesh.specs.Mesh.{Mesh}
 use Rattle.queue.specs.declared.Entry.{Entry}
@@ -40,9 +41,9 @@ module _ (limit : ℕ) (p : Progress) {p₁ : Progress} (is : p₁ ≡ poppedBy 
   was-taken : p₁ .number ≡ 0 → p₁ ≡ oneTaken p
   was-taken z = is ∙ sym (one-taken limit p (was-left z))
 
-module _ {g : Grid} {m : Mesh} {limit : ℕ} {field₀ field : List Float} {names₀ ds₀ cs₀ ts₀ names ds cs ts : List ℕ} {r₀ p p₁ : Progress}
-    (a : Spreads g m limit field₀ names₀ ds₀ cs₀ ts₀ r₀ field names ds cs ts p) (is : p₁ ≡ poppedBy limit p) where
-  pub ends-spent : 0 < p .waiting → (p₁ .number ≡ 0 → ⊥) → Told g m (λ G. spreading G limit) field₀ names₀ ds₀ cs₀ ts₀ r₀ field names ds cs ts p₁
+module _ {g : Grid} {m : Mesh} {sign : SignMethod} {limit : ℕ} {field₀ field : List Float} {names₀ ds₀ cs₀ ts₀ names ds cs ts : List ℕ} {r₀ p p₁ : Progress}
+    (a : Spreads g m sign limit field₀ names₀ ds₀ cs₀ ts₀ r₀ field names ds cs ts p) (is : p₁ ≡ poppedBy limit p) where
+  pub ends-spent : 0 < p .waiting → (p₁ .number ≡ 0 → ⊥) → Told g m sign (λ G. spreading G limit) field₀ names₀ ds₀ cs₀ ts₀ r₀ field names ds cs ts p₁
   ends-spent some z = let e = was-spent limit p is z in rw (is ∙ sym (spent limit p e)) (spread-spent a some e)
 
   module _ (z : p₁ .number ≡ 0) where
@@ -55,8 +56,8 @@ module _ {g : Grid} {m : Mesh} {limit : ℕ} {field₀ field : List Float} {name
       still-held = rw (was-taken limit p is z) (rest-held p (a .states) took)
 
       pub pop : {field′ : List Float} {names′ ds′ cs′ ts′ : List ℕ} {b : Batch} {r : Progress} → Fit g m → length ds₁ ≡ length ds → length field′ ≡ length field → length names′ ≡ length names
-          → PopOffered g m e field names field′ names′ b → ToldByKeys (λ G. queueAll G b) field′ names′ ds₁ cs₁ ts₁ p₁ field′ names′ ds′ cs′ ts′ r
-          → Told g m (λ G s. takeFirst G goes (s .waiting) s) field names ds cs ts p field′ names′ ds′ cs′ ts′ r
+          → PopOffered g m sign e field names field′ names′ b → ToldByKeys (λ G. queueAll G b) field′ names′ ds₁ cs₁ ts₁ p₁ field′ names′ ds′ cs′ ts′ r
+          → Told g m sign (λ G s. takeFirst G goes (s .waiting) s) field names ds cs ts p field′ names′ ds′ cs′ ts′ r
       unfolding runInput
       pop {field′} {names′} {ds′} {cs′} {ts′} {b} {r} fit l fl nl o w =
           let queued = subst (λ (x : Progress). ToldByKeys (λ G. queueAll G b) field′ names′ ds₁ cs₁ ts₁ x field′ names′ ds′ cs′ ts′ r) (was-taken limit p is z) w in

@@ -26,10 +26,10 @@ pub fn spread(
 ) -> Progress
     requires { let m = meshOf (now vertices) topology given (now indices) in
         ⌜ Fit grid m × HoldsRow grid (now field) (now names) (now row) (at .waiting) ×
-        GoodRow grid m (now field) (now names) (now row) at × (at .number ≡ 0) × (at .pops ≡ 0) ⌝ }
+        GoodRow grid m (terms .sign) (now field) (now names) (now row) at × (at .number ≡ 0) × (at .pops ≡ 0) ⌝ }
     ensures { λ r.
         let m = meshOf (now (vertices .entry)) topology given (now (indices .entry)) in
-        ⌜ ToldRow grid m (λ g. spreading g (terms .limit)) (now (field .entry)) (now (names .entry)) (now (row .entry)) at
+        ⌜ ToldRow grid m (terms .sign) (λ g. spreading g (terms .limit)) (now (field .entry)) (now (names .entry)) (now (row .entry)) at
         (now (field .exit)) (now (names .exit)) (now (row .exit)) r ⌝ }
 {
     let count = vertices.len() / 3;

@@ -5,6 +5,7 @@ use lib.Dec.{eqb}
 use lib.Ieee.{Float}
 use Rattle.float.specs.Arith.{if_then_else_}
 use Rattle.lists.specs.Turns.{Turn}
+use Rattle.terms.specs.declared.SignMethod.{SignMethod}
 use Rattle.grid.specs.declared.Grid.{Grid}
 use Rattle.mesh.specs.Mesh.{Mesh}
 use Rattle.queue.specs.declared.Entry.{Entry}
@@ -20,13 +21,13 @@ abbrev pub HoldsRow : Grid → List Float → List ℕ → List Entry → ℕ �
 HoldsRow g field names row n = Holds g field names (rowDistances row) (rowCells row) (rowTriangles row) n
 
 -- and what they hold is a state of the run
-abbrev pub GoodRow : Grid → Mesh → List Float → List ℕ → List Entry → Progress → Type 0
-GoodRow g m field names row p = GoodIn g m field names (rowDistances row) (rowCells row) (rowTriangles row) p
+abbrev pub GoodRow : Grid → Mesh → SignMethod → List Float → List ℕ → List Entry → Progress → Type 0
+GoodRow g m sign field names row p = GoodIn g m sign field names (rowDistances row) (rowCells row) (rowTriangles row) p
 
 -- a turn of the run over what is lent
-abbrev pub ToldRow : Grid → Mesh → (RunInput → State → Turn State) → List Float → List ℕ → List Entry → Progress → List Float → List ℕ → List Entry → Progress → Type 0
-ToldRow g m turn field names row at field′ names′ row′ r =
-    Told g m turn field names (rowDistances row) (rowCells row) (rowTriangles row) at field′ names′ (rowDistances row′) (rowCells row′) (rowTriangles row′) r
+abbrev pub ToldRow : Grid → Mesh → SignMethod → (RunInput → State → Turn State) → List Float → List ℕ → List Entry → Progress → List Float → List ℕ → List Entry → Progress → Type 0
+ToldRow g m sign turn field names row at field′ names′ row′ r =
+    Told g m sign turn field names (rowDistances row) (rowCells row) (rowTriangles row) at field′ names′ (rowDistances row′) (rowCells row′) (rowTriangles row′) r
 
 -- ---- the counts
 

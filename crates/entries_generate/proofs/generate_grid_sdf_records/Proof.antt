@@ -76,8 +76,8 @@ module _ {M : Type 1} (𝓤 : URA M) (H : Heap 𝓤) (A : Atoms 𝓤) (W : Given
       goes =
           -- the refusals that change nothing, or the field and the names seeded
           lends-on ! refl refl refl tt tt tt tt $ lends-on ! refl refl refl tt tt tt tt $ copies ! refl (tt, refl) $ copies ! refl (tt, refl) $ copies ! refl (tt, refl) $
-          calls ! 𝓣 to-begin (a-begun W) (λ b zs. Begins (grid .it) mesh (crossings .count) (rows .count) (queue .count) (field .ref .now) (names .ref .now) (zs .0) (zs .1 .0) b) (asking-nothing to-begin (λ n. met .0 (bound-to to-begin n))) refl refl (tt, refl) (λ b zs₁ l₁ begins.
-          knowing ! (subst (λ (X : Type 0). X) (λ i. Begins (grid .it) mesh (crossings .long i) (rows .long i) (queue .long i) (field .ref .now) (names .ref .now) (zs₁ .0) (zs₁ .1 .0) (b .it)) begins) (λ starts.
+          calls ! 𝓣 to-begin (a-begun W) (λ b zs. Begins (grid .it) mesh (terms .it .sign) (crossings .count) (rows .count) (queue .count) (field .ref .now) (names .ref .now) (zs .0) (zs .1 .0) b) (asking-nothing to-begin (λ n. met .0 (bound-to to-begin n))) refl refl (tt, refl) (λ b zs₁ l₁ begins.
+          knowing ! (subst (λ (X : Type 0). X) (λ i. Begins (grid .it) mesh (terms .it .sign) (crossings .long i) (rows .long i) (queue .long i) (field .ref .now) (names .ref .now) (zs₁ .0) (zs₁ .1 .0) (b .it)) begins) (λ starts.
           puts ! (bin ! (opd ! refl) (opd ! refl) tt) tt (tt, tt) $
           returns-if ! (opd ! refl) (λ d. calls-is ! 𝓣 (to-refused b) (an-answer W) (Refused (b .it .refused)) (asking-nothing (to-refused b) (λ n. met .1 (bound-to (to-refused b) n))) refl refl (tt, refl) (λ is _ _.
           returns-at ! Post refl refl tt $
@@ -88,7 +88,7 @@ module _ {M : Type 1} (𝓤 : URA M) (H : Heap 𝓤) (A : Atoms 𝓤) (W : Given
           calls ! 𝓣 (to-clear queue) (a-unit W) (λ r zs. ClearedRow (queue .ref .now) (zs .0)) (asking-nothing (to-clear queue) (λ n. met .2 (bound-to (to-clear queue) n))) refl refl (tt, refl) (λ _ q₁ lq₁ clear₁. move ! (0 ∷ 2 ∷ 3 ∷ 4 ∷ 5 ∷ 6 ∷ 7 ∷ 1 ∷ []) $
           -- the run
           lends-on ! refl refl refl tt tt tt tt $ lends-on ! refl refl refl tt tt tt tt $ lends-on ! refl refl refl tt tt tt tt $ move ! (0 ∷ 1 ∷ 2 ∷ 3 ∷ 4 ∷ 7 ∷ []) $
-          calls ! 𝓣 (to-run (field₁ zs₁ l₁) (names₁ zs₁ l₁) (holding queue (q₁ .0) (lq₁ .0)) b) (a-progress W) (λ r zs. LeavesRow (grid .it) mesh (length (q₁ .0)) (terms .it .limit) (zs .0) (zs .1 .0) (zs .1 .1 .0) r)
+          calls ! 𝓣 (to-run (field₁ zs₁ l₁) (names₁ zs₁ l₁) (holding queue (q₁ .0) (lq₁ .0)) b) (a-progress W) (λ r zs. LeavesRow (grid .it) mesh (terms .it .sign) (length (q₁ .0)) (terms .it .limit) (zs .0) (zs .1 .0) (zs .1 .1 .0) r)
           (asking (to-run (field₁ zs₁ l₁) (names₁ zs₁ l₁) (holding queue (q₁ .0) (lq₁ .0)) b) _ (
             fits (grid .it) mesh (terms .it .sign) (terms .it .limit) (field .ref .now) (names .ref .now) (crossings .ref .now) (rows .ref .now) (queue .ref .now) (zs₁ .0) (zs₁ .1 .0) (b .it) starts (is-zero (b .it .refused) d),
             seeds (grid .it) mesh (terms .it .sign) (terms .it .limit) (field .ref .now) (names .ref .now) (crossings .ref .now) (rows .ref .now) (queue .ref .now) (zs₁ .0) (zs₁ .1 .0) (b .it) starts (is-zero (b .it .refused) d) (l₁ .0) (l₁ .1 .0) (q₁ .0) (lq₁ .0) clear₁,
@@ -97,7 +97,7 @@ module _ {M : Type 1} (𝓤 : URA M) (H : Heap 𝓤) (A : Atoms 𝓤) (W : Given
           -- what follows it
           lends-on ! refl refl refl tt tt tt tt $ lends-on ! refl refl refl tt tt tt tt $ lends-on ! refl refl refl tt tt tt tt $ lends-on ! refl refl refl tt tt tt tt $
           calls ! 𝓣 (to-close (holding (field₁ zs₁ l₁) (zs₂ .0) (l₂ .0)) (holding (names₁ zs₁ l₁) (zs₂ .1 .0) (l₂ .1 .0)) ran) (an-answer W)
-          (λ r zs. Closed (grid .it) mesh (ran .it) (zs₂ .0) (zs₂ .1 .0) (crossings .ref .now) (rows .ref .now) (zs .0) (zs .1 .0) (zs .1 .1 .0) (zs .1 .1 .1 .0) r)
+          (λ r zs. Closed (grid .it) mesh (terms .it .sign) (ran .it) (zs₂ .0) (zs₂ .1 .0) (crossings .ref .now) (rows .ref .now) (zs .0) (zs .1 .0) (zs .1 .1 .0) (zs .1 .1 .1 .0) r)
           (asking (to-close (holding (field₁ zs₁ l₁) (zs₂ .0) (l₂ .0)) (holding (names₁ zs₁ l₁) (zs₂ .1 .0) (l₂ .1 .0)) ran) _ (
             fits (grid .it) mesh (terms .it .sign) (terms .it .limit) (field .ref .now) (names .ref .now) (crossings .ref .now) (rows .ref .now) (queue .ref .now) (zs₁ .0) (zs₁ .1 .0) (b .it) starts (is-zero (b .it .refused) d),
             field-long (grid .it) mesh (terms .it .sign) (terms .it .limit) (field .ref .now) (names .ref .now) (crossings .ref .now) (rows .ref .now) (queue .ref .now) (zs₁ .0) (zs₁ .1 .0) (b .it) starts (is-zero (b .it .refused) d) (l₁ .0) (l₁ .1 .0) (q₁ .0) (lq₁ .0) clear₁ (zs₂ .0) (zs₂ .1 .0) (zs₂ .1 .1 .0) (ran .it) (l₂ .0) (l₂ .1 .0) (l₂ .1 .1 .0) went,

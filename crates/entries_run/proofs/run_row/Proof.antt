@@ -48,14 +48,14 @@ module _ {M : Type 1} (𝓤 : URA M) (H : Heap 𝓤) (A : Atoms 𝓤) (W : Given
     to-spread row₁ p = value _ grid ∷ shown vertices ∷ value _ topology ∷ value _ given ∷ shown indices ∷ lent field ∷ lent names ∷ lent row₁ ∷ value _ p ∷ value _ terms ∷ []
 
     abbrev Pre : Type 0
-    Pre = Fit (grid .it) mesh × Seeded (grid .it) mesh (number .it) (field .ref .now) (names .ref .now) (row .ref .now)
+    Pre = Fit (grid .it) mesh × Seeded (grid .it) mesh (terms .it .sign) (number .it) (field .ref .now) (names .ref .now) (row .ref .now)
 
     module _ (pre : Pre) (bs : Blocks (f.Code.function .locals)) where
       abbrev En : Env 𝓤 H
       En = envOf 𝓤 H (f.Code.function .locals) bs
 
       -- what is lent goes back, with what is promised of it
-      leaves : (zs : Changes ps) (l : Long ps zs) (r : Valued (a-progress W)) → LeavesRow (grid .it) mesh (length (row .ref .now)) (terms .it .limit) (zs .0) (zs .1 .0) (zs .1 .1 .0) (r .it) → Sq W (slices (after ps zs l) []) (prop (Post (a-progress W .val (r .it))))
+      leaves : (zs : Changes ps) (l : Long ps zs) (r : Valued (a-progress W)) → LeavesRow (grid .it) mesh (terms .it .sign) (length (row .ref .now)) (terms .it .limit) (zs .0) (zs .1 .0) (zs .1 .1 .0) (r .it) → Sq W (slices (after ps zs l) []) (prop (Post (a-progress W .val (r .it))))
       leaves zs l r is = by ! (via 𝓤 _ (to-exit 𝓤 H A W (after ps zs l) (a-progress W) r _ is) (ends-at 𝓤 H A f.ended (stays ss) (f.clauses 𝓤 H A mem run) W (own-bound ps) _ (r .it) (lefts ps zs) (fitting ps zs l)))
 
       goes : Sq W (Locals 𝓤 H En (empty ∷ map holds (words ps)) ∷ slices ps []) (runs (𝓣 .C) (𝓣 .Λ) En f.Code.Mir.t-1 (atRet En Post))
@@ -74,7 +74,7 @@ module _ {M : Type 1} (𝓤 : URA M) (H : Heap 𝓤) (A : Atoms 𝓤) (W : Given
           leaves (field .ref .now, (names .ref .now, (zs .0, tt))) (refl, (refl, (l .0, tt))) p (queueing-refused (pre .0) (pre .1) (is-zero (number .it) d) (zs .0) all (terms .it .limit) (not-zero (p .it .number) e))) (λ e.
           -- and spread
           lends-on ! refl refl refl tt tt tt tt $ lends-on ! refl refl refl tt tt tt tt $ lends-on ! refl refl refl tt tt tt tt $
-          calls ! 𝓣 (to-spread (holding row (zs .0) (l .0)) p) (a-progress W) (λ r us. ToldRow (grid .it) mesh (λ g. spreading g (terms .it .limit)) (field .ref .now) (names .ref .now) (zs .0) (p .it) (us .0) (us .1 .0) (us .1 .1 .0) r)
+          calls ! 𝓣 (to-spread (holding row (zs .0) (l .0)) p) (a-progress W) (λ r us. ToldRow (grid .it) mesh (terms .it .sign) (λ g. spreading g (terms .it .limit)) (field .ref .now) (names .ref .now) (zs .0) (p .it) (us .0) (us .1 .0) (us .1 .1 .0) r)
           (asking (to-spread (holding row (zs .0) (l .0)) p) _ (
             pre .0,
             queueing-holds (pre .0) (pre .1) (is-zero (number .it) d) (zs .0) all,

@@ -64,7 +64,7 @@ module _ {M : Type 1} (𝓤 : URA M) (H : Heap 𝓤) (A : Atoms 𝓤) (W : Given
     State = (zs : Changes ps) × Long ps zs × Valued (a-progress W)
 
     abbrev Pre : Type 0
-    Pre = Fit (grid .it) mesh × HoldsRow (grid .it) (field .ref .now) (names .ref .now) (row .ref .now) (begin .it .waiting) × GoodRow (grid .it) mesh (field .ref .now) (names .ref .now) (row .ref .now) (begin .it) × (begin .it .number ≡ 0) × (begin .it .pops ≡ 0)
+    Pre = Fit (grid .it) mesh × HoldsRow (grid .it) (field .ref .now) (names .ref .now) (row .ref .now) (begin .it .waiting) × GoodRow (grid .it) mesh (terms .it .sign) (field .ref .now) (names .ref .now) (row .ref .now) (begin .it) × (begin .it .number ≡ 0) × (begin .it .pops ≡ 0)
 
     module _ (pre : Pre) (bs : Blocks (f.Code.function .locals)) where
       abbrev En : Env 𝓤 H
@@ -74,11 +74,11 @@ module _ {M : Type 1} (𝓤 : URA M) (H : Heap 𝓤) (A : Atoms 𝓤) (W : Given
       At w = Locals 𝓤 H En ((empty ∷ map holds (words ps)) ++ (holds (a-usize W .val (count .it)) ∷ holds (a-progress W .val (w .2 .it)) ∷ [])) ∷ slices (after ps (w .0) (w .1)) []
 
       abbrev Facts : ℕ → State → Type 0
-      Facts t w = let zs = w .0 .1 .1 .0 in (w .2 .it .pops + t ≡ terms .it .limit) × Spreads (grid .it) mesh (terms .it .limit)
+      Facts t w = let zs = w .0 .1 .1 .0 in (w .2 .it .pops + t ≡ terms .it .limit) × Spreads (grid .it) mesh (terms .it .sign) (terms .it .limit)
           (field .ref .now) (names .ref .now) (rowDistances (row .ref .now)) (rowCells (row .ref .now)) (rowTriangles (row .ref .now)) (begin .it)
           (w .0 .0) (w .0 .1 .0) (rowDistances zs) (rowCells zs) (rowTriangles zs) (w .2 .it)
 
-      leaves : (w : State) → ToldRow (grid .it) mesh (λ g. spreading g (terms .it .limit)) (field .ref .now) (names .ref .now) (row .ref .now) (begin .it) (w .0 .0) (w .0 .1 .0) (w .0 .1 .1 .0) (w .2 .it) → Sq W (At w) (runs (𝓣 .C) (𝓣 .Λ) En f.Code.Mir.t-5 (atRet En Post))
+      leaves : (w : State) → ToldRow (grid .it) mesh (terms .it .sign) (λ g. spreading g (terms .it .limit)) (field .ref .now) (names .ref .now) (row .ref .now) (begin .it) (w .0 .0) (w .0 .1 .0) (w .0 .1 .1 .0) (w .2 .it) → Sq W (At w) (runs (𝓣 .C) (𝓣 .Λ) En f.Code.Mir.t-5 (atRet En Post))
       leaves w told =
           copies ! refl (tt, refl) $ returns-at ! Post refl refl tt $
           by ! (via 𝓤 _ (to-exit 𝓤 H A W (after ps (w .0) (w .1)) (a-progress W) (w .2) _ told) (ends-at 𝓤 H A f.ended (stays ss) (f.clauses 𝓤 H A mem run) W (own-bound ps) _ (w .2 .it) (lefts ps (w .0)) (fitting ps (w .0) (w .1))))
@@ -99,7 +99,7 @@ module _ {M : Type 1} (𝓤 : URA M) (H : Heap 𝓤) (A : Atoms 𝓤) (W : Given
           move ! (0 ∷ 3 ∷ 2 ∷ 4 ∷ 5 ∷ 1 ∷ []) $
           -- and offered to the cells around
           lends-on ! refl refl refl tt tt tt tt $ lends-on ! refl refl refl tt tt tt tt $
-          calls ! 𝓣 (to-offers the-field the-names e) (a-batch W) (λ b vs. PopOffered (grid .it) mesh (e .it) fs ns (vs .0) (vs .1 .0) b)
+          calls ! 𝓣 (to-offers the-field the-names e) (a-batch W) (λ b vs. PopOffered (grid .it) mesh (terms .it .sign) (e .it) fs ns (vs .0) (vs .1 .0) b)
           (asking (to-offers the-field the-names e) _ (pre .0 .ready, first-known (p .it) (facts .1 .states) took, facts .1 .holds .field-long, facts .1 .holds .names-long) (λ n. met .2 (bound-to (to-offers the-field the-names e) n))) refl refl (tt, refl) (λ b vs lo off.
           -- what they took up is queued
           lends-on ! refl refl refl tt tt tt tt $ move ! (0 ∷ 5 ∷ []) $
