@@ -64,8 +64,8 @@ unfolding runInput
 ran-low j b r s h =
     let room = length (b .distances) in
     let fit = accepted (j .grid) (j .mesh) (lengthsOf b) r .fit in
-    run-done (runInput (j .grid) (j .mesh) room (j .limit))
-    (fair-input (j .grid) (j .mesh) room (j .limit) (λ a. on-axis (bounds-of (j .grid) (fit .ready .bounded)) a .some) (omega (arith, fit .few)))
+    run-done (runInput (j .grid) (j .mesh) (j .sign) room (j .limit))
+    (fair-input (j .grid) (j .mesh) (j .sign) room (j .limit) (λ a. on-axis (bounds-of (j .grid) (fit .ready .bounded)) a .some) (omega (arith, fit .few)))
     s
     h
     .peak-few
