@@ -41,7 +41,7 @@ extern "C" {
 #endif
 
 /* Raised whenever a function, a record or a number below is no longer what it was. */
-#define SDF_VERSION 8
+#define SDF_VERSION 9
 
 /* The numbers of the whole job [4.1], in the order in which they are checked; the first that applies is given. A
  * question asked by itself [4.4] gives 1 for the grid, 2 for a coordinate that is not finite or above 2,097,152 in
@@ -95,9 +95,13 @@ typedef struct {
  *   limit        how many entries may be taken
  *   pass         how the crossings are counted. SDF_PLAIN adds one to every cell that a hit reaches. SDF_QUICK marks the last
  *                of them alone, and sums back along each line when all triangles are through. The answer and all buffers are
- *                the same by both, so take the quick one; the plain one is its reference. No number is refused */
+ *                the same by both, so take the quick one; the plain one is its reference. No number is refused
+ *   sign         how a distance gets its sign. SDF_RAYCAST casts rays, which a closed hull tells inside from outside. SDF_NORMAL
+ *                asks on which side of the named triangle the cell lies, for what has no closed hull: a floating deck is
+ *                scanned from above alone, and its crossings mean little. The corners of every triangle must then run
+ *                counter-clockwise as seen from above, or from outside. No number is refused */
 typedef struct {
-    uint32_t limit, pass;
+    uint32_t limit, pass, sign;
 } sdf_terms;
 
 typedef struct {
@@ -160,22 +164,24 @@ typedef struct {
     uint32_t number, facets;
 } sdf_stl_answer;
 
-/* An entry of the queue: the bit pattern of its distance, its cell and its triangle. Only the room is the caller's; what
- * an entry holds is the job's. */
+/* An entry of the queue: the key of its distance, which is twice the bit pattern of the magnitude, plus the sign bit; its cell;
+ * and its triangle. Only the room is the caller's; what an entry holds is the job's. */
 typedef struct {
     uint32_t distance, cell, triangle;
 } sdf_entry;
 
-/* How the corners make triangles, whether indices are given, and by which pass crossings are counted. For C these are
- * plain numbers: 0 is a list, and any other number a strip, which is refused; 0 is no indices, and any other number that they
- * are given; 0 is the plain pass, and any other number the quick one. */
+/* How the corners make triangles, whether indices are given, by which pass crossings are counted, and how a distance gets
+ * its sign. For C these are plain numbers: 0 is a list, and any other number a strip, which is refused; 0 is no indices, and
+ * any other number that they are given; 0 is the plain pass, and any other number the quick one; 0 is signs by rays, and any
+ * other number signs by normals. */
 enum { SDF_LIST = 0, SDF_STRIP = 1 };
 enum { SDF_NO_INDICES = 0, SDF_INDICES = 1 };
 enum { SDF_PLAIN = 0, SDF_QUICK = 1 };
+enum { SDF_RAYCAST = 0, SDF_NORMAL = 1 };
 /* The name of a cell that took no triangle. */
 #define SDF_NONE UINT32_C(4294967295)
 
-/* The whole job [9]: field, names, crossings and rows of a mesh on a grid, signs by rays.
+/* The whole job [9]: field, names, crossings and rows of a mesh on a grid, signs by rays or by normals.
  *
  * Lent to be read, for the call alone:
  *   vertices     coordinate_count floats, x, y, z of each vertex in turn
@@ -186,15 +192,18 @@ enum { SDF_PLAIN = 0, SDF_QUICK = 1 };
  * Lent to be written, with n cells in the grid (sdf_grid_total, the product of the counts):
  *   field        n floats: the signed distance of each cell's centre, by the cell's index, z fastest (sdf_grid_index).
  *                Negative is inside: where at least two of the cell's three counts of crossings are odd. A centre on
- *                the surface has 0 or, where two are odd, -0
+ *                the surface has 0 or, where two are odd, -0. With SDF_NORMAL it is sdf_point_triangle_signed_distance to
+ *                the named triangle: negative behind it, and -0 on it
  *   names        n numbers: the triangle, counted from 0, that the distance is to; SDF_NONE with none
  *   crossings    3 n numbers: the rays' hits along x, y, z of each cell in turn. A ray that grazes adds none: the answer's
- *                `grazed` says how often one did. Where it is large, shift the grid by a hair and ask again
+ *                `grazed` says how often one did. Where it is large, shift the grid by a hair and ask again. With
+ *                SDF_NORMAL there are no rays: all zero, and `grazed` too
  *   rows         as many as the z count: how many cells of each layer are inside, that is, have their sign bit set
  *                (signbit of <math.h>). -0 counts, and +0 does not: `field[i] < 0` would leave out a centre on the surface
  *   distances, cells, triangles
  *                the queue: three arrays of one length, its room. Any length, 0 too
- * terms          limit: how many entries may be taken. pass: SDF_QUICK or SDF_PLAIN, which give the same
+ * terms          limit: how many entries may be taken. pass: SDF_QUICK or SDF_PLAIN, which give the same. sign: SDF_RAYCAST or
+ *                SDF_NORMAL
  *
  * How much to lend: room for n entries was enough in every job of docs/SPEED.md (a tank took 0.1 to 0.8 n, triangles
  * everywhere n); on SDF_QUEUE_FULL call again with twice the room. All of the room is cleared before and after the run, so
@@ -206,7 +215,7 @@ enum { SDF_PLAIN = 0, SDF_QUICK = 1 };
  *                nothing was changed
  *   6 to 8       the field all FLT_MAX (of <float.h>), the names all SDF_NONE, crossings, rows and queue all zero
  * With no triangle the answer is 0, the field all FLT_MAX and the names all SDF_NONE. A cell is left so too, though there
- * are triangles, if every distance offered to it was infinite; inside it holds -FLT_MAX, and its row counts it.
+ * are triangles, if every distance offered to it was infinite; inside by the rays it holds -FLT_MAX, and its row counts it.
  *
  * What C owes, and no function can check, besides the floating-point environment above: a pointer is not null, not even
  * with a length of 0, nor `indices` where none are given; it is aligned for its type and points to at least as many
@@ -272,6 +281,10 @@ sdf_point_answer sdf_closest_point_segment(sdf_point p, sdf_point a, sdf_point b
 sdf_point_answer sdf_closest_point_triangle(sdf_point p, sdf_point a, sdf_point b, sdf_point c);
 /* The distance of p from the triangle: what the field's magnitudes are made of. Refuses by 2, then 6. */
 sdf_distance_answer sdf_point_triangle_distance(sdf_point p, sdf_point a, sdf_point b, sdf_point c);
+/* The same with a sign, as SDF_NORMAL has it: positive where the dot of p less its closest point and of the normal
+ * (b - a) x (c - a), as rounded, is above 0; else negative, so in the triangle's plane too. A p that is its own closest
+ * point has -0. Refuses by 2, then 6. */
+sdf_distance_answer sdf_point_triangle_signed_distance(sdf_point p, sdf_point a, sdf_point b, sdf_point c);
 /* Whether a ray from o along +x, +y or +z meets the triangle, and how far away: what the crossings count [6.6]. It is a hit
  * only with t > 0, and only through the triangle's inside. A ray whose line meets an edge or a corner, ahead of o or behind
  * it, or lies in the triangle's plane, grazes: at least one of its three weights, as rounded, is 0, and none is above 0 with

@@ -9,6 +9,7 @@ use Rattle.point.specs.declared.Point.{Point}
 use Rattle.point.specs.declared.Axis.{Axis}
 use Rattle.geo_closest.specs.Closest.{closestPointSegment, closestPointTriangle}
 use Rattle.geo_distance.specs.Distance.{distance}
+use Rattle.geo_side.specs.Side.{signedDistance}
 use Rattle.geo_box.specs.Box.{paddedBox}
 use Rattle.geo_ray.specs.Ray.{rayAligned}
 use Rattle.geo_box.specs.declared.TriangleBox.{TriangleBox}
@@ -86,6 +87,9 @@ askedTriangle p a b c = answered (within p && within a && within b && within c) 
 
 abbrev pub askedDistance : Point → Point → Point → Point → Answer Float
 askedDistance p a b c = answered (within p && within a && within b && within c) isNan (distance p a b c)
+
+abbrev pub askedSignedDistance : Point → Point → Point → Point → Answer Float
+askedSignedDistance p a b c = answered (within p && within a && within b && within c) isNan (signedDistance p a b c)
 
 abbrev pub askedRay : Point → Point → Point → Point → Axis → Answer RayHit
 askedRay o v0 v1 v2 axis = answered (within o && within v0 && within v1 && within v2) rayNan (rayAligned o v0 v1 v2 axis)

@@ -1,6 +1,7 @@
 // The geometry's questions asked by themselves. None has a `requires`: a coordinate that is not finite or
 // is above 2,097,152 in magnitude is refused by 2, and then a NaN in the result by 6.
 ghost use mathlib.Core.Path.{_≡_};
+ghost use lib.Ieee.{isNan};
 ghost use Rattle.ask_geo.specs.Asked as Asked;
 use geo_box::TriangleBox;
 use geo_ray::RayHit;
@@ -56,6 +57,19 @@ fn answer_point(inside: bool, p: Point) -> PointAnswer
     PointAnswer::OutOfBounds
 }
 
+// A distance with its checks made, as the answer.
+fn answer_distance(inside: bool, d: f32) -> DistanceAnswer
+    ensures { λ r. ⌜ Asked.distanceAnswer r ≡ Asked.answered inside isNan d ⌝ }
+{
+    if inside {
+        if d != d {
+            return DistanceAnswer::NotANumber;
+        }
+        return DistanceAnswer::Is(d);
+    }
+    DistanceAnswer::OutOfBounds
+}
+
 pub fn triangle_bounding_box(a: Point, b: Point, c: Point) -> BoxAnswer
     ensures { λ r. ⌜ Asked.boxAnswer r ≡ Asked.askedBox a b c ⌝ }
 {
@@ -87,14 +101,14 @@ pub fn point_triangle_distance(p: Point, a: Point, b: Point, c: Point) -> Distan
     ensures { λ r. ⌜ Asked.distanceAnswer r ≡ Asked.askedDistance p a b c ⌝ }
 {
     let inside = within(p) & within(a) & within(b) & within(c);
-    if inside {
-        let d = geo_distance::point_triangle_distance(p, a, b, c);
-        if d != d {
-            return DistanceAnswer::NotANumber;
-        }
-        return DistanceAnswer::Is(d);
-    }
-    DistanceAnswer::OutOfBounds
+    answer_distance(inside, geo_distance::point_triangle_distance(p, a, b, c))
+}
+
+pub fn point_triangle_signed_distance(p: Point, a: Point, b: Point, c: Point) -> DistanceAnswer
+    ensures { λ r. ⌜ Asked.distanceAnswer r ≡ Asked.askedSignedDistance p a b c ⌝ }
+{
+    let inside = within(p) & within(a) & within(b) & within(c);
+    answer_distance(inside, geo_side::point_triangle_signed_distance(p, a, b, c))
 }
 
 pub fn ray_triangle_intersection_aligned(

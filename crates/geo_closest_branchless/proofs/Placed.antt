@@ -1,13 +1,14 @@
 -- The closest point with no branch is that of the definition: by cases on the outcomes of the six tests. Assumes nothing.
-use mathlib.Core.Path.{_≡_, refl}
+use mathlib.Core.Path.{_≡_, refl, _∙_}
 use mathlib.Core.Bool.{Bool, true, false}
+use lib.Ieee.{Float}
 use Rattle.float.specs.Arith.{_⊕_, _⊖_, _⊗_, _⊘_, f1, if_then_else_}
 use Rattle.point.specs.Point.{_+ᵥ_, _*ᵥ_}
 use Rattle.point.specs.declared.Point.{Point}
 use Rattle.geo_closest.specs.declared.Facet.{Facet}
 use Rattle.geo_closest.specs.declared.Dots.{Dots}
 use Rattle.geo_closest_branchless.specs.declared.Regions.{Regions}
-use Rattle.geo_closest.specs.Closest.{nearest, va, vb, vc, atA, atB, atC, onAB, onAC, onBC}
+use Rattle.geo_closest.specs.Closest.{dotsOf, nearest, va, vb, vc, atA, atB, atC, onAB, onAC, onBC}
 use Rattle.geo_closest_branchless.specs.Flat.{regionsOf, ratio, start, way, place}
 
 module _ (d : Dots) (f : Facet) where
@@ -35,6 +36,10 @@ module _ (d : Dots) (f : Facet) where
   agree false false false false false true = refl
   agree false false false false false false = refl
 
-  pub placed : place (regionsOf d) f d (ratio (regionsOf d) d) ≡ nearest d f
+  placed : place (regionsOf d) f d (ratio (regionsOf d) d) ≡ nearest d f
   unfolding nearest regionsOf
   placed = agree (atA d) (atB d) (atC d) (onAB d) (onAC d) (onBC d)
+
+-- the steps in turn: the dots of p, the regions, the ratio, the place
+pub in-turn : (f : Facet) (p : Point) {d : Dots} {g : Regions} {q : Float} {r : Point} → d ≡ dotsOf f p → g ≡ regionsOf d → q ≡ ratio g d → r ≡ place g f d q → r ≡ nearest (dotsOf f p) f
+in-turn f p d-is g-is q-is r-is = (rw (q-is, g-is, d-is) at r-is) ∙ placed (dotsOf f p) f

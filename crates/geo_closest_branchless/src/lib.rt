@@ -121,8 +121,18 @@ fn place(g: Regions, f: Facet, d: Dots, q: f32) -> Point
     pick_point(corner, o, i)
 }
 
-// The closest point with no branch.
+// The closest point with no branch. The compiler puts so much into a loop only where nothing else calls it, and what it
+// does not put there it does not take several at a time. So each of the two loops has its own: this one without a side,
 pub fn nearest_to(f: Facet, p: Point) -> Point
+    ensures { λ r. ⌜ r ≡ nearest (dotsOf f p) f ⌝ }
+{
+    let d = geo_closest::dots_of(f, p);
+    let g = regions_of(d);
+    place(g, f, d, ratio(g, d))
+}
+
+// and this one the loop that asks for the side too.
+pub fn nearest_with_side(f: Facet, p: Point) -> Point
     ensures { λ r. ⌜ r ≡ nearest (dotsOf f p) f ⌝ }
 {
     let d = geo_closest::dots_of(f, p);

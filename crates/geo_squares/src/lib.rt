@@ -91,7 +91,7 @@ fn signed_proper(n: Point, f: Facet, xs: &[f32], ys: &[f32], zs: &[f32], out: &m
     let mut i = 0;
     while i < xs.len() {
         let p = point_at(xs, ys, zs, i);
-        out[i] = geo_side::signed_square_to(n, p, geo_closest_branchless::nearest_to(f, p));
+        out[i] = geo_side::signed_square_to(n, p, geo_closest_branchless::nearest_with_side(f, p));
         i += 1;
     }
 }

@@ -75,6 +75,7 @@ pub use questions::get_first_cell;
 pub use questions::get_last_cell;
 pub use questions::get_total_cell_count;
 pub use questions::point_triangle_distance;
+pub use questions::point_triangle_signed_distance;
 pub use questions::ray_triangle_intersection_aligned;
 pub use questions::snap_point_to_grid;
 pub use questions::sqrt;

@@ -142,6 +142,12 @@ pub fn point_triangle_distance(p: Point, a: Point, b: Point, c: Point) -> Distan
     ask_geo::asked::point_triangle_distance(p, a, b, c)
 }
 
+pub fn point_triangle_signed_distance(p: Point, a: Point, b: Point, c: Point) -> DistanceAnswer
+    ensures { λ r. ⌜ Asked.distanceAnswer r ≡ Asked.askedSignedDistance p a b c ⌝ }
+{
+    ask_geo::asked::point_triangle_signed_distance(p, a, b, c)
+}
+
 pub fn ray_triangle_intersection_aligned(
     o: Point,
     v0: Point,

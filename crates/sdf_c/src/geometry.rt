@@ -7,7 +7,7 @@ use c_records::SdfPointAnswer;
 use c_records::SdfRayAnswer;
 ghost use mathlib.Core.Path.{_≡_};
 ghost use Rattle.float.specs.RootOf.{IsRoot, rootBits};
-ghost use Rattle.ask_geo.specs.Asked.{askedBox, askedSegment, askedTriangle, askedDistance, askedRay};
+ghost use Rattle.ask_geo.specs.Asked.{askedBox, askedSegment, askedTriangle, askedDistance, askedSignedDistance, askedRay};
 ghost use Rattle.c_records.specs.C as C;
 ghost use Rattle.c_records.specs.C.{pointIn, axisIn};
 
@@ -68,6 +68,23 @@ pub extern "C" fn sdf_point_triangle_distance(
     ensures { λ r. ⌜ r ≡ C.distanceForC (askedDistance (pointIn p) (pointIn a) (pointIn b) (pointIn c)) ⌝ }
 {
     c_geo::distance_answer(sdf::point_triangle_distance(p.point(), a.point(), b.point(), c.point()))
+}
+
+#[no_mangle]
+pub extern "C" fn sdf_point_triangle_signed_distance(
+    p: SdfPoint,
+    a: SdfPoint,
+    b: SdfPoint,
+    c: SdfPoint,
+) -> SdfDistanceAnswer
+    ensures { λ r. ⌜ r ≡ C.distanceForC (askedSignedDistance (pointIn p) (pointIn a) (pointIn b) (pointIn c)) ⌝ }
+{
+    c_geo::distance_answer(sdf::point_triangle_signed_distance(
+        p.point(),
+        a.point(),
+        b.point(),
+        c.point(),
+    ))
 }
 
 // `axis` is 0 for x, 1 for y, and any other number for z.

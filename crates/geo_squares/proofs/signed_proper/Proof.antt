@@ -21,6 +21,6 @@ signed-proper-spec =
     (λ c. starts (c .before .before .before .before .pre))
     (λ c κs. (omega arith, omega arith, omega arith))
     (λ c κs. tt) (λ c κs. tt) (λ c. omega arith) (λ c. omega arith) (λ c. omega arith) (λ c. omega arith)
-    (λ c. let p = c .before .before in turn _ _ (p .before .loop-test .taken) (p .point-at .ensures) (rw (c .before .nearest-to .ensures) at (c .signed-square-to .ensures)) (p .before .before .loop .inv))
+    (λ c. let p = c .before .before in turn _ _ (p .before .loop-test .taken) (p .point-at .ensures) (rw (c .before .nearest-with-side .ensures) at (c .signed-square-to .ensures)) (p .before .before .loop .inv))
     (λ c. omega arith)
     (λ c. ends (omega arith) (c .before .loop .inv)))
