@@ -34,6 +34,10 @@ unfoldable pub orTry : {A : Type 0} → Got A → Got A → Got A
 orTry (took a s) other = took a s
 orTry nothing other = other
 
+-- what a line says by the reader p; or, where that line does not stand there, the value c that is meant without it
+unfoldable pub optional : {A : Type 0} → A → (List ℕ → Got A) → List ℕ → Got A
+optional c p s = orTry (p s) (took c s)
+
 -- ---- words and numbers
 
 unfoldable pub wordAt : List ℕ → List ℕ → Got Unit
