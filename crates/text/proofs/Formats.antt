@@ -202,7 +202,8 @@ either-reads {f = f} {p = p} {q = q} one two apart =
 
 -- ---- a line that may be left out
 
--- without it the value c is meant, of which nothing is written
+-- Without it the value c is meant, of which nothing is written. Where a line may say the same as no line, c is a value of its own, so that
+-- a format still has one value.
 module _ {A : Type 0} {In : A → Type 0} {f : A → List ℕ} {p : List ℕ → Got A} (c : A) (reads : Reads In f p) (unwritten : f c ≡ []) where
   abbrev pub InOption : A → Type 0
   InOption a = In a ⊎ (a ≡ c)
