@@ -1,2 +1,3 @@
 -- Laws on what a text asks for.
 pub mod Counts
+pub mod AskedJob

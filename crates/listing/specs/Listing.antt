@@ -12,7 +12,6 @@ use Rattle.grid.specs.declared.Grid.{Grid}
 use Rattle.grid.specs.Index.{total}
 use Rattle.grid.specs.Layers.{layers}
 use Rattle.terms.specs.declared.Pass.{Pass}
-use Rattle.terms.specs.declared.SignMethod.the-variants.{Raycast}
 use Rattle.terms.specs.declared.Terms.{Terms}
 use Rattle.job_outcome.specs.declared.Answer.{Answer}
 use Rattle.job_outcome.specs.declared.Answer.the-variants.{Refused, Done}
@@ -44,13 +43,13 @@ gridOf h =
       «count_z» = h .count .z;
     }
 
--- a text says the pop limit and no pass, which the program picks
-abbrev pub termsOf : Tail → Pass → Terms
-termsOf t pass = record { limit = t .limit; pass = pass; sign = Raycast }
+-- a text says the pop limit and the method of the signs, and no pass, which the program picks
+abbrev pub termsOf : Head → Tail → Pass → Terms
+termsOf h t pass = record { limit = t .limit; pass = pass; sign = h .sign }
 
 -- by the parts of a text, with the floats of its coordinates
 abbrev pub jobBy : Head → List Float → Indices → List ℕ → Tail → Job
-jobBy h vertices given indices t = record { grid = gridOf h; mesh = meshOf vertices (h .topology) given indices; sign = Raycast; limit = t .limit }
+jobBy h vertices given indices t = record { grid = gridOf h; mesh = meshOf vertices (h .topology) given indices; sign = h .sign; limit = t .limit }
 
 abbrev pub askedJob : TextJob → Job
 askedJob j = jobBy (j .head) (floatsOf (flat (j .vertices))) (givenOf (j .indices)) (indexList (j .indices)) (j .tail)

@@ -3,7 +3,6 @@ use float_bits::float_of;
 use grid::Grid;
 use point::Point;
 use terms::Pass;
-use terms::SignMethod;
 use terms::Terms;
 use text::Head;
 use text::MOST_CELLS;
@@ -70,12 +69,13 @@ pub fn rows_of(head: Head) -> usize
     layers_of(n)
 }
 
-pub fn terms_of(tail: Tail, pass: Pass) -> Terms
-    ensures { λ r. ⌜ r ≡ termsOf tail pass ⌝ }
+pub fn terms_of(head: Head, tail: Tail, pass: Pass) -> Terms
+    ensures { λ r. ⌜ r ≡ termsOf head tail pass ⌝ }
 {
+    let sign = head.sign;
     Terms {
         limit: tail.limit,
         pass,
-        sign: SignMethod::Raycast,
+        sign,
     }
 }

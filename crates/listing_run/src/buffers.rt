@@ -69,7 +69,7 @@ fn list_outcome(
     let topology = head.topology;
     let given = asked.given;
     let tail = asked.tail;
-    let terms: Terms = terms_of(tail, pass);
+    let terms: Terms = terms_of(head, tail, pass);
     let grid = grid_of(head);
     let answer = generate_grid_sdf(
         grid,
@@ -113,7 +113,7 @@ fn list_records(
     let topology = head.topology;
     let given = asked.given;
     let tail = asked.tail;
-    let terms: Terms = terms_of(tail, pass);
+    let terms: Terms = terms_of(head, tail, pass);
     let grid = grid_of(head);
     let answer = run_records(
         grid,

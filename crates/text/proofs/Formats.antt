@@ -9,7 +9,7 @@ use mathlib.Core.Bool.{Bool, true, false, cond, true≢false}
 use mathlib.Core.Logic.{_⊎_, inl, inr, ⊎-elim}
 use mathlib.Core.List.{List, [], _∷_, _++_, append-assoc, append-nil}
 use borrow.Author.Tests.{eqb-true, eq-eqb}
-use Rattle.text.specs.Reader.{Got, took, nothing, follow, kept, orTry, wordAt, atEnd}
+use Rattle.text.specs.Reader.{Got, took, nothing, follow, kept, orTry, optional, wordAt, atEnd}
 
 -- of the values that are `In`, before the rests that are `Rest`
 pub record ReadsBefore {A : Type 0} (Rest : List ℕ → Type 0) (In : A → Type 0) (f : A → List ℕ) (p : List ℕ → Got A) : Type 0 where
@@ -202,58 +202,34 @@ either-reads {f = f} {p = p} {q = q} one two apart =
 
 -- ---- a line that may be left out
 
--- the value of its line, or that it was left out
-pub data Said (A : Type 0) : Type 0 where
-  said : A → Said A
-  unsaid : Said A
+-- Without it the value c is meant, of which nothing is written. Where a line may say the same as no line, c is a value of its own, so that
+-- a format still has one value.
+module _ {A : Type 0} {In : A → Type 0} {f : A → List ℕ} {p : List ℕ → Got A} (c : A) (reads : Reads In f p) (unwritten : f c ≡ []) where
+  abbrev pub InOption : A → Type 0
+  InOption a = In a ⊎ (a ≡ c)
 
-module _ {A : Type 0} where
-  abbrev pub saidText : (A → List ℕ) → Said A → List ℕ
-  saidText f (said a) = f a
-  saidText f unsaid = []
+  -- it is read before what its own reader does not take
+  pub option-reads : ReadsBefore (λ r. p r ≡ nothing) InOption f (optional c p)
+  unfolding optional
+  option-reads =
+      either-reads (narrowed reads (λ r b. tt))
+      (reshaped (finished c refl (λ a h. h)) (λ a h. h) (λ a h. h) (λ a h. sym (left-out a h)))
+      (λ a r h b. ap (λ (l : List ℕ). p (l ++ r)) (left-out a h) ∙ b)
+    where
+      left-out : (a : A) → a ≡ c → f a ≡ []
+      left-out a h = ap f h ∙ unwritten
 
-  abbrev pub InSaid : (A → Type 0) → Said A → Type 0
-  InSaid In (said a) = In a
-  InSaid In unsaid = Unit
+  -- so in the middle with the part that must follow it
+  pub option-then : {Rest : List ℕ → Type 0} {J : Type 0} {InJ : J → Type 0} {g : J → List ℕ} (part : J → A) (q : A → List ℕ → Got J)
+      → ((j : J) (r : List ℕ) → InJ j → Rest r → p (g j ++ r) ≡ nothing)
+      → ((j : J) → InJ j → InOption (part j))
+      → ((a : A) → InOption a → ReadsBefore Rest (λ j. InJ j × (part j ≡ a)) g (q a))
+      → ReadsBefore Rest InJ (λ j. f (part j) ++ g j) (λ s. follow (optional c p s) q)
+  option-then part q apart meant rest = chain-before part q option-reads apart meant rest
 
-  unfoldable pub optional : (List ℕ → Got A) → List ℕ → Got (Said A)
-  optional p s = orTry (follow (p s) (λ a s. took (said a) s)) (took unsaid s)
-
-  module _ {In : A → Type 0} {f : A → List ℕ} {p : List ℕ → Got A} (reads : Reads In f p) where
-    -- before what its reader does not take
-    pub option-reads : ReadsBefore (λ r. p r ≡ nothing) (InSaid In) (saidText f) (optional p)
-    unfolding optional orTry follow
-    option-reads = record { sound = λ s x r e. by s x r (p s) refl e; complete = complete }
-      where
-        optionOf : Got A → List ℕ → Got (Said A)
-        optionOf g s = orTry (follow g (λ a s. took (said a) s)) (took unsaid s)
-
-        by : (s : List ℕ) (x : Said A) (r : List ℕ) (g : Got A) → p s ≡ g → optionOf g s ≡ took x r → InSaid In x × (s ≡ saidText f x ++ r)
-        by s x r (took a t) q e =
-            let same : said a ≡ x = cc in
-            let rest : t ≡ r = cc in
-            let h = reads .sound s a t q in
-            subst (λ (y : Said A). InSaid In y × (s ≡ saidText f y ++ r)) same (h .0, h .1 ∙ ap (λ (l : List ℕ). f a ++ l) rest)
-        by s x r nothing q e =
-            let same : unsaid ≡ x = cc in
-            let rest : s ≡ r = cc in
-            subst (λ (y : Said A). InSaid In y × (s ≡ saidText f y ++ r)) same (tt, rest)
-
-        complete : (x : Said A) (r : List ℕ) → InSaid In x → p r ≡ nothing → optional p (saidText f x ++ r) ≡ took x r
-        complete (said a) r i b = ap (λ (g : Got A). optionOf g (f a ++ r)) (reads .complete a r i tt)
-        complete unsaid r i b = ap (λ (g : Got A). optionOf g r) b
-
-    -- it is read with the part that must follow it
-    pub option-then : {Rest : List ℕ → Type 0} {J : Type 0} {InJ : J → Type 0} {g : J → List ℕ} (part : J → Said A) (q : Said A → List ℕ → Got J)
-        → ((j : J) (r : List ℕ) → InJ j → p (g j ++ r) ≡ nothing)
-        → ((j : J) → InJ j → InSaid In (part j))
-        → ((a : Said A) → InSaid In a → ReadsBefore Rest (λ j. InJ j × (part j ≡ a)) g (q a))
-        → ReadsBefore Rest InJ (λ j. saidText f (part j) ++ g j) (λ s. follow (optional p s) q)
-    option-then part q apart meant rest = chain-before part q option-reads (λ j r i b. apart j r i) meant rest
-
-    -- the last one is read with the end of the text
-    pub option-last : p [] ≡ nothing → ReadsLast (InSaid In) (saidText f) (optional p)
-    option-last none = narrowed option-reads (λ r e. ap p e ∙ none)
+  -- and the last one with the end of the text
+  pub option-last : p [] ≡ nothing → ReadsLast InOption f (optional c p)
+  option-last none = narrowed option-reads (λ r e. ap p e ∙ none)
 
 -- ---- words, and a word before a format
 

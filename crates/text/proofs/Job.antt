@@ -12,6 +12,8 @@ use lib.ListN.{length}
 use borrow.Author.Tests.{leb-true, le-leb, ne-eqb}
 use Rattle.mesh_topology.specs.declared.Topology.{Topology}
 use Rattle.mesh_topology.specs.declared.Topology.the-variants.{TriangleList, TriangleStrip}
+use Rattle.terms.specs.declared.SignMethod.{SignMethod}
+use Rattle.terms.specs.declared.SignMethod.the-variants.{Raycast, Normal}
 use Rattle.text.specs.declared.Three.{Three}
 use Rattle.text.specs.declared.Head.{Head}
 use Rattle.text.specs.declared.Tail.{Tail}
@@ -25,6 +27,7 @@ use Rattle.text.specs.TextJob.{
   numbers,
   floats,
   topologyText,
+  signText,
   headText,
   vertexLine,
   verticesText,
@@ -58,6 +61,8 @@ use Rattle.text.specs.Reader.{
   fewCells,
   countLine,
   topologyLine,
+  normalLine,
+  signAt,
   linesAt,
   head,
   headAt,
@@ -71,7 +76,25 @@ use Rattle.text.specs.Reader.{
   jobAt,
   wholeJob,
 }
-use Rattle.text.proofs.Formats.{Reads, ReadsLast, reshaped, narrowed, kept-reads, chain, finished, either-reads, whole-sound, whole-complete, keyed-reads, constant-reads, follows-not, never}
+use Rattle.text.proofs.Formats.{
+  Reads,
+  ReadsBefore,
+  ReadsLast,
+  reshaped,
+  narrowed,
+  kept-reads,
+  chain-before,
+  chain,
+  finished,
+  either-reads,
+  option-reads,
+  whole-sound,
+  whole-complete,
+  keyed-reads,
+  constant-reads,
+  follows-not,
+  never,
+}
 use Rattle.text.proofs.Numbers.{number-reads, bits-reads, starts}
 use Rattle.text.proofs.Lines.{lines-reads}
 
@@ -142,6 +165,19 @@ topology-line =
     one : (t : Topology) → (t ≡ TriangleList) ⊎ (t ≡ TriangleStrip)
     one TriangleList = inl refl
     one TriangleStrip = inr refl
+
+-- what does not begin with the line of the method
+abbrev NoSign : List ℕ → Type 0
+NoSign r = normalLine r ≡ nothing
+
+sign-line : ReadsBefore NoSign (λ m. Unit) signText signAt
+unfolding normalLine line
+sign-line =
+    reshaped (option-reads Raycast (constant-reads (bytes "sign=normal\n") Normal refl) refl) (λ m h. tt) (λ m h. one m) (λ m h. refl)
+  where
+    one : (m : SignMethod) → (m ≡ Normal) ⊎ (m ≡ Raycast)
+    one Normal = inl refl
+    one Raycast = inr refl
 
 -- ---- the parts of a job
 
@@ -240,24 +276,27 @@ module _ (t : Topology) where
       one none h = inl refl
       one (these is) h = inr h
 
-head-read : Reads HeadFits headText headAt
+-- the line that may be left out is its last: it is read before the vertices
+head-read : ReadsBefore NoSign HeadFits headText headAt
 unfolding headAt headText
 head-read =
     reshaped
-    (chain {g = λ h. line "first=" (floats (h .first)) ++ (line "size=" (floats (h .size)) ++ (line "topology=" (topologyText (h .topology)) ++ []))}
+    (chain {g = λ h. line "first=" (floats (h .first)) ++ (line "size=" (floats (h .size)) ++ (line "topology=" (topologyText (h .topology)) ++ (signText (h .sign) ++ [])))}
     (λ (h : Head). h .count) _ count-line (λ h i. (i .counts-fit, i .cells-few))
     (λ count ic.
-    chain {g = λ h. line "size=" (floats (h .size)) ++ (line "topology=" (topologyText (h .topology)) ++ [])}
+    chain {g = λ h. line "size=" (floats (h .size)) ++ (line "topology=" (topologyText (h .topology)) ++ (signText (h .sign) ++ []))}
     (λ (h : Head). h .first) _ (floats-line "first=") (λ h i. i .0 .first-fits)
     (λ first if.
-    chain {g = λ h. line "topology=" (topologyText (h .topology)) ++ []}
+    chain {g = λ h. line "topology=" (topologyText (h .topology)) ++ (signText (h .sign) ++ [])}
     (λ (h : Head). h .size) _ (floats-line "size=") (λ h i. i .0 .0 .size-fits)
     (λ size is.
-    chain (λ (h : Head). h .topology) _ topology-line (λ h i. tt)
+    chain {g = λ h. signText (h .sign) ++ []} (λ (h : Head). h .topology) _ topology-line (λ h i. tt)
     (λ topology it.
-    finished (head count first size topology)
-    ((((record { counts-fit = ic .0; cells-few = ic .1; first-fits = if; size-fits = is }, refl), refl), refl), refl)
-    (λ h i. rw (← i .0 .0 .0 .1, ← i .0 .0 .1, ← i .0 .1, ← i .1)))))))
+    chain-before (λ (h : Head). h .sign) _ sign-line (λ h r i b. b) (λ h i. tt)
+    (λ sign ig.
+    finished (head count first size topology sign)
+    (((((record { counts-fit = ic .0; cells-few = ic .1; first-fits = if; size-fits = is }, refl), refl), refl), refl), refl)
+    (λ h i. rw (← i .0 .0 .0 .0 .1, ← i .0 .0 .0 .1, ← i .0 .0 .1, ← i .0 .1, ← i .1))))))))
     (λ h i. i)
     (λ h i. i)
     (λ h i. simp (append-assoc, append-nil))
@@ -278,11 +317,17 @@ tail-read =
 
 -- ---- the whole
 
+-- the vertices do not begin as the line that may be left out does
+before-vertices : (vs : List Three) (others r : List ℕ) → NoSign ((verticesText vs ++ others) ++ r)
+unfolding normalLine wordAt follow verticesText line
+before-vertices vs others r = refl
+
 pub job-reads : Reads Readable jobText jobAt
 unfolding jobAt jobText
 job-reads =
     reshaped
-    (chain {g = λ j. verticesText (j .vertices) ++ (indicesText (j .indices) ++ (tailText (j .tail) ++ []))} (λ (j : TextJob). j .head) _ head-read
+    (chain-before {g = λ j. verticesText (j .vertices) ++ (indicesText (j .indices) ++ (tailText (j .tail) ++ []))} (λ (j : TextJob). j .head) _ head-read
+    (λ j r i b. before-vertices (j .vertices) _ r)
     (λ j i. i .head-fits)
     (λ h ih.
     chain {g = λ j. indicesText (j .indices) ++ (tailText (j .tail) ++ [])} (λ (j : TextJob). j .vertices) _ vertices-read

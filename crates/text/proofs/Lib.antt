@@ -1,9 +1,9 @@
-pub mod Example
 pub mod Formats
 pub mod Digits
 pub mod Numbers
 pub mod Lines
 pub mod Job
+pub mod Example
 pub mod Places
 pub mod Calls
 pub mod Answers

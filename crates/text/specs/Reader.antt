@@ -6,6 +6,8 @@ use mathlib.Core.List.{List, [], _∷_}
 use lib.Dec.{eqb, leb, ltb}
 use Rattle.mesh_topology.specs.declared.Topology.{Topology}
 use Rattle.mesh_topology.specs.declared.Topology.the-variants.{TriangleList, TriangleStrip}
+use Rattle.terms.specs.declared.SignMethod.{SignMethod}
+use Rattle.terms.specs.declared.SignMethod.the-variants.{Raycast, Normal}
 use Rattle.text.specs.declared.Form.{Form}
 use Rattle.text.specs.declared.Form.the-variants.{Decimal, Hex8}
 use Rattle.text.specs.declared.Three.{Three}
@@ -33,6 +35,10 @@ kept t nothing = nothing
 unfoldable pub orTry : {A : Type 0} → Got A → Got A → Got A
 orTry (took a s) other = took a s
 orTry nothing other = other
+
+-- what a line says by the reader p; or, where that line does not stand there, the value c that is meant without it
+unfoldable pub optional : {A : Type 0} → A → (List ℕ → Got A) → List ℕ → Got A
+optional c p s = orTry (p s) (took c s)
 
 -- ---- words and numbers
 
@@ -110,6 +116,13 @@ topologyLine s =
     orTry (follow (wordAt (bytes "topology=list\n") s) (λ _ s. took TriangleList s))
     (follow (wordAt (bytes "topology=strip\n") s) (λ _ s. took TriangleStrip s))
 
+-- the line that asks for Normal
+unfoldable pub normalLine : List ℕ → Got SignMethod
+normalLine s = follow (wordAt (bytes "sign=normal\n") s) (λ _ s. took Normal s)
+
+abbrev pub signAt : List ℕ → Got SignMethod
+signAt s = optional Raycast normalLine s
+
 -- n lines, each by the reader p
 unfoldable pub linesAt : {A : Type 0} → ℕ → (List ℕ → Got A) → List ℕ → Got (List A)
 linesAt zero p s = took [] s
@@ -117,8 +130,8 @@ linesAt (suc n) p s = follow (p s) (λ a s. follow (linesAt n p s) (λ rest s. t
 
 -- ---- the parts of a job
 
-abbrev pub head : Three → Three → Three → Topology → Head
-head count first size topology = record { count = count; first = first; size = size; topology = topology }
+abbrev pub head : Three → Three → Three → Topology → SignMethod → Head
+head count first size topology sign = record { count = count; first = first; size = size; topology = topology; sign = sign }
 
 unfoldable pub headAt : List ℕ → Got Head
 headAt s =
@@ -127,7 +140,9 @@ headAt s =
     follow (floatsLine (bytes "first=") s)
     (λ first s.
     follow (floatsLine (bytes "size=") s)
-    (λ size s. follow (topologyLine s) (λ topology s. took (head count first size topology) s))))
+    (λ size s.
+    follow (topologyLine s)
+    (λ topology s. follow (signAt s) (λ sign s. took (head count first size topology sign) s)))))
 
 abbrev pub vertexLineAt : List ℕ → Got Three
 vertexLineAt s = floatsLine (bytes "v=") s

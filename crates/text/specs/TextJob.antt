@@ -7,6 +7,8 @@ use Rattle.mesh_topology.specs.declared.Topology.{Topology}
 use Rattle.mesh_topology.specs.declared.Topology.the-variants.{TriangleList, TriangleStrip}
 use Rattle.mesh_topology.specs.declared.Indices.{Indices}
 use Rattle.mesh_topology.specs.declared.Indices.the-variants.{Given, None}
+use Rattle.terms.specs.declared.SignMethod.{SignMethod}
+use Rattle.terms.specs.declared.SignMethod.the-variants.{Raycast, Normal}
 use Rattle.text.specs.declared.Form.{Form}
 use Rattle.text.specs.declared.Form.the-variants.{Decimal, Hex8}
 use Rattle.text.specs.declared.Three.{Three}
@@ -21,7 +23,7 @@ pub data TextIndices : Type 0 where
   these : List ℕ → TextIndices
 
 pub record TextJob : Type 0 where
-  -- the counts, the bits of the first cell's centre and of the cell size, and the topology
+  -- the counts, the bits of the first cell's centre and of the cell size, the topology, and the method of the signs
   pub head : Head
   -- the bits of each vertex
   pub vertices : List Three
@@ -48,6 +50,11 @@ abbrev pub topologyText : Topology → List ℕ
 topologyText TriangleList = bytes "list"
 topologyText TriangleStrip = bytes "strip"
 
+-- "A job asks for it by a line sign=normal after the topology line; without one it is Raycast." (document 02, §8): no other spelling
+abbrev pub signText : SignMethod → List ℕ
+signText Raycast = []
+signText Normal = line "sign=" (bytes "normal")
+
 -- the lines before the vertices
 unfoldable pub headText : Head → List ℕ
 headText h =
@@ -55,6 +62,7 @@ headText h =
     ++ line "first=" (floats (h .first))
     ++ line "size=" (floats (h .size))
     ++ line "topology=" (topologyText (h .topology))
+    ++ signText (h .sign)
 
 abbrev pub vertexLine : Three → List ℕ
 vertexLine v = line "v=" (floats v)

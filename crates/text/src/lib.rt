@@ -3,6 +3,7 @@
 // limits. The only code here are the program's limits and the records that are handed over. A part of the
 // port: users run the job program and the converter.
 use mesh_topology::Topology;
+use terms::SignMethod;
 ghost use mathlib.Core.Path.{_≡_};
 ghost use Rattle.text.specs.Limits.{mostIndices};
 
@@ -54,12 +55,13 @@ pub struct Three {
     pub z: u32,
 }
 
-// The lines before the vertices.
+// The lines before the vertices. The line of the signs' method may be left out, which is how Raycast is said.
 pub struct Head {
     pub count: Three,
     pub first: Three,
     pub size: Three,
     pub topology: Topology,
+    pub sign: SignMethod,
 }
 
 // The lines after the indices: the queue room and the pop limit.

@@ -1,6 +1,7 @@
 // The lines of the job's text: a key, and what stands behind it (document 01, "One job, one listing"). A
 // part of the reader: callers use `text_read_job::read_job`.
 use mesh_topology::Topology;
+use terms::SignMethod;
 use text::Form;
 use text::MOST_CELLS;
 use text::Three;
@@ -8,9 +9,9 @@ use text_read_words::Next;
 use text_read_words::Number;
 ghost use mathlib.Core.Path.{_≡_};
 ghost use lib.ListN.{drop};
-ghost use Rattle.text.specs.Reader.{valueAt, threeNumbers, numberLine, floatsLine, fewCells, countLine, topologyLine};
+ghost use Rattle.text.specs.Reader.{valueAt, threeNumbers, numberLine, floatsLine, fewCells, countLine, topologyLine, signAt};
 ghost use Rattle.text_read_words.specs.Told.{gotNumber};
-ghost use Rattle.text_read_lines.specs.Told.{gotTriple, gotShape};
+ghost use Rattle.text_read_lines.specs.Told.{gotTriple, gotShape, gotMethod};
 
 // Three numbers, and the place behind them.
 pub enum Triple {
@@ -22,6 +23,12 @@ pub enum Triple {
 pub enum Shape {
     Is { topology: Topology, next: usize },
     Not,
+}
+
+// The method of the signs, and the place behind its line, or behind nothing where there is no such line.
+pub struct Method {
+    pub sign: SignMethod,
+    pub next: usize,
 }
 
 // Three numbers to the end of the line.
@@ -124,4 +131,20 @@ pub fn topology_line(text: &[u8], at: usize) -> Shape
         };
     }
     Shape::Not
+}
+
+// The line of the signs' method, which may be left out: it asks for Normal, and without it the method is Raycast.
+pub fn sign_line(text: &[u8], at: usize) -> Method
+    ensures { λ r. ⌜ gotMethod (now (text .entry)) r ≡ signAt (drop at (now (text .entry))) ⌝ }
+{
+    if let Next::At(next) = text_read_words::after(text, at, b"sign=normal\n") {
+        return Method {
+            sign: SignMethod::Normal,
+            next,
+        };
+    }
+    Method {
+        sign: SignMethod::Raycast,
+        next: at,
+    }
 }

@@ -66,17 +66,24 @@ pub fn head(text: &[u8], at: usize) -> Front
     else {
         return Front::Not;
     };
-    let Shape::Is { topology, next } = text_read_lines::topology_line(text, behind_size) else {
+    let Shape::Is {
+        topology,
+        next: behind_topology,
+    } = text_read_lines::topology_line(text, behind_size)
+    else {
         return Front::Not;
     };
+    let method = text_read_lines::sign_line(text, behind_topology);
+    let sign = method.sign;
     Front::Is {
         head: Head {
             count,
             first,
             size,
             topology,
+            sign,
         },
-        next,
+        next: method.next,
     }
 }
 

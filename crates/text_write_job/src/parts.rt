@@ -1,6 +1,7 @@
 // The parts of the text, in its order: the lines before the vertices, the vertices, the indices, the tail.
 use mesh_topology::Indices;
 use mesh_topology::Topology;
+use terms::SignMethod;
 use text::Form;
 use text::Head;
 use text::Tail;
@@ -12,7 +13,7 @@ ghost use Prim.Native.Nat.{_+_, _*_, _≤_};
 ghost use lib.ListN.{length, take};
 ghost use Rattle.text.specs.Words.{line, lines};
 ghost use Rattle.text.specs.Limits.{mostVertices, indexRoom};
-ghost use Rattle.text.specs.TextJob.{topologyText, headText, vertexLine, verticesText, indexLine, indicesText, tailText};
+ghost use Rattle.text.specs.TextJob.{topologyText, signText, headText, vertexLine, verticesText, indexLine, indicesText, tailText};
 ghost use Rattle.text_read_parts.specs.Told.{threesIn, listedAs};
 ghost use Rattle.lists.specs.Put.{Put};
 
@@ -27,20 +28,34 @@ fn put_topology(out: &mut [u8], at: usize, topology: Topology) -> usize
     }
 }
 
+// The line that asks for Normal. Of Raycast there is none.
+fn put_sign(out: &mut [u8], at: usize, sign: SignMethod) -> usize
+    requires { ⌜ at + 12 ≤ length (now out) ⌝ }
+    ensures { λ r. ⌜ Put (now (out .entry)) at (signText sign) (now (out .exit)) r ⌝ }
+    ensures { λ r. ⌜ r ≤ at + 12 ⌝ }
+{
+    match sign {
+        SignMethod::Raycast => at,
+        SignMethod::Normal => put_all(out, at, b"sign=normal\n"),
+    }
+}
+
 // The lines before the vertices, at the first byte.
 pub fn put_head(out: &mut [u8], head: Head) -> usize
-    requires { ⌜ 119 ≤ length (now out) ⌝ }
+    requires { ⌜ 131 ≤ length (now out) ⌝ }
     ensures { λ r. ⌜ Put (now (out .entry)) 0 (headText head) (now (out .exit)) r ⌝ }
-    ensures { λ r. ⌜ r ≤ 119 ⌝ }
+    ensures { λ r. ⌜ r ≤ 131 ⌝ }
 {
     let count = head.count;
     let first = head.first;
     let size = head.size;
     let topology = head.topology;
+    let sign = head.sign;
     let a = put_three(out, 0, b"count=", count, Form::Decimal);
     let b = put_three(out, a, b"first=", first, Form::Hex8);
     let c = put_three(out, b, b"size=", size, Form::Hex8);
-    put_topology(out, c, topology)
+    let d = put_topology(out, c, topology);
+    put_sign(out, d, sign)
 }
 
 // A line for each of the first n vertices.
