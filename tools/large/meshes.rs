@@ -7,7 +7,7 @@ use crate::shapes::{self, Mesh};
 use model::bounds::off_grid;
 use model::grid::{Grid, AXES};
 use model::topology::{self, Topology};
-use model::Job;
+use model::{Job, SignMethod};
 
 pub const KINDS: [(&str, fn(&Grid, u32, &mut Random) -> Mesh); 10] = [
     ("closed-tank", |grid, n, r| tank(grid, n, 0.9, r)),
@@ -115,7 +115,7 @@ pub fn plain(grid: Grid, Mesh { vertices, triangles }: Mesh) -> Job {
 }
 
 fn lifted(grid: Grid, topology: Topology, vertices: Vec<[f32; 3]>, indices: Option<Vec<u32>>) -> Job {
-    Job { grid, topology, vertices, indices, queue: u32::MAX, pops: u32::MAX }
+    Job { grid, topology, sign: SignMethod::Raycast, vertices, indices, queue: u32::MAX, pops: u32::MAX }
 }
 
 /// A grid of these counts: plain or odd measures, cubes or not.

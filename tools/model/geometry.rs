@@ -21,6 +21,11 @@ pub fn dot([ax, ay, az]: Point, [bx, by, bz]: Point) -> f32 {
     (ax * bx + ay * by) + az * bz
 }
 
+/// Cross: (y·z − z·y, z·x − x·z, x·y − y·x).
+pub fn cross([ax, ay, az]: Point, [bx, by, bz]: Point) -> Point {
+    [ay * bz - az * by, az * bx - ax * bz, ax * by - ay * bx]
+}
+
 /// Length: the square root of the dot with itself; the binary32 nearest the exact root.
 pub fn length(a: Point) -> f32 {
     dot(a, a).sqrt()
@@ -106,6 +111,18 @@ pub fn closest_on_segment(p: Point, a: Point, b: Point) -> Point {
 /// Distance: length of point − closest.
 pub fn distance(p: Point, triangle: [Point; 3]) -> f32 {
     length(sub(p, closest_point(p, triangle)))
+}
+
+/// Signed distance, of document 02, §8: above 0 where the point lies on the side to which the normal (b − a) × (c − a) looks. A dot of
+/// exactly 0 gives the negative, so a point on the triangle is at −0; a NaN's sign says nothing.
+pub fn point_triangle_signed_distance(p: Point, [a, b, c]: [Point; 3]) -> f32 {
+    let direction = sub(p, closest_point(p, [a, b, c]));
+    let normal = cross(sub(b, a), sub(c, a));
+    if dot(direction, normal) > 0.0 {
+        length(direction)
+    } else {
+        -length(direction)
+    }
 }
 
 /// What a ray test answers. Grazed is document 02's, §3: document 01 had it among the misses.
