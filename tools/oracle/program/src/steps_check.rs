@@ -68,6 +68,8 @@ struct Met {
     rays_grazed: u64,
     nan_distances: u64,
     infinite_distances: u64,
+    positive_distances: u64,
+    negative_zeros: u64,
     corners_closest: u64,
     snaps_inside: u64,
 }
@@ -99,6 +101,10 @@ fn geometry_case(r: &mut Random, met: &mut Met) {
         same(probe::point_triangle_distance(&p, &a, &b, &c), geometry::distance(p, [a, b, c])),
         case,
     );
+    let signed = geometry::point_triangle_signed_distance(p, [a, b, c]);
+    hold("point_triangle_signed_distance", same(probe::point_triangle_signed_distance(&p, &a, &b, &c), signed), case);
+    met.positive_distances += u64::from(signed > 0.0);
+    met.negative_zeros += u64::from(signed == 0.0 && signed.is_sign_negative());
     let distance = geometry::distance(p, [a, b, c]);
     met.nan_distances += u64::from(distance.is_nan());
     met.infinite_distances += u64::from(distance.is_infinite());
