@@ -159,7 +159,7 @@ pub fn make(kind: &str, r: &mut Random) -> Option<Vec<u8>> {
 
 /// The kind of this name, of any set.
 pub fn find(kind: &str) -> Option<Make> {
-    let later = old::KINDS.iter().chain(&old::LONG).chain(&normal::KINDS).chain([&normal::ALONE]);
+    let later = old::KINDS.iter().chain(&old::LONG).chain(&normal::KINDS).chain(&normal::ALONE);
     let mut all = BASE.iter().chain(&inside::KINDS).chain(&off_grid::KINDS).chain(&ALONE).chain(later);
     all.find(|(name, _)| *name == kind).map(|(_, make)| *make)
 }
@@ -181,7 +181,7 @@ fn draw(kind: &str, make: Make, r: &mut Random) -> Vec<u8> {
     match kind {
         // Each pair begins at different ways, so that together they show all of them sooner.
         "damaged" | "damaged-strip" | "damaged-normal" => damage::damage(r.turn(&damage::WAYS), &text, r),
-        "damaged-sign" => damage::damage_sign(r.turn(&damage::SIGNS), &text),
+        "damaged-sign" | "damaged-strip-sign" => damage::damage_sign(r.turn(&damage::SIGNS), &text),
         "damaged-small" | "damaged-strip-no-indices" => {
             let mut ways = damage::WAYS;
             ways.rotate_left(damage::WAYS.len() / 2);

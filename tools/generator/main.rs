@@ -26,7 +26,7 @@ fn main() {
         old::KINDS.iter().for_each(|(name, _)| println!("{name} (old)"));
         old::LONG.iter().for_each(|(name, _)| println!("{name} (long)"));
         normal::KINDS.iter().for_each(|(name, _)| println!("{name} (normal)"));
-        kinds::ALONE.iter().chain([&normal::ALONE]).for_each(|(name, _)| println!("{name} (by name alone)"));
+        kinds::ALONE.iter().chain(&normal::ALONE).for_each(|(name, _)| println!("{name} (by name alone)"));
         return;
     }
     let number = |i: usize| args.get(i).and_then(|a| a.parse::<u64>().ok());

@@ -7,12 +7,12 @@ use crate::inside::{self, ends, hull, roomy_grid, within};
 use crate::kinds::{self, job, join, place, shuffle, Make, BEYOND};
 use crate::random::Random;
 use crate::shapes::{self, Mesh};
-use model::geometry::Point;
+use model::geometry::{cross, dot, sub, Point};
 use model::grid::Grid;
-use model::topology::Topology;
+use model::topology::{self, Topology};
 use model::{Job, SignMethod};
 
-pub const KINDS: [(&str, Make); 25] = [
+pub const KINDS: [(&str, Make); 26] = [
     // Open decks.
     ("deck-flat", |r| deck(r, flat, None)),
     ("deck-wavy", |r| deck(r, wavy, None)),
@@ -29,9 +29,10 @@ pub const KINDS: [(&str, Make); 25] = [
     ("normal-alike-plates", |r| normal(inside::alike_plates(r))),
     ("normal-alike-soup", |r| normal(inside::alike_soup(r))),
     ("normal-queue-order", |r| normal(inside::queue_order(r))),
-    // A dot of exactly 0.
+    // A dot of exactly 0, or nearly.
     ("centres-on-facets", centres_on_facets),
     ("centres-in-plane", centres_in_plane),
+    ("centres-near-plane", centres_near_plane),
     ("normal-of-zero", normal_of_zero),
     // Meshes without order, and closed ones.
     ("normal-soup", |r| normal_of(r, &["soup", "soup-lattice", "one-triangle", "soup-beyond-grid"])),
@@ -50,8 +51,11 @@ pub const KINDS: [(&str, Make); 25] = [
     ("damaged-normal", |r| deck(r, flat, None)),
 ];
 
-/// By name alone: the sign line itself, spoiled in each way.
-pub const ALONE: (&str, Make) = ("damaged-sign", |r| normal_of(r, &["document-01"]));
+/// By name alone: the sign line itself, spoiled in each way, in a list and in a strip.
+pub const ALONE: [(&str, Make); 2] = [
+    ("damaged-sign", |r| normal_of(r, &["document-01"])),
+    ("damaged-strip-sign", |r| normal_of(r, &["strip-box"])),
+];
 
 /// Kinds that lie off the grid by design.
 pub const OFF_GRID: [&str; 2] = ["normal-refused", "normal-off-grid"];
@@ -77,9 +81,17 @@ fn normal_of(r: &mut Random, of: &[&str]) -> Job {
     normal(kinds::find(r.turn(of)).expect("a kind of another set")(r))
 }
 
-/// A grid of few cells: what these jobs are about shows in some of them.
+/// A grid of few cells: what these jobs are about shows in some of them. Half the time one axis has more.
 fn few_cells(r: &mut Random) -> Grid {
-    Grid { count: [0; 3].map(|_| r.between(2, 4)), ..roomy_grid(r) }
+    Grid { count: counts(r), ..roomy_grid(r) }
+}
+
+fn counts(r: &mut Random) -> [u32; 3] {
+    let mut count = [0; 3].map(|_| r.between(2, 4));
+    if r.once_in(2) {
+        count[r.pick(&[0, 1, 2, 2])] = r.between(5, 9);
+    }
+    count
 }
 
 /// A job with room for all entries.
@@ -231,7 +243,7 @@ fn deck_with_pontoons(r: &mut Random) -> Job {
 
 /// A grid with one layer of centres across the axis, at 0 there, of cells of one size.
 fn layer_at_zero(axis: usize, size: f32, r: &mut Random) -> Grid {
-    let mut count = [0; 3].map(|_| r.between(2, 3));
+    let mut count = counts(r);
     count[axis] = 1;
     let mut first = [0; 3].map(|_| r.between(0, 4) as f32 * 0.5 * size);
     first[axis] = 0.0;
@@ -277,13 +289,17 @@ fn alike_by_floats(r: &mut Random) -> Job {
     plates_at(grid, axis, &places, r)
 }
 
-/// Two or three plates so close to a layer of centres that all magnitudes are alike, or nearly: 0 is alike to 1e-6.
+/// Plates so close to a layer of centres that their magnitudes are alike, or nearly: 0 is alike to 1e-6, and not to the next float. In turn two,
+/// one on each side, or one on the centres themselves, which are at −0; and two or three anywhere.
 fn alike_near_zero(r: &mut Random) -> Job {
-    let places = (0..r.between(2, 3)).map(|_| {
-        let away = r.pick(&[0.0, 2e-7, 5e-7, 9e-7, 1e-6, 1.1e-6, 2e-6]);
-        (r.pick(&[away, -away]), r.once_in(2))
-    });
-    let places: Vec<(f32, bool)> = places.collect();
+    let away = [2e-7, 5e-7, 9e-7, 1e-6, 1.05e-6, 2e-6];
+    let pair = r.turn(&[Some((0.0, 1e-6)), None, Some((0.0, 1.000_000_1e-6)), Some((2e-7, 1.1e-6)), None, Some((0.0, 5e-7)), Some((3e-7, 1.4e-6))]);
+    let places: Vec<(f32, bool)> = match pair {
+        // The centre is below the one and above the other, and both look up; or the other way round.
+        Some((negative, positive)) if r.once_in(2) => vec![(negative, true), (-positive, true)],
+        Some((negative, positive)) => vec![(positive, false), (-negative, false)],
+        None => (0..r.between(2, 3)).map(|_| (r.pick(&away) * r.pick(&[1.0, 0.0, -1.0]), r.once_in(2))).collect(),
+    };
     let axis = r.below(3) as usize;
     let size = r.pick(&[1.0 / 1_024.0, 0.125, 1.0]);
     let grid = layer_at_zero(axis, size, r);
@@ -302,7 +318,7 @@ fn alike_both_sides(r: &mut Random) -> Job {
     roomy(grid, &mesh, r)
 }
 
-// A dot of exactly 0.
+// A dot of exactly 0, or nearly.
 
 /// Facets with all corners on centres: cells at −0 on corners, on edges and within, and centres in the planes beyond.
 fn centres_on_facets(r: &mut Random) -> Job {
@@ -340,6 +356,25 @@ fn centres_in_plane(r: &mut Random) -> Job {
         }
     }
     roomy(grid, &mesh, r)
+}
+
+/// Centres so near to the plane of the facet that they name that the side depends on rounding: by the direction from corner a, which is that from the
+/// closest point but for something in the plane, a cell would have the other sign.
+fn centres_near_plane(r: &mut Random) -> Job {
+    loop {
+        let job = Job { queue: 2_048, ..normal(inside::alike_soup(r)) };
+        let Ok(done) = model::answer(&job) else { continue };
+        let triangles = topology::triangles(&job);
+        let by_corner = |(cell, &name): (usize, &u32)| {
+            let [a, b, c] = triangles.get(name as usize)?.map(|v| job.vertices[v as usize]);
+            let centre = job.grid.centre(job.grid.coordinates(cell as u32));
+            Some(dot(sub(centre, a), cross(sub(b, a), sub(c, a))) > 0.0)
+        };
+        let sides = done.names.iter().enumerate().map(by_corner);
+        if sides.zip(&done.field).any(|(side, value)| side == Some(value.is_sign_negative())) {
+            return job;
+        }
+    }
 }
 
 /// A facet whose normal is zero, so that it is negative all round: corners that are alike, by number or by place, corners on a line, and

@@ -21,7 +21,7 @@ pub fn dot([ax, ay, az]: Point, [bx, by, bz]: Point) -> f32 {
     (ax * bx + ay * by) + az * bz
 }
 
-/// Cross: (y·z − z·y, z·x − x·z, x·y − y·x).
+/// Cross: y·z − z·y, and so round.
 pub fn cross([ax, ay, az]: Point, [bx, by, bz]: Point) -> Point {
     [ay * bz - az * by, az * bx - ax * bz, ax * by - ay * bx]
 }
@@ -113,15 +113,15 @@ pub fn distance(p: Point, triangle: [Point; 3]) -> f32 {
     length(sub(p, closest_point(p, triangle)))
 }
 
-/// Signed distance, of document 02, §8: above 0 where the point lies on the side to which the normal (b − a) × (c − a) looks. A dot of
-/// exactly 0 gives the negative, so a point on the triangle is at −0; a NaN's sign says nothing.
+/// Signed distance (document 02, §8): positive where point − closest has a dot above 0 with the normal, (b − a) × (c − a), which is
+/// not normalised. A dot of exactly 0 gives the negative.
 pub fn point_triangle_signed_distance(p: Point, [a, b, c]: [Point; 3]) -> f32 {
-    let direction = sub(p, closest_point(p, [a, b, c]));
+    let away = sub(p, closest_point(p, [a, b, c]));
     let normal = cross(sub(b, a), sub(c, a));
-    if dot(direction, normal) > 0.0 {
-        length(direction)
+    if dot(away, normal) > 0.0 {
+        length(away)
     } else {
-        -length(direction)
+        -length(away)
     }
 }
 
