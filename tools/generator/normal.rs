@@ -51,10 +51,11 @@ pub const KINDS: [(&str, Make); 26] = [
     ("damaged-normal", |r| deck(r, flat, None)),
 ];
 
-/// By name alone: the sign line itself, spoiled in each way, in a list and in a strip.
-pub const ALONE: [(&str, Make); 2] = [
+/// By name alone: the sign line itself, spoiled in each way, in a list and in a strip; and jobs beyond the job program's limits.
+pub const ALONE: [(&str, Make); 3] = [
     ("damaged-sign", |r| normal_of(r, &["document-01"])),
     ("damaged-strip-sign", |r| normal_of(r, &["strip-box"])),
+    ("large-normal", |r| normal_of(r, &["large-sphere", "large-tank", "large-soup"])),
 ];
 
 /// Kinds that lie off the grid by design.
