@@ -46,6 +46,49 @@ pub const WAYS: [&str; 40] = [
     "long-noise",
 ];
 
+/// The ways of spoiling the line `sign=normal`: what stands for it, and before which line ("vertices=" is its own place). "" is the end.
+pub const SIGNS: [(&str, &str); 32] = [
+    ("sign=raycast", "vertices="),
+    ("sign=normal", "topology="),
+    ("sign=normal", ""),
+    ("sign=Normal", "vertices="),
+    ("sign=normal", "indices="),
+    ("sign=normal\nsign=normal", "vertices="),
+    ("sign=normals", "vertices="),
+    ("sign=normal", "v="),
+    ("sign=", "vertices="),
+    ("sign=normal", "queue="),
+    ("sign=normal\nsign=raycast", "vertices="),
+    ("sign=norma", "vertices="),
+    ("sign=normal", "size="),
+    ("sign=normal ", "vertices="),
+    ("sign=normal", "pops="),
+    (" sign=normal", "vertices="),
+    ("sign= normal", "vertices="),
+    ("sign=normal", "i="),
+    ("sign=normal\r", "vertices="),
+    ("sign", "vertices="),
+    ("sign=normal", "first="),
+    ("normal", "vertices="),
+    ("sign:normal", "vertices="),
+    ("sign=normal", "count="),
+    ("sign==normal", "vertices="),
+    ("signs=normal", "vertices="),
+    ("Sign=normal", "vertices="),
+    ("sign=NORMAL", "vertices="),
+    ("sign=1", "vertices="),
+    ("sign=none", "vertices="),
+    ("sign=normal normal", "vertices="),
+    ("\nsign=normal", "vertices="),
+];
+
+pub fn damage_sign((spelling, place): (&str, &str), text: &str) -> Vec<u8> {
+    let mut lines: Vec<&str> = text.lines().filter(|line| *line != "sign=normal").collect();
+    let found = lines.iter().position(|line| !place.is_empty() && line.starts_with(place));
+    lines.insert(found.unwrap_or(lines.len()), spelling);
+    (lines.join("\n") + "\n").into_bytes()
+}
+
 pub fn damage(way: &str, text: &str, r: &mut Random) -> Vec<u8> {
     let mut lines: Vec<String> = text.lines().map(str::to_string).collect();
     let at = r.below(lines.len() as u64) as usize;

@@ -7,7 +7,7 @@ use crate::random::Random;
 use crate::shapes::{self, Mesh};
 use model::grid::Grid;
 use model::topology::Topology;
-use model::Job;
+use model::{Job, SignMethod};
 
 pub const KINDS: [(&str, Make); 14] = [
     // Distances of 0, inside and outside: §2, §11.
@@ -335,7 +335,7 @@ fn scan_repeats(r: &mut Random) -> Job {
 
 /// Two plates that look at each other from both sides of a layer of centres, as far from it but for a hair: the same
 /// magnitude, or one within two floats or 1e-6 of it, once in front and once behind.
-fn alike_plates(r: &mut Random) -> Job {
+pub fn alike_plates(r: &mut Random) -> Job {
     let grid = roomy_grid(r);
     let axis = r.below(3) as usize;
     let layer = f64::from(r.between(0, grid.count[axis] - 1));
@@ -360,7 +360,7 @@ fn alike_plates(r: &mut Random) -> Job {
 }
 
 /// Facets with corners on centres, each moved by at most a few floats: many distances are alike and few are equal.
-fn alike_soup(r: &mut Random) -> Job {
+pub fn alike_soup(r: &mut Random) -> Job {
     let grid = roomy_grid(r);
     let mut mesh = Mesh::default();
     for _ in 0..r.between(2, 6) {
@@ -377,7 +377,7 @@ fn alike_soup(r: &mut Random) -> Job {
 
 /// Two meshes that tell the orders of the queue apart under Normal signs (§8): by the order that document 02 gives the queue
 /// the first takes 10 entries and by the source's 9, and a cell of the second has another sign.
-fn queue_order(r: &mut Random) -> Job {
+pub fn queue_order(r: &mut Random) -> Job {
     let (count, size, corners) = r.turn(&[
         (
             [2, 4, 1],
@@ -407,6 +407,7 @@ fn queue_order(r: &mut Random) -> Job {
     Job {
         grid: Grid { first: [0.0; 3], size: [f32::from_bits(size); 3], count },
         topology: Topology::List,
+        sign: SignMethod::Raycast,
         vertices: corners.map(|corner| corner.map(f32::from_bits)).to_vec(),
         indices: None,
         queue: 2_048,

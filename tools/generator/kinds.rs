@@ -2,13 +2,14 @@
 
 use crate::damage;
 use crate::inside;
+use crate::normal;
 use crate::off_grid;
 use crate::old;
 use crate::random::Random;
 use crate::shapes::{self, Mesh};
 use model::grid::Grid;
 use model::topology::Topology;
-use model::{bounds, convert, text, Job};
+use model::{bounds, convert, text, Job, SignMethod};
 
 const BOUND: f32 = 1_048_576.0;
 const LEAST_SIZE: f32 = 1.0 / 1_024.0;
@@ -132,6 +133,7 @@ pub fn of_set(set: Option<&str>) -> Vec<&'static str> {
         Some("off-grid") => names(&off_grid::KINDS).collect(),
         Some("old") => names(&old::KINDS).collect(),
         Some("long") => names(&old::LONG).collect(),
+        Some("normal") => names(&normal::KINDS).collect(),
         _ => names(&BASE).chain(names(&inside::KINDS)).chain(names(&off_grid::KINDS)).collect(),
     }
 }
@@ -143,17 +145,23 @@ pub fn of_set(set: Option<&str>) -> Vec<&'static str> {
 /// until one is not. What was not refused so stays word for word what it was: no number is drawn before it. Of a strip, which is
 /// refused before that (§7), the list that it is converted to decides.
 pub fn make(kind: &str, r: &mut Random) -> Option<Vec<u8>> {
-    let later = old::KINDS.iter().chain(&old::LONG);
-    let mut all = BASE.iter().chain(&inside::KINDS).chain(&off_grid::KINDS).chain(&ALONE).chain(later);
-    let (_, make) = all.find(|(name, _)| *name == kind)?;
-    let first = draw(kind, *make, r);
-    let by_design = OFF_GRID.contains(&kind) || off_grid::KINDS.iter().any(|(name, _)| *name == kind);
+    let make = find(kind)?;
+    let first = draw(kind, make, r);
+    let lists = [&OFF_GRID[..], &normal::OFF_GRID].concat();
+    let by_design = lists.contains(&kind) || off_grid::KINDS.iter().any(|(name, _)| *name == kind);
     let limits = !kind.starts_with("large-");
     if by_design || !refused_by_10(&first, limits) || r.once_in(4) {
         return Some(first);
     }
-    let again = (0..DRAWINGS).map(|_| draw(kind, *make, r)).find(|text| !refused_by_10(text, limits));
+    let again = (0..DRAWINGS).map(|_| draw(kind, make, r)).find(|text| !refused_by_10(text, limits));
     Some(again.unwrap_or(first))
+}
+
+/// The kind of this name, of any set.
+pub fn find(kind: &str) -> Option<Make> {
+    let later = old::KINDS.iter().chain(&old::LONG).chain(&normal::KINDS).chain(&normal::ALONE);
+    let mut all = BASE.iter().chain(&inside::KINDS).chain(&off_grid::KINDS).chain(&ALONE).chain(later);
+    all.find(|(name, _)| *name == kind).map(|(_, make)| *make)
 }
 
 /// Whether the job program answers a text by 10, or the library does, which has not its limits; of a strip, its list.
@@ -172,7 +180,8 @@ fn draw(kind: &str, make: Make, r: &mut Random) -> Vec<u8> {
     let text = text::write(&make(r));
     match kind {
         // Each pair begins at different ways, so that together they show all of them sooner.
-        "damaged" | "damaged-strip" => damage::damage(r.turn(&damage::WAYS), &text, r),
+        "damaged" | "damaged-strip" | "damaged-normal" => damage::damage(r.turn(&damage::WAYS), &text, r),
+        "damaged-sign" | "damaged-strip-sign" => damage::damage_sign(r.turn(&damage::SIGNS), &text),
         "damaged-small" | "damaged-strip-no-indices" => {
             let mut ways = damage::WAYS;
             ways.rotate_left(damage::WAYS.len() / 2);
@@ -223,7 +232,7 @@ pub fn job(grid: Grid, mesh: &Mesh, r: &mut Random) -> Job {
     let indices = Some(mesh.triangles.iter().flatten().copied().collect());
     let queue = if r.once_in(12) { r.between(0, MOST_ENTRIES) } else { MOST_ENTRIES };
     let pops = r.pick(&[100_000, 1_000_000, u32::MAX]);
-    Job { grid, topology: Topology::List, vertices, indices, queue, pops }
+    Job { grid, topology: Topology::List, sign: SignMethod::Raycast, vertices, indices, queue, pops }
 }
 
 /// A place in cell units as a point, held within the bounds.
@@ -1019,6 +1028,7 @@ fn document_01(r: &mut Random) -> Job {
     let mut job = Job {
         grid: Grid { first: [1.0; 3], size: [1.0, 1.0, 2.0], count: [1; 3] },
         topology: Topology::List,
+        sign: SignMethod::Raycast,
         vertices: vec![[0.0; 3], [4.0, 0.0, 0.0], [0.0, 4.0, 0.0]],
         indices: Some(vec![0, 1, 2]),
         queue: 8,

@@ -1,7 +1,8 @@
-//! bench [ROUNDS [EDGE [WORD]]]: the library and the unmodified Rust on the same jobs in one run, turn by turn, on one thread each.
-//! Prints for each workload and size the least time of each part over the rounds (5; at most three for the largest
-//! size), in milliseconds of the processor's time, the ratios, and how many entries were taken and waited. Sizes above
-//! EDGE (100) are left out, and with WORD all workloads that have it neither in their name nor in their counts, as 1024.
+//! bench [ROUNDS [EDGE [WORD]]]: the library and the Rust on the same jobs in one run, turn by turn, on one thread each, with Raycast signs and
+//! with Normal ones; for these the Rust has the queue's order of document 02, §8, put in. Prints for each workload and size the least time of
+//! each part over the rounds (5; at most three for the largest size), in milliseconds of the processor's time, the ratios, and how many
+//! entries were taken and waited. Sizes above EDGE (100) are left out, and with WORD all workloads that have it neither in their name nor
+//! in their counts, as 1024; `raycast` and `normal` are the workloads with these signs.
 //!
 //! The Rust's parts are what its own log lines say. The library has one call for a whole job. Its crossings are timed from
 //! when their counts are cleared (clock.c) to the end of the call, so the signs and the rows stand in them. Seeding and
@@ -12,6 +13,9 @@
 //! The crossings are timed by both passes, in turn. `adding` is what each spends beyond one store for each hit. The quick pass
 //! sums back, which takes as long whatever the counts hold: that is its time less the plain one's on the same grid with no
 //! triangle. The plain pass takes this and what it takes longer for the job's crossings.
+//!
+//! With Normal signs neither has crossings. What the library still does there, clearing their counts and counting the rows, stands in the whole
+//! alone.
 
 #![allow(dead_code)] // Each module serves compare.rs too.
 
@@ -26,10 +30,11 @@ mod shapes;
 mod workloads;
 
 use model::topology::triangles;
-use model::Job;
+use model::{Job, SignMethod};
 use port::{ask, ask_with_room, Answer, By, Lent};
 use shapes::Mesh;
 use web_time::Instant;
+use workloads::Workload;
 
 const PARTS: [&str; 4] = ["seeding", "spreading", "crossings", "whole"];
 
@@ -57,6 +62,14 @@ fn whole(job: &Job, lent: &mut Lent, by: By) -> [f64; 2] {
     times
 }
 
+/// The milliseconds of a whole call with Normal signs.
+fn whole_without_rays(job: &Job, lent: &mut Lent, by: By) -> f64 {
+    let mut answer = Answer::default();
+    let time = clock::whole(|| answer = ask(job, lent, u32::MAX, by));
+    assert_eq!(answer.number, 0, "the answer by {by:?}");
+    time
+}
+
 fn theirs(job: &Job) -> Times {
     let begin = Instant::now();
     let answer = rust::run(job).expect("the Rust runs through");
@@ -67,12 +80,66 @@ fn theirs(job: &Job) -> Times {
 fn main() {
     let number = |at: usize| std::env::args().nth(at).and_then(|a| a.parse().ok());
     let (rounds, largest) = (number(1).unwrap_or(5), number(2).unwrap_or(100));
+    let word = std::env::args().nth(3).unwrap_or_default();
+    // Which signs are asked for, and what is left of the word.
+    let (with_raycast, with_normal, word) = match word.as_str() {
+        "raycast" => (true, false, ""),
+        "normal" => (false, true, ""),
+        word => (true, true, word),
+    };
+    let chosen = || workloads::all(largest).filter(|w| w.name.contains(word) || w.counts().contains(word));
     mesh_oracle::begin();
     println!("load before: {}", load());
+    if with_raycast {
+        raycast(chosen(), rounds);
+    }
+    if with_normal {
+        normal(chosen(), rounds);
+    }
+    println!("load after: {}", load());
+}
+
+/// How often a workload is asked for.
+fn rounds_of(workload: &Workload, rounds: u32) -> u32 {
+    if workload.edge == 100 {
+        rounds.min(3)
+    } else {
+        rounds
+    }
+}
+
+fn tell(workload: &Workload, signs: &str, answer: Answer) {
+    let cells = f64::from(workload.job.grid.cells());
+    println!(
+        "{}, {} cells, {} triangles{signs}: pops {} ({:.2} a cell), peak {} ({:.2} a cell), grazed {}",
+        workload.name,
+        workload.counts(),
+        triangles(&workload.job).len(),
+        answer.pops,
+        f64::from(answer.pops) / cells,
+        answer.peak,
+        answer.peak as f64 / cells,
+        answer.grazed
+    );
+}
+
+/// A part's times and their ratio.
+fn tell_part(part: &str, [ours, theirs]: [f64; 2], our_whole: f64) -> f64 {
+    let (ratio, share) = (theirs / ours, 100.0 * ours / our_whole);
+    println!("    {part:<10} {ours:>10.2} ms the library ({share:>3.0}%) {theirs:>10.2} ms the Rust   {ratio:.2} times as fast");
+    ratio
+}
+
+fn tell_records(records: f64, their_whole: f64) -> f64 {
+    let ratio = their_whole / records;
+    println!("    {:<10} {records:>10.2} ms over a row of records {:>25} {ratio:.2} times as fast", "whole", "");
+    ratio
+}
+
+fn raycast(workloads: impl Iterator<Item = Workload>, rounds: u32) {
     let (mut slowest, mut slowest_records) = ([f64::MAX; 4], f64::MAX);
     let (mut by_plain, mut adding_long) = ([f64::MAX, f64::MIN], f64::MAX);
-    let word = std::env::args().nth(3).unwrap_or_default();
-    for workload in workloads::all(largest).filter(|w| w.name.contains(&word) || w.counts().contains(&word)) {
+    for workload in workloads {
         let job = &workload.job;
         let bare = meshes::plain(job.grid.clone(), Mesh::default());
         let mut lent = Lent::fitting(&job.grid, 2 * job.grid.cells() as usize);
@@ -80,7 +147,7 @@ fn main() {
         let (mut seeded, mut spread, mut b, mut records) = (f64::MAX, f64::MAX, [f64::MAX; 4], f64::MAX);
         // The crossings and the whole; the crossings by each pass; the same with no triangle.
         let (mut taken, mut passes, mut bares) = ([f64::MAX; 2], [f64::MAX; 2], [f64::MAX; 2]);
-        for round in 0..if workload.edge == 100 { rounds.min(3) } else { rounds } {
+        for round in 0..rounds_of(&workload, rounds) {
             least(&mut seeded, cut_short(job, &mut lent, 0));
             least(&mut spread, cut_short(job, &mut lent, answer.pops - 1));
             leasts(&mut taken, whole(job, &mut lent, TAKEN));
@@ -97,32 +164,11 @@ fn main() {
             least(&mut records, whole(job, &mut lent, By { records: true, ..TAKEN })[1]);
         }
         let a = [seeded, spread - seeded, taken[0], taken[1]];
-        let cells = f64::from(job.grid.cells());
-        println!(
-            "{}, {} cells, {} triangles: pops {} ({:.2} a cell), peak {} ({:.2} a cell), grazed {}",
-            workload.name,
-            workload.counts(),
-            triangles(job).len(),
-            answer.pops,
-            f64::from(answer.pops) / cells,
-            answer.peak,
-            answer.peak as f64 / cells,
-            answer.grazed
-        );
+        tell(&workload, "", answer);
         for part in 0..4 {
-            let ratio = b[part] / a[part];
-            least(&mut slowest[part], ratio);
-            println!(
-                "    {:<10} {:>10.2} ms the library ({:>3.0}%) {:>10.2} ms the Rust   {ratio:.2} times as fast",
-                PARTS[part],
-                a[part],
-                100.0 * a[part] / a[3],
-                b[part]
-            );
+            least(&mut slowest[part], tell_part(PARTS[part], [a[part], b[part]], a[3]));
         }
-        let ratio = b[3] / records;
-        least(&mut slowest_records, ratio);
-        println!("    {:<10} {records:>10.2} ms over a row of records {:>25} {ratio:.2} times as fast", "whole", "");
+        least(&mut slowest_records, tell_records(records, b[3]));
         let [plain, quick] = passes;
         let ratio = quick / plain;
         by_plain = [by_plain[0].min(ratio), by_plain[1].max(ratio)];
@@ -143,7 +189,38 @@ fn main() {
     if adding_long < f64::MAX {
         println!("adding on tall and lying grids: the quick pass at least {adding_long:.2} times as fast");
     }
-    println!("load after: {}", load());
+}
+
+fn normal(workloads: impl Iterator<Item = Workload>, rounds: u32) {
+    // Seeding, spreading and the whole; and the whole over a row of records.
+    let (mut slowest, mut slowest_records) = ([f64::MAX; 3], f64::MAX);
+    for mut workload in workloads {
+        workload.job.sign = SignMethod::Normal;
+        let job = &workload.job;
+        let mut lent = Lent::fitting(&job.grid, 2 * job.grid.cells() as usize);
+        let answer = ask_with_room(job, &mut lent, TAKEN);
+        let (mut seeded, mut spread, mut b) = (f64::MAX, f64::MAX, [f64::MAX; 4]);
+        let [mut flat, mut records] = [f64::MAX; 2];
+        for _ in 0..rounds_of(&workload, rounds) {
+            // More turns where a call is short.
+            for _ in 0..(10_000 / workload.edge.pow(2)).max(1) {
+                least(&mut seeded, cut_short(job, &mut lent, 0));
+                least(&mut spread, cut_short(job, &mut lent, answer.pops - 1));
+                least(&mut flat, whole_without_rays(job, &mut lent, TAKEN));
+                least(&mut records, whole_without_rays(job, &mut lent, By { records: true, ..TAKEN }));
+                leasts(&mut b, theirs(job));
+            }
+        }
+        tell(&workload, ", Normal signs", answer);
+        for (part, times) in [[seeded, b[0]], [spread - seeded, b[1]], [flat, b[3]]].into_iter().enumerate() {
+            least(&mut slowest[part], tell_part([PARTS[0], PARTS[1], PARTS[3]][part], times, flat));
+        }
+        least(&mut slowest_records, tell_records(records, b[3]));
+    }
+    println!("whole over a row of records, Normal signs: at least {slowest_records:.2} times as fast");
+    for (part, ratio) in [PARTS[0], PARTS[1], PARTS[3]].into_iter().zip(slowest) {
+        println!("{part}, Normal signs: at least {ratio:.2} times as fast");
+    }
 }
 
 fn least(sofar: &mut f64, time: f64) {

@@ -1,9 +1,10 @@
-//! bench-two [ROUNDS [EDGE [PASS [QUEUE]]]]: the libraries of two checkouts on the same jobs in one run, call by call in turn, on one
+//! bench-two [ROUNDS [EDGE [PASS [QUEUE [SIGN]]]]]: the libraries of two checkouts on the same jobs in one run, call by call in turn, on one
 //! thread. Prints for each workload and size of tools/bench, and for as many facets as a job may have, the least time of the checks
 //! before the run, of the spreading, of the crossings and of the whole over the rounds (5; more where a call is short), in
 //! milliseconds of the processor's time, before and after, and after by before. Sizes above EDGE (100) are left out. PASS is `plain`,
 //! or `quick` (the default) where a library has it. QUEUE is `flat` (the default), the queue in three slices, or `row`, a row of
-//! records. Ends with 1 if the two leave another field, other names or crossings, or count other pops or peak.
+//! records. SIGN is `raycast` (the default) or `normal`, which both libraries must know (document 02, §8); then there are no crossings to time.
+//! Ends with 1 if the two leave another field, other names or crossings, or count other pops or peak.
 //!
 //! The checks are a call that is lent a row too few: it is refused by 5, which is looked at last. The spreading is what is left of a
 //! call before its crossings, less a call whose pop limit is 0: that one is refused by 8 when the cells are seeded and queued. It is a
@@ -24,7 +25,7 @@ mod random;
 mod shapes;
 mod workloads;
 
-use model::Job;
+use model::{Job, SignMethod};
 use workloads::Workload;
 
 /// What is lent to a call, as bench_two.c reads it.
@@ -50,11 +51,11 @@ struct Lent {
     room: usize,
 }
 
-type Call = unsafe extern "C" fn(lent: *const Lent, limit: u32, pass: u32, number: *mut u32, pops: *mut u32, peak: *mut usize);
+type Call = unsafe extern "C" fn(lent: *const Lent, limit: u32, pass: u32, sign: u32, number: *mut u32, pops: *mut u32, peak: *mut usize);
 
 extern "C" {
-    fn job_before(lent: *const Lent, limit: u32, pass: u32, number: *mut u32, pops: *mut u32, peak: *mut usize);
-    fn job_after(lent: *const Lent, limit: u32, pass: u32, number: *mut u32, pops: *mut u32, peak: *mut usize);
+    fn job_before(lent: *const Lent, limit: u32, pass: u32, sign: u32, number: *mut u32, pops: *mut u32, peak: *mut usize);
+    fn job_after(lent: *const Lent, limit: u32, pass: u32, sign: u32, number: *mut u32, pops: *mut u32, peak: *mut usize);
 }
 
 const SIDES: [Call; 2] = [job_before, job_after];
@@ -129,10 +130,15 @@ impl Buffers {
             queued: queued.as_mut_ptr(),
             triangles: triangles.as_mut_ptr(),
         };
-        let mut answer = Answer::default();
+        let (mut answer, sign) = (Answer::default(), u32::from(job.sign == SignMethod::Normal));
         // SAFETY: every pointer is that of a slice or a number, with at most the slice's own length; none are shared.
-        let call = || unsafe { side(&lent, limit, pass, &mut answer.number, &mut answer.pops, &mut answer.peak) };
-        let times = if to == To::Checks { [0.0, clock::whole(call)] } else { clock::timed(lent.crossings, call) };
+        let call = || unsafe { side(&lent, limit, pass, sign, &mut answer.number, &mut answer.pops, &mut answer.peak) };
+        let rays = to != To::Checks && job.sign == SignMethod::Raycast;
+        let times = if rays { clock::timed(lent.crossings, call) } else { [0.0, clock::whole(call)] };
+        if answer.number == u32::MAX {
+            eprintln!("bench-two: a library that knows no Normal signs");
+            std::process::exit(2);
+        }
         assert_eq!(answer.number, number, "the job is done, or refused where it should be");
         (answer, times)
     }
@@ -162,6 +168,14 @@ fn main() {
             std::process::exit(2);
         }
     };
+    let sign = match std::env::args().nth(5).as_deref() {
+        None | Some("raycast") => SignMethod::Raycast,
+        Some("normal") => SignMethod::Normal,
+        Some(word) => {
+            eprintln!("bench-two: no such signs: {word}");
+            std::process::exit(2);
+        }
+    };
     println!("load before: {}", load());
     let words = ["workload", "cells", "part", "before, ms", "after, ms", "ratio", "of middles"];
     println!("{:<15}{:>15}  {:<10}{:>12}{:>12}{:>8}{:>12}", words[0], words[1], words[2], words[3], words[4], words[5], words[6]);
@@ -169,6 +183,7 @@ fn main() {
     for workload in workloads::all(largest).chain(workloads::most_facets(largest)) {
         let counts = workload.counts();
         let Workload { name: workload, edge, job } = workload;
+        let job = Job { sign, ..job };
         // Twice as many entries as cells are enough for these jobs.
         let mut buffers = Buffers::fitting(&job, 2 * job.grid.cells() as usize, in_row);
         let [before, after] = SIDES.map(|side| (buffers.ask(side, &job, pass, To::End).0, buffers.left()));
@@ -198,13 +213,16 @@ fn main() {
             [checks, [before[0] - first[0], before[1] - first[1]], crossings, whole]
         });
         for (part, name) in PARTS.into_iter().enumerate() {
+            if sign == SignMethod::Normal && name == "crossings" {
+                continue;
+            }
             let [[a, middle_a], [b, middle_b]] = of.map(|side| side[part]);
             let of_middles = middle_b / middle_a;
             println!("{workload:<15}{counts:>15}  {name:<10}{a:>12.3}{b:>12.3}{:>8.3}{of_middles:>12.3}", b / a);
             ratios[part].push(b / a);
         }
     }
-    for (part, ratios) in PARTS.into_iter().zip(ratios) {
+    for (part, ratios) in PARTS.into_iter().zip(ratios).filter(|(_, ratios)| !ratios.is_empty()) {
         let ratios = sorted(ratios);
         let (least, most) = (ratios[0], ratios[ratios.len() - 1]);
         println!("{part}: after by before {least:.3} to {most:.3}, the middle one {:.3}", middle(&ratios));

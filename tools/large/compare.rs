@@ -1,4 +1,4 @@
-//! compare N SEED [SET [FIRST]]: N jobs through the library against the unmodified Rust, from job FIRST (0) on. Prints
+//! compare N SEED [SET [FIRST]]: N jobs through the library against the Rust, from job FIRST (0) on. Prints
 //! each difference with what makes it again, up to 20, and how much was compared; ends with 1 if there was any. A job is
 //! asked for in four ways, over three lists or a row of records and by the plain or the quick pass. The jobs take turns in which
 //! of the four is held to the Rust. Then the other form of the queue and the other pass, together, must give the same; in
@@ -12,6 +12,10 @@
 //!   bounds   one job at each bound of document 01, and one whose rays that graze pass 32 bits; then jobs of as many triangles as there
 //!            may be, whose last alone is off the grid by one float, or touches its box; and strips about that number; with N = 0 the
 //!            library alone, which takes a minute where the Rust takes many; SEED does not matter
+//!
+//! These have Raycast signs, and the Rust is the unmodified one. With Normal signs (document 02, §8), against the Rust with the queue's order of
+//! that request put in: `normal-small`, the kinds of the set `normal` of tools/jobs; `normal-middle` and `normal-large`, the sizes and the kinds of
+//! mesh of those two, and open decks; `normal-bounds`. There are no rays then: no crossings, none that graze, and all four ways give the same.
 //!
 //! In `middle` and `large` every job is accepted. One in twelve is asked for with a ladder off the grid too (document 02, §6): that
 //! is refused by 10, in all four ways, and over buffers of a wrong length as well (where the queue's lists differ, in two), and each
@@ -32,6 +36,8 @@ mod inside;
 #[path = "../generator/kinds.rs"]
 mod kinds;
 mod meshes;
+#[path = "../generator/normal.rs"]
+mod normal;
 #[path = "../generator/off_grid.rs"]
 mod off_grid;
 #[path = "../generator/old.rs"]
@@ -47,7 +53,7 @@ use model::convert::as_list;
 use model::geometry::{ray, Reply};
 use model::grid::{Grid, AXES};
 use model::topology::Topology;
-use model::{bounds, text, topology, Done, Job};
+use model::{bounds, text, topology, Done, Job, SignMethod};
 use port::{Answer, By, Lent};
 use random::Random;
 use rust::Held;
@@ -166,9 +172,10 @@ impl Seen {
         self.asked[2 * usize::from(by.records) + usize::from(by.quick)] += 1;
     }
 
-    /// The rays that graze, against every ray with every triangle. A refusal has none.
+    /// The rays that graze, against every ray with every triangle. A refusal has none, and with Normal signs there are no rays.
     fn count_grazed(&mut self, job: &Job, answer: Answer) -> Result<(), String> {
-        let counted = if answer.number == 0 { grazed(job) } else { 0 };
+        let rays = answer.number == 0 && job.sign == SignMethod::Raycast;
+        let counted = if rays { grazed(job) } else { 0 };
         if answer.grazed != counted {
             return Err(format!("grazed {}, and {counted} were counted", answer.grazed));
         }
@@ -215,25 +222,29 @@ fn main() {
     let args: Vec<String> = std::env::args().skip(1).collect();
     let number = |i: usize| args.get(i).and_then(|a| a.parse::<u64>().ok());
     let (Some(jobs), Some(seed)) = (number(0), number(1)) else {
-        eprintln!("usage: compare-large N SEED [small|middle|large|bounds [FIRST]]");
+        eprintln!("usage: compare-large N SEED [[normal-](small|middle|large|bounds) [FIRST]]");
         std::process::exit(2);
     };
-    let set = args.get(2).map_or("large", String::as_str);
+    let word = args.get(2).map_or("large", String::as_str);
+    let (sign, set) = match word.strip_prefix("normal-") {
+        Some(set) => (SignMethod::Normal, set),
+        None => (SignMethod::Raycast, word),
+    };
     let first = number(3).unwrap_or(0);
     mesh_oracle::begin();
     let mut seen = Seen::default();
     if set == "bounds" {
-        at_bounds(jobs > 0, &mut seen);
+        at_bounds(sign, jobs > 0, &mut seen);
     } else {
         for index in first..first + jobs {
             // Two numbers of one generator seed another: seeds and jobs do not run into each other.
             let start = Random::new(seed, 0).next().wrapping_add(index);
             let mut r = Random::new(Random::new(start, 0).next(), index);
             let (kind, verdict) = match set {
-                "small" => small(index, &mut r, &mut seen),
-                "middle" => large(index, sizes_to_64, true, &mut r, &mut seen),
-                "large" => large(index, sizes_to_100, index % 2 == 0, &mut r, &mut seen),
-                _ => panic!("no such set: {set}"),
+                "small" => small(index, sign, &mut r, &mut seen),
+                "middle" => large(index, sign, sizes_to_64, true, &mut r, &mut seen),
+                "large" => large(index, sign, sizes_to_100, index % 2 == 0, &mut r, &mut seen),
+                _ => panic!("no such set: {word}"),
             };
             seen.jobs += 1;
             if seen.jobs % 32 == 0 && set != "small" {
@@ -244,7 +255,7 @@ fn main() {
                 seen.differences += 1;
                 if seen.differences <= 20 {
                     println!("job {index} ({kind}), seed {seed}: {words}");
-                    println!("    again: tools/compare-large 1 {seed} {set} {index}");
+                    println!("    again: tools/compare-large 1 {seed} {word} {index}");
                 }
             }
         }
@@ -275,8 +286,11 @@ fn in_turn(index: u64) -> By {
 
 /// One job over buffers that hold noise, some of them of a wrong length: answer and buffers are the model's. Then the
 /// same with room and pops lifted, against the Rust.
-fn small(index: u64, r: &mut Random, seen: &mut Seen) -> (String, Result<(), String>) {
-    let all = [None, Some("old"), Some("long")].map(kinds::of_set).concat();
+fn small(index: u64, sign: SignMethod, r: &mut Random, seen: &mut Seen) -> (String, Result<(), String>) {
+    let all = match sign {
+        SignMethod::Raycast => [None, Some("old"), Some("long")].map(kinds::of_set).concat(),
+        SignMethod::Normal => kinds::of_set(Some("normal")),
+    };
     let turns = all.len() as u64;
     let kind = match index % 100 {
         // Those that came after the sets.
@@ -289,7 +303,8 @@ fn small(index: u64, r: &mut Random, seen: &mut Seen) -> (String, Result<(), Str
     };
     let mut of_kind = Random::new(r.next(), index / turns);
     let made = kinds::make(kind, &mut of_kind).expect("a kind of the table");
-    let Some(job) = text::read(&made).filter(|job| text::within_limits(job) || bounds::check(job).is_err()) else {
+    let read = text::read(&made).filter(|job| text::within_limits(job) || bounds::check(job).is_err());
+    let Some(job) = read.map(|job| Job { sign, ..job }) else {
         return ("unreadable, or beyond the program's limits".to_string(), Ok(()));
     };
     let verdict = hold_to_model(&job, r, seen).and_then(|number| {
@@ -421,6 +436,7 @@ fn sizes_to_100(index: u64, r: &mut Random) -> ([u32; 3], u32) {
 
 fn large(
     index: u64,
+    sign: SignMethod,
     sizes: fn(u64, &mut Random) -> ([u32; 3], u32),
     with_crossings: bool,
     r: &mut Random,
@@ -428,10 +444,11 @@ fn large(
 ) -> (String, Result<(), String>) {
     let (count, triangles) = sizes(index, r);
     // The kinds turn at another pace than the sizes, so that each meets each.
-    let kind = ((index + index / 32) % meshes::KINDS.len() as u64) as usize;
+    let kinds = meshes::kinds(sign);
+    let kind = kinds[((index + index / 32) % kinds.len() as u64) as usize];
     let grid = meshes::grid(count, r);
     let mut lent = Lent::fitting(&grid, 2 * grid.cells() as usize + 4_096);
-    let job = meshes::make(kind, grid, triangles, r);
+    let job = meshes::make(kind, sign, grid, triangles, r);
     let mut verdict = || {
         accepted(&as_list(&job))?;
         let held = seen.hold(&job, &mut lent, in_turn(index), with_crossings)?;
@@ -449,14 +466,15 @@ fn large(
         }
         Ok(())
     };
-    (meshes::KINDS[kind].0.to_string(), verdict())
+    (kind.0.to_string(), verdict())
 }
 
 // One job at each bound.
 
-fn at_bounds(with_rust: bool, seen: &mut Seen) {
+fn at_bounds(sign: SignMethod, with_rust: bool, seen: &mut Seen) {
     // Soups with as many corners as there may be vertices; with 131,072 triangles these are 393,216.
-    // The last has facets of no extent, every one of which every ray grazes: 1,050,624 rays and 4,096 facets pass 32 bits.
+    // The last has facets of no extent, every one of which every ray grazes: 1,050,624 rays and 4,096 facets pass 32 bits. With Normal signs
+    // there are no rays.
     let jobs: [([u32; 3], u32, f64); 6] = [
         ([1_024, 1_024, 1], 2_000, 1.0),
         ([1, 1_024, 1_024], 2_000, 1.0),
@@ -471,20 +489,21 @@ fn at_bounds(with_rust: bool, seen: &mut Seen) {
         let grid = meshes::grid(count, &mut r);
         let mut lent = Lent::fitting(&grid, 2 * grid.cells() as usize);
         let mesh = meshes::soup_of(&grid, triangles, reach, &mut r);
-        let job = meshes::plain(grid, mesh);
+        let job = Job { sign, ..meshes::plain(grid, mesh) };
         seen.jobs += 1;
         let by = By { records: false, quick: true };
         let verdict = hold_at_bound(&job, &mut lent, by, with_rust, seen);
         let [x, y, z] = count.map(u64::from);
-        let points = (y * z + x * z + x * y) * u64::from(triangles);
+        let rays = if sign == SignMethod::Raycast { y * z + x * z + x * y } else { 0 };
+        let points = rays * u64::from(triangles);
         let verdict = verdict.and_then(|held| match held.answer.grazed {
             grazed if reach == 0.0 && grazed != points => Err(format!("grazed {grazed}, and {points} do")),
             _ => Ok(held),
         });
         tell_at_bound(&job, &lent, verdict, seen);
     }
-    last_off_grid(with_rust, seen);
-    strips_at_bounds(with_rust, seen);
+    last_off_grid(sign, with_rust, seen);
+    strips_at_bounds(sign, with_rust, seen);
 }
 
 fn hold_at_bound(original: &Job, lent: &mut Lent, by: By, with_rust: bool, seen: &mut Seen) -> Result<Held, String> {
@@ -494,6 +513,9 @@ fn hold_at_bound(original: &Job, lent: &mut Lent, by: By, with_rust: bool, seen:
         return seen.hold(original, lent, by, false);
     }
     let held = rust::alone(job, lent, by);
+    if job.sign == SignMethod::Normal && lent.crossings.iter().any(|&n| n != 0) {
+        return Err("crossings with Normal signs".to_string());
+    }
     seen.hold_other(job, by, &held, lent)?;
     Ok(held)
 }
@@ -525,7 +547,7 @@ fn tell_at_bound(job: &Job, lent: &Lent, verdict: Result<Held, String>, seen: &m
 
 /// As many triangles as there may be, and the last of them touches a side of the box with all corners: the job is done. Then it lies
 /// one float out, the others where they were: 10. On each side in turn, over few cells.
-fn last_off_grid(with_rust: bool, seen: &mut Seen) {
+fn last_off_grid(sign: SignMethod, with_rust: bool, seen: &mut Seen) {
     for (axis, high) in AXES.into_iter().flat_map(|axis| [(axis, false), (axis, true)]) {
         let mut r = Random::new(2 + axis as u64, u64::from(high));
         let grid = meshes::grid([6, 5, 4], &mut r);
@@ -533,7 +555,7 @@ fn last_off_grid(with_rust: bool, seen: &mut Seen) {
         let (low, up) = (grid.box_minimum()[axis], grid.box_maximum()[axis]);
         let (side, out) = if high { (up, inside::next_up(up)) } else { (low, -inside::next_up(-low)) };
         let mut lent = Lent::fitting(&grid, 4_096);
-        let mut job = meshes::plain(grid, mesh);
+        let mut job = Job { sign, ..meshes::plain(grid, mesh) };
         // The corners of each triangle are vertices of its own, in order.
         let last = job.vertices.len() - 3;
         job.vertices[last..].iter_mut().for_each(|v| v[axis] = side);
@@ -560,11 +582,11 @@ fn tell_refused(job: &Job, number: u32, what: &str, seen: &mut Seen, r: &mut Ran
 /// A strip of as many triangles as there may be: its list is done, and it is refused by 13. So are a strip of one more, which as a list
 /// would be refused by 3, one with an index beyond the vertices, and one of as many vertices as there may be and no indices; with one
 /// vertex more it is 2.
-fn strips_at_bounds(with_rust: bool, seen: &mut Seen) {
+fn strips_at_bounds(sign: SignMethod, with_rust: bool, seen: &mut Seen) {
     let mut r = Random::new(5, 0);
     let grid = meshes::grid([6, 5, 4], &mut r);
     let mut lent = Lent::fitting(&grid, 4_096);
-    let mut job = meshes::walk(grid, 131_072, &mut r);
+    let mut job = Job { sign, ..meshes::walk(grid, 131_072, &mut r) };
     seen.jobs += 1;
     let verdict = hold_at_bound(&job, &mut lent, By { records: true, quick: true }, with_rust, seen);
     tell_at_bound(&as_list(&job), &lent, verdict, seen);

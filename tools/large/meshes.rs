@@ -1,15 +1,17 @@
 //! Large jobs of every kind that a tank's scan may be: closed, noisy, open, without order, degenerate. None has a triangle off the
 //! grid (document 02, §6), but for the ladder that `with_ladder` puts into one. Those of the kind `strip` are strips, which the Rust is
-//! given; the library is given the list of their triangles (§7).
+//! given; the library is given the list of their triangles (§7). For Normal signs (§8) there are open decks besides.
 
 use crate::random::Random;
 use crate::shapes::{self, Mesh};
 use model::bounds::off_grid;
 use model::grid::{Grid, AXES};
 use model::topology::{self, Topology};
-use model::Job;
+use model::{Job, SignMethod};
 
-pub const KINDS: [(&str, fn(&Grid, u32, &mut Random) -> Mesh); 10] = [
+type Kind = (&'static str, fn(&Grid, u32, &mut Random) -> Mesh);
+
+const KINDS: [Kind; 10] = [
     ("closed-tank", |grid, n, r| tank(grid, n, 0.9, r)),
     ("noisy-scan", noisy),
     ("open-tank", open),
@@ -22,9 +24,30 @@ pub const KINDS: [(&str, fn(&Grid, u32, &mut Random) -> Mesh); 10] = [
     ("tank-cut-at-box", |grid, n, r| cut(grid, tank(grid, n, 1.4, r))),
 ];
 
-/// A job of the kind, of about so many triangles.
-pub fn make(kind: usize, grid: Grid, triangles: u32, r: &mut Random) -> Job {
-    let (name, mesh) = KINDS[kind];
+/// Decks that are scanned from above, and have no closed hull.
+const DECKS: [Kind; 3] = [
+    ("open-deck", |grid, n, r| any_deck(grid, n, 0.0, r)),
+    ("noisy-deck", |grid, n, r| {
+        let noise = [0.01, 0.1, 0.5][r.below(3) as usize];
+        any_deck(grid, n, noise, r)
+    }),
+    ("deck-on-pontoons", on_pontoons),
+];
+
+/// The kinds whose jobs are asked for with these signs.
+pub fn kinds(sign: SignMethod) -> Vec<Kind> {
+    match sign {
+        SignMethod::Raycast => KINDS.to_vec(),
+        SignMethod::Normal => [&DECKS[..], &KINDS].concat(),
+    }
+}
+
+/// A job of the kind with these signs, of about so many triangles.
+pub fn make(kind: Kind, sign: SignMethod, grid: Grid, triangles: u32, r: &mut Random) -> Job {
+    Job { sign, ..of_kind(kind, grid, triangles, r) }
+}
+
+fn of_kind((name, mesh): Kind, grid: Grid, triangles: u32, r: &mut Random) -> Job {
     let Mesh { vertices, mut triangles } = mesh(&grid, triangles, r);
     let mut vertices: Vec<[f32; 3]> = vertices.iter().map(|v| place(&grid, *v)).collect();
     bring_to_box(&grid, &mut vertices, &triangles);
@@ -115,7 +138,7 @@ pub fn plain(grid: Grid, Mesh { vertices, triangles }: Mesh) -> Job {
 }
 
 fn lifted(grid: Grid, topology: Topology, vertices: Vec<[f32; 3]>, indices: Option<Vec<u32>>) -> Job {
-    Job { grid, topology, vertices, indices, queue: u32::MAX, pops: u32::MAX }
+    Job { grid, topology, sign: SignMethod::Raycast, vertices, indices, queue: u32::MAX, pops: u32::MAX }
 }
 
 /// A grid of these counts: plain or odd measures, cubes or not.
@@ -284,6 +307,63 @@ fn lattice(grid: &Grid, triangles: u32, r: &mut Random) -> Mesh {
     let mut mesh = tank(grid, triangles, 0.9, r);
     for vertex in &mut mesh.vertices {
         *vertex = vertex.map(|x| (x * 2.0).round() / 2.0);
+    }
+    mesh
+}
+
+/// A deck at any height, or on a layer of centres, level or gently wavy.
+fn any_deck(grid: &Grid, triangles: u32, noise: f64, r: &mut Random) -> Mesh {
+    let z = f64::from(grid.count[2]);
+    let level = (z - 1.0) * (0.2 + 0.6 * part(r));
+    let (level, swell) = match r.below(3) {
+        0 => (level.round(), 0.0),
+        1 => (level, 0.0),
+        _ => (level, z / 8.0 * part(r)),
+    };
+    deck(grid, triangles, [level, swell], noise, r)
+}
+
+/// A deck across the grid as it is scanned from above, at this level with waves so high, and every vertex off by up to so many cells.
+pub fn deck(grid: &Grid, triangles: u32, [level, swell]: [f64; 2], noise: f64, r: &mut Random) -> Mesh {
+    let [x, y, _] = grid.count.map(f64::from);
+    let panels = (f64::from(triangles / 2).sqrt() as u32).max(1);
+    let waves = 1.0 + 3.0 * part(r);
+    let mut mesh = Mesh::default();
+    for i in 0..=panels {
+        for j in 0..=panels {
+            let [s, t] = [i, j].map(|n| f64::from(n) / f64::from(panels));
+            let height = level + swell * (wave(waves * s) - wave(waves * t));
+            let at = [s * (x - 0.2) - 0.4, t * (y - 0.2) - 0.4, height];
+            mesh.vertices.push(at.map(|at| at + noise * f64::from(r.unit())));
+        }
+    }
+    for (i, j) in (0..panels).flat_map(|i| (0..panels).map(move |j| (i, j))) {
+        let [a, d] = [i, i + 1].map(|i| i * (panels + 1) + j);
+        mesh.triangles.extend([[a, d, d + 1], [a, d + 1, a + 1]]);
+    }
+    mesh
+}
+
+/// A wave between -1 and 1 that is 0 at whole numbers, and up and down between them in turn.
+fn wave(at: f64) -> f64 {
+    let (part, up) = (at.fract(), if at as i64 % 2 == 0 { 1.0 } else { -1.0 });
+    up * 4.0 * part * (1.0 - part)
+}
+
+/// A deck with closed pontoons below it, a third of the triangles theirs.
+fn on_pontoons(grid: &Grid, triangles: u32, r: &mut Random) -> Mesh {
+    let mut mesh = any_deck(grid, triangles * 2 / 3, 0.0, r);
+    let [x, y, _] = grid.count.map(f64::from);
+    let lowest = mesh.vertices.iter().map(|v| v[2]).fold(f64::MAX, f64::min);
+    let pontoons = 1 + r.below(4) as u32;
+    for _ in 0..pontoons {
+        let (radius, half) = (x.min(y) / 8.0, (lowest + 0.4).max(0.2) / 3.0);
+        let middle = [x * (0.2 + 0.6 * part(r)), y * (0.2 + 0.6 * part(r)), lowest - half - 0.1];
+        let segments = (f64::from(triangles / 6 / pontoons).sqrt() as u32).max(3);
+        let hull = shapes::turned(middle, &shapes::tank_profile(radius, half, 1, segments), segments);
+        let n = mesh.vertices.len() as u32;
+        mesh.vertices.extend(hull.vertices);
+        mesh.triangles.extend(hull.triangles.iter().map(|t| t.map(|v| v + n)));
     }
     mesh
 }

@@ -1,6 +1,6 @@
 /* The whole job on pointers and numbers alone: what stands outside needs to know nothing of how a machine passes
  * a record. `grid` is nine 32-bit words, the fields of sdf_grid in their order. Where `row` is given, three words for
- * each entry, it is the queue, and else the three lists are. `pass` is the member of sdf_terms. */
+ * each entry, it is the queue, and else the three lists are. `pass` and `sign` are the members of sdf_terms. */
 #include "sdf.h"
 
 void port_job(const uint32_t *grid, const float *vertices, size_t coordinate_count, uint32_t topology, uint32_t given,
@@ -8,9 +8,9 @@ void port_job(const uint32_t *grid, const float *vertices, size_t coordinate_cou
               size_t names_length, uint32_t *crossings, size_t crossings_length, uint32_t *rows, size_t rows_length,
               uint32_t *distances, size_t distances_length, uint32_t *cells, size_t cells_length, uint32_t *triangles,
               size_t triangles_length, uint32_t *row, size_t row_length, uint32_t limit, uint32_t pass,
-              uint32_t *number, uint32_t *pops, size_t *peak, uint64_t *grazed) {
+              uint32_t sign, uint32_t *number, uint32_t *pops, size_t *peak, uint64_t *grazed) {
     sdf_grid on = *(const sdf_grid *)grid;
-    sdf_terms terms = {.limit = limit, .pass = pass};
+    sdf_terms terms = {.limit = limit, .pass = pass, .sign = sign};
     sdf_job_answer answer =
         row ? sdf_generate_grid_sdf_records(on, vertices, coordinate_count, topology, given, indices, index_count,
                                             field, field_length, names, names_length, crossings, crossings_length,

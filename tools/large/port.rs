@@ -2,7 +2,7 @@
 
 use model::grid::Grid;
 use model::topology::Topology;
-use model::Job;
+use model::{Job, SignMethod};
 
 extern "C" {
     fn port_job(
@@ -31,6 +31,7 @@ extern "C" {
         row_length: usize,
         limit: u32,
         pass: u32,
+        sign: u32,
         number: *mut u32,
         pops: *mut u32,
         peak: *mut usize,
@@ -123,26 +124,31 @@ pub fn ask(job: &Job, lent: &mut Lent, limit: u32, by: By) -> Answer {
 /// The same with other coordinates than the job's. A row of records holds what the three lists of `lent`'s queue do, entry
 /// by entry.
 pub fn ask_with(job: &Job, coordinates: &[f32], lent: &mut Lent, limit: u32, by: By) -> Answer {
+    // For C any number but 0 is Normal.
+    let sign = match job.sign {
+        SignMethod::Raycast => 0,
+        SignMethod::Normal if by.records => u32::MAX,
+        SignMethod::Normal => 1,
+    };
     if !by.records {
-        return call(job, coordinates, lent, None, limit, by.quick);
+        return call(job, coordinates, lent, None, [limit, u32::from(by.quick), sign]);
     }
     let mut row: Vec<[u32; 3]> =
         (0..lent.distances.len()).map(|i| [lent.distances[i], lent.cells[i], lent.triangles[i]]).collect();
-    let answer = call(job, coordinates, lent, Some(&mut row), limit, by.quick);
+    let answer = call(job, coordinates, lent, Some(&mut row), [limit, u32::from(by.quick), sign]);
     for (i, entry) in row.iter().enumerate() {
         [lent.distances[i], lent.cells[i], lent.triangles[i]] = *entry;
     }
     answer
 }
 
-/// The job over the lent buffers, with the row for a queue where there is one.
+/// The job over the lent buffers, with the row for a queue where there is one, and the members of sdf_terms.
 fn call(
     job: &Job,
     coordinates: &[f32],
     lent: &mut Lent,
     row: Option<&mut [[u32; 3]]>,
-    limit: u32,
-    quick: bool,
+    [limit, pass, sign]: [u32; 3],
 ) -> Answer {
     let Grid { first, size, count } = job.grid;
     let mut grid = [0; 9];
@@ -179,7 +185,8 @@ fn call(
             row,
             row_length,
             limit,
-            u32::from(quick),
+            pass,
+            sign,
             &mut answer.number,
             &mut answer.pops,
             &mut answer.peak,

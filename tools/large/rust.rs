@@ -1,26 +1,32 @@
-//! The unmodified Rust on a job, and the port held to it.
+//! The Rust on a job, and the port held to it: the unmodified one, and for Normal signs the one with the queue's order of document 02, §8, put in.
 
 use crate::port::{ask_with_room, Answer, By, Lent};
-use mesh_oracle::{guarded, run_on, topology};
-use mesh_to_sdf::{probe, Grid};
-use model::geometry::distance;
+use mesh_oracle::Sign;
+use model::geometry::{distance, point_triangle_signed_distance};
 use model::topology::{triangles, Topology};
-use model::{Job, NONE};
+use model::{Job, SignMethod, NONE};
 use web_time::Instant;
 
-fn grid(job: &Job) -> Grid<[f32; 3]> {
-    Grid::new(job.grid.first, job.grid.size, job.grid.count.map(|n| n as usize))
+fn lent(job: &Job) -> mesh_oracle::Lent<'_> {
+    let sign = match job.sign {
+        SignMethod::Raycast => Sign::Raycast,
+        SignMethod::Normal => Sign::Normal,
+    };
+    let (strip, indices) = (job.topology == Topology::Strip, job.indices.as_deref());
+    mesh_oracle::Lent { count: job.grid.count, first: job.grid.first, size: job.grid.size, strip, sign, vertices: &job.vertices, indices }
 }
 
 /// The field, the steps and the times of seeding, spreading and crossings, or the words of the panic.
 pub fn run(job: &Job) -> Result<mesh_oracle::Answer, String> {
-    let mesh = topology(job.topology == Topology::Strip, job.indices.as_deref());
-    run_on(&job.vertices, mesh, &grid(job))
+    mesh_oracle::run(lent(job))
 }
 
+/// The crossing counts. With Normal signs the Rust has none, and zeros are owed.
 fn crossings(job: &Job) -> Result<Vec<[u32; 3]>, String> {
-    let mesh = topology(job.topology == Topology::Strip, job.indices.as_deref());
-    guarded(|| probe::crossings(&job.vertices, mesh, &grid(job)))
+    match job.sign {
+        SignMethod::Raycast => mesh_oracle::crossings(lent(job)),
+        SignMethod::Normal => Ok(vec![[0; 3]; job.grid.cells() as usize]),
+    }
 }
 
 /// What was compared, and how many seconds of the processor's time the two took.
@@ -38,7 +44,7 @@ pub fn alone(job: &Job, lent: &mut Lent, by: By) -> Held {
 }
 
 /// The job with no bound on room and pops, the port's against the Rust's: every cell's bits, the pops and, if asked
-/// for, the crossing counts, which the Rust works out again for it. What the Rust has no word for is held to the
+/// for, the crossing counts, which the Rust works out again for it; with Normal signs in any case. What the Rust has no word for is held to the
 /// field: the names, the rows and the queue. The Rust is given the original: the job itself, or the strip whose triangles the
 /// job lists.
 pub fn hold(job: &Job, original: &Job, lent: &mut Lent, by: By, with_crossings: bool) -> Result<Held, String> {
@@ -61,7 +67,7 @@ pub fn hold(job: &Job, original: &Job, lent: &mut Lent, by: By, with_crossings: 
             return Err(format!("cell {cell}: {:08x}, and the Rust's is {:08x}", ours.to_bits(), theirs.to_bits()));
         }
     }
-    if with_crossings {
+    if with_crossings || job.sign == SignMethod::Normal {
         let counts = crossings(original)?;
         if let Some(at) = (0..lent.crossings.len()).find(|&i| lent.crossings[i] != counts.as_flattened()[i]) {
             let (ours, theirs) = (lent.crossings[at], counts.as_flattened()[at]);
@@ -72,7 +78,8 @@ pub fn hold(job: &Job, original: &Job, lent: &mut Lent, by: By, with_crossings: 
     Ok(held)
 }
 
-/// Each name's distance is the field's magnitude, each row counts its layer, and the queue is zero.
+/// Each name's distance is the field's magnitude, or with Normal signs its signed distance is the field's value; each row counts its layer, and
+/// the queue is zero.
 fn hold_to_field(job: &Job, lent: &Lent) -> Result<(), String> {
     let all = triangles(job);
     let mut rows = vec![0; lent.rows.len()];
@@ -83,10 +90,15 @@ fn hold_to_field(job: &Job, lent: &Lent) -> Result<(), String> {
             NONE => f32::MAX,
             name => {
                 let triangle = all.get(name as usize).ok_or_else(|| format!("cell {cell} names {name}"))?;
-                distance(job.grid.centre(at), triangle.map(|v| job.vertices[v as usize]))
+                let (centre, corners) = (job.grid.centre(at), triangle.map(|v| job.vertices[v as usize]));
+                match job.sign {
+                    SignMethod::Raycast => distance(centre, corners),
+                    SignMethod::Normal => point_triangle_signed_distance(centre, corners),
+                }
             }
         };
-        if owed.to_bits() != value.abs().to_bits() {
+        let held = if job.sign == SignMethod::Raycast { value.abs() } else { value };
+        if owed.to_bits() != held.to_bits() {
             return Err(format!("cell {cell} names {name}, whose distance is {owed}, and holds {value}"));
         }
     }

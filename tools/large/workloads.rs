@@ -1,4 +1,4 @@
-//! The jobs that tools/bench and tools/bench-two time: six workloads on cubes of four sizes; five on tall and lying grids; and one
+//! The jobs that tools/bench and tools/bench-two time: seven workloads on cubes of four sizes; five on tall and lying grids; and one
 //! plate, whose few hits cost less to add than every count to sum. tools/bench-two has one more, of as many facets as a job may have,
 //! for which the Rust would take minutes.
 
@@ -15,15 +15,20 @@ const NOISY_SCAN: (&str, Make) = ("noisy-scan", |grid, n, r| meshes::scan(grid, 
 const LARGE_FACETS: (&str, Make) = ("large-facets", |grid, n, r| meshes::soup_of(grid, n / 8, 8.0, r));
 
 /// A closed tank, its scan with vertices off by up to half a cell, that without its roof, and triangles anywhere on the grid: to
-/// two cells across; to sixteen, of which there are an eighth as many; and as many to twenty. None is off the grid: such a job would
+/// two cells across; to sixteen, of which there are an eighth as many; and as many to twenty; and an open deck, for which Normal signs are
+/// meant. None is off the grid: such a job would
 /// be refused, and nothing timed.
-const ON_CUBES: [(&str, Make); 6] = [
+const ON_CUBES: [(&str, Make); 7] = [
     CLOSED_TANK,
     NOISY_SCAN,
     ("open-tank", |grid, n, r| meshes::without_roof(meshes::scan(grid, n, 0.5, r))),
     ("soup", |grid, n, r| meshes::soup_of(grid, n, 1.0, r)),
     LARGE_FACETS,
     ("dense-facets", |grid, n, r| meshes::soup_of(grid, n, 10.0, r)),
+    ("open-deck", |grid, n, r| {
+        let cells = f64::from(grid.count[2]);
+        meshes::deck(grid, n, [0.45 * cells, 0.1 * cells], 0.1, r)
+    }),
 ];
 /// Cells along each axis, and triangles.
 const SIZES: [(u32, u32); 4] = [(16, 625), (32, 2_500), (64, 10_000), (100, 20_000)];

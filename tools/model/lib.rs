@@ -8,7 +8,7 @@
 //!   geometry.rs   Geometry, and the steps on points of "What is carried over"
 //!   order.rs      Order of two distances
 //!   topology.rs   Topology
-//!   run.rs        The run; Reply numbers 6 to 8
+//!   run.rs        The run; Reply numbers 6 to 8; the Normal signs of document 02, §8
 //!
 //! Nothing here is meant to be fast. Every f32 operation below is one of IEEE 754 binary32, rounded once: that is
 //! what Rust gives. Reply number 5 speaks of lent buffers; a job's text lends none, so it cannot occur.
@@ -31,12 +31,20 @@ use topology::Topology;
 pub struct Job {
     pub grid: Grid,
     pub topology: Topology,
+    pub sign: SignMethod,
     pub vertices: Vec<Point>,
     pub indices: Option<Vec<u32>>,
     /// Queue room: how many entries may wait at once.
     pub queue: u32,
     /// Pop limit: how many entries may be taken.
     pub pops: u32,
+}
+
+/// How a cell's sign is had (document 02, §8): by rays that count crossings, or by the side of the named triangle on which its centre lies.
+#[derive(Clone, Copy, PartialEq, Eq, Debug)]
+pub enum SignMethod {
+    Raycast,
+    Normal,
 }
 
 /// The number of a refusal: 1 to 9 of document 01, and from 10 on those of document 02.
@@ -54,7 +62,7 @@ pub struct Done {
     /// Distance and named triangle of each cell.
     pub field: Vec<f32>,
     pub names: Vec<u32>,
-    /// Crossing counts along x, y, z of each cell.
+    /// Crossing counts along x, y, z of each cell; with Normal signs all are zero.
     pub crossings: Vec<[u32; 3]>,
     /// Cells with their sign bit set, for each layer z.
     pub rows: Vec<u32>,

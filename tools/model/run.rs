@@ -1,8 +1,9 @@
-//! "The run, from document 000", with reply numbers 6 to 8 in the order in which the run meets them.
+//! "The run, from document 000", with reply numbers 6 to 8 in the order in which the run meets them. With the Normal signs of document 02,
+//! §8, the distances have their signs from the start, and no ray is cast.
 
 use crate::geometry::{self, Point, Reply};
 use crate::grid::{floor, Grid, AXES};
-use crate::{order, topology, Done, Job, Refusal, NONE};
+use crate::{order, topology, Done, Job, Refusal, SignMethod, NONE};
 use std::cmp::Ordering;
 use std::collections::BTreeSet;
 
@@ -26,7 +27,11 @@ pub fn run(job: &Job) -> Result<Done, Refusal> {
     run.seeding()?;
     run.queueing()?;
     run.spreading()?;
-    let (crossings, grazed) = run.rays();
+    let (crossings, grazed) = match job.sign {
+        SignMethod::Raycast => run.rays(),
+        // No rays: the crossings are left zero, and nothing is negated for them.
+        SignMethod::Normal => (vec![[0; 3]; run.field.len()], 0),
+    };
     run.signs(&crossings);
     let rows = run.rows();
     Ok(Done { pops: run.pops, peak: run.peak, grazed, field: run.field, names: run.names, crossings, rows })
@@ -41,11 +46,14 @@ struct Entry {
     triangle: u32,
 }
 
-/// The entry with the smallest distance is taken; equal: the larger cell; equal: the larger triple of vertex
-/// numbers. What is taken earlier is less.
+/// The entry with the smallest magnitude is taken; equal: a positive one before a negative (document 02, §8); equal: the larger cell; equal:
+/// the larger triple of vertex numbers. What is taken earlier is less. Without signs this is document 01's order by distance.
 impl Ord for Entry {
     fn cmp(&self, other: &Entry) -> Ordering {
-        order::compare(self.distance, other.distance)
+        let magnitude = |entry: &Entry| entry.distance.abs().to_bits();
+        magnitude(self)
+            .cmp(&magnitude(other))
+            .then(self.distance.is_sign_negative().cmp(&other.distance.is_sign_negative()))
             .then(other.cell.cmp(&self.cell))
             .then(other.triple.cmp(&self.triple))
     }
@@ -111,10 +119,14 @@ impl<'a> Run<'a> {
         (first, last)
     }
 
-    /// A cell takes the triangle if its distance is smaller than what it holds. Says whether it took it.
-    /// Number 6 at each distance.
+    /// A cell takes the triangle if its distance is smaller than what it holds, by the order of two distances, in full. Says whether it
+    /// took it. Number 6 at each distance.
     fn offer(&mut self, triangle: u32, cell: [u32; 3]) -> Result<bool, Refusal> {
-        let distance = geometry::distance(self.grid.centre(cell), self.corners[triangle as usize]);
+        let (centre, corners) = (self.grid.centre(cell), self.corners[triangle as usize]);
+        let distance = match self.job.sign {
+            SignMethod::Raycast => geometry::distance(centre, corners),
+            SignMethod::Normal => geometry::point_triangle_signed_distance(centre, corners),
+        };
         if distance.is_nan() {
             return Err(6);
         }

@@ -4,7 +4,7 @@
 use crate::geometry::Point;
 use crate::grid::Grid;
 use crate::topology::Topology;
-use crate::{answer, bounds, Job};
+use crate::{answer, bounds, Job, SignMethod};
 use std::fmt::Write;
 
 /// The job program: the listing for a text. `large` lifts its own limits.
@@ -62,6 +62,10 @@ pub fn write(job: &Job) -> String {
     writeln!(out, "first={}", point(job.grid.first)).unwrap();
     writeln!(out, "size={}", point(job.grid.size)).unwrap();
     writeln!(out, "topology={}", if job.topology == Topology::List { "list" } else { "strip" }).unwrap();
+    // Document 02, §8: without the line it is Raycast, and there is no other spelling of either.
+    if job.sign == SignMethod::Normal {
+        writeln!(out, "sign=normal").unwrap();
+    }
     writeln!(out, "vertices={}", job.vertices.len()).unwrap();
     for vertex in &job.vertices {
         writeln!(out, "v={}", point(*vertex)).unwrap();
@@ -86,7 +90,10 @@ pub fn read(text: &[u8]) -> Option<Job> {
 }
 
 fn understand(text: &str) -> Option<Job> {
-    let mut lines = text.lines();
+    // The one line that need not be there is looked for anywhere.
+    let (signs, others): (Vec<&str>, Vec<&str>) = text.lines().partition(|line| line.starts_with("sign="));
+    let sign = if signs.is_empty() { SignMethod::Raycast } else { SignMethod::Normal };
+    let mut lines = others.into_iter();
     let mut value = || lines.next()?.split_once('=').map(|(_, value)| value);
     let count = three(value()?, |word| word.parse().ok())?;
     let first = three(value()?, float)?;
@@ -108,7 +115,7 @@ fn understand(text: &str) -> Option<Job> {
     };
     let queue = value()?.parse().ok()?;
     let pops = value()?.parse().ok()?;
-    Some(Job { grid: Grid { first, size, count }, topology, vertices, indices, queue, pops })
+    Some(Job { grid: Grid { first, size, count }, topology, sign, vertices, indices, queue, pops })
 }
 
 fn three<T>(value: &str, one: impl Fn(&str) -> Option<T>) -> Option<[T; 3]> {

@@ -15,9 +15,9 @@ static void expect(const char *what, int holds) {
 int main(void) {
     const float t[9] = {0, 0, 0, 4, 0, 0, 0, 4, 0}, *a = t, *b = t + 3, *c = t + 6;
     const float at[3] = {1, 1, 1}, under[3] = {1, 1, -1}, edge[3] = {0, 1, -1}, on[3] = {1, 1, 0};
-    const uint32_t numbers[3] = {0, 1, 2};
+    const uint32_t numbers[3] = {0, 1, 2}, round[3] = {0, 2, 1};
     const oracle_grid grid = {{1, 1, 1}, {1, 1, 2}, {2, 1, 1}};
-    const oracle_mesh mesh = {t, 3, numbers, 3, 0};
+    const oracle_mesh mesh = {t, 3, numbers, 3, 0}, turned = {t, 3, round, 3, 0};
     float field[2], d, near[3], low[3], high[3];
     uint32_t steps, hit, counts[6], triples[6], inside, cell[3];
     uint64_t index;
@@ -28,13 +28,19 @@ int main(void) {
 
     oracle_begin();
     expect("counts 2 1 1: both cells 1.0, pops 2",
-           oracle_job(&grid, &mesh, field, &steps, times) == 0 && field[0] == 1 && field[1] == 1 && steps == 2);
-    expect("seeding reaches both cells",
-           oracle_seeding(&grid, &mesh, field, triples) == 0 && field[1] == 1 && triples[4] == 1 && triples[5] == 2);
+           oracle_job(&grid, &mesh, ORACLE_RAYCAST, field, &steps, times) == 0 && field[0] == 1 && field[1] == 1 && steps == 2);
+    expect("with Normal signs too: T's normal points up, to the centres",
+           oracle_job(&grid, &mesh, ORACLE_NORMAL, field, &steps, times) == 0 && field[0] == 1 && field[1] == 1 && steps == 2);
+    expect("seeding reaches both cells", oracle_seeding(&grid, &mesh, ORACLE_RAYCAST, field, triples) == 0 && field[1] == 1 &&
+                                             triples[4] == 1 && triples[5] == 2);
+    expect("and with T turned round below T", oracle_seeding(&grid, &turned, ORACLE_NORMAL, field, triples) == 0 && field[1] == -1);
     expect("no crossing", oracle_crossings(&grid, &mesh, counts) == 0 && counts[0] + counts[2] + counts[5] == 0);
     expect("one triangle, 0 1 2", oracle_get_triangles(&mesh, triples, 2, &triangles) == 0 && triangles == 1 &&
                                       memcmp(triples, numbers, sizeof numbers) == 0);
     expect("(1,1,1) to T: 1.0", oracle_point_triangle_distance(at, a, b, c, &d) == 0 && d == 1);
+    expect("(1,1,1) above T: +1.0", oracle_point_triangle_signed_distance(at, a, b, c, &d) == 0 && d == 1);
+    expect("(1,1,-1) below T: -1.0", oracle_point_triangle_signed_distance(under, a, b, c, &d) == 0 && d == -1);
+    expect("(1,1,0) on T: -0", oracle_point_triangle_signed_distance(on, a, b, c, &d) == 0 && d == 0 && signbit(d));
     expect("closest point (1,1,0)", oracle_closest_point_triangle(at, a, b, c, near) == 0 && near[0] == 1 && near[2] == 0);
     expect("closest on a,b: (1,0,0)", oracle_closest_point_segment(at, a, b, near) == 0 && near[0] == 1 && near[1] == 0);
     expect("box to 4.0001", oracle_triangle_bounding_box(a, b, c, low, high) == 0 && high[0] == 4.0001f && low[2] == -0.0001f);

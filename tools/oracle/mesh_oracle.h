@@ -1,4 +1,5 @@
-/* The unmodified Rust, for C: what tools/oracle/build leaves as build/oracle/libmesh_oracle.a.
+/* The Rust, for C: what tools/oracle/build leaves as build/oracle/libmesh_oracle.a. It is the unmodified one, but for
+ * ORACLE_NORMAL.
  *
  * Each function answers 0, or 1 where the Rust panics; then nothing is written, and oracle_panic_words gives
  * the words. Points are three floats in a row. Nothing is checked: the Rust's own answers are wanted, outside
@@ -24,24 +25,31 @@ typedef struct {
     uint32_t strip; /* 0 list, else strip */
 } oracle_mesh;
 
+/* Signs by Raycast; by Normal, of the Rust with the queue's order of document 02, §8, put in; or by Normal, of the unmodified one. */
+enum { ORACLE_RAYCAST = 0, ORACLE_NORMAL = 1, ORACLE_NORMAL_IN_SOURCE_ORDER = 2 };
+
 /* Starts the one thread, so that the first timed call is like the others. Not needed otherwise. */
 void oracle_begin(void);
 /* Copies at most room bytes of the last panic's words; answers how many. */
 size_t oracle_panic_words(char *buffer, size_t room);
 
-/* The whole job with signs by Raycast. field: one float a cell. steps: propagation steps (document 01's pops).
+/* The whole job. field: one float a cell. steps: propagation steps (document 01's pops).
  * times: milliseconds of seeding (with queueing and the making of the arrays), spreading, crossings (with
- * signs), as the source's log lines give them; of the processor's time, see stand-ins/web-time. */
-int32_t oracle_job(const oracle_grid *grid, const oracle_mesh *mesh, float *field, uint32_t *steps, double times[3]);
+ * signs; 0 by Normal, which has none), as the source's log lines give them; of the processor's time, see stand-ins/web-time. */
+int32_t oracle_job(const oracle_grid *grid, const oracle_mesh *mesh, uint32_t sign, float *field, uint32_t *steps,
+                   double times[3]);
 /* What seeding leaves: a distance (FLT_MAX: none) and the triangle's three vertex numbers for each cell. */
-int32_t oracle_seeding(const oracle_grid *grid, const oracle_mesh *mesh, float *distances, uint32_t *triples);
-/* The crossing counts: x, y, z of each cell in turn. */
+int32_t oracle_seeding(const oracle_grid *grid, const oracle_mesh *mesh, uint32_t sign, float *distances,
+                       uint32_t *triples);
+/* The crossing counts by Raycast: x, y, z of each cell in turn. */
 int32_t oracle_crossings(const oracle_grid *grid, const oracle_mesh *mesh, uint32_t *counts);
 /* The triangles in order, three vertex numbers each; at most room triples are written. */
 int32_t oracle_get_triangles(const oracle_mesh *mesh, uint32_t *triples, size_t room, size_t *triangles);
 
 int32_t oracle_point_triangle_distance(const float p[3], const float a[3], const float b[3], const float c[3],
                                        float *distance);
+int32_t oracle_point_triangle_signed_distance(const float p[3], const float a[3], const float b[3], const float c[3],
+                                              float *distance);
 int32_t oracle_closest_point_triangle(const float p[3], const float a[3], const float b[3], const float c[3],
                                       float closest[3]);
 int32_t oracle_closest_point_segment(const float p[3], const float a[3], const float b[3], float closest[3]);

@@ -5,8 +5,8 @@
 
 #![allow(clippy::missing_safety_doc)]
 
-use crate::{begin, guarded, run_on, topology};
-use mesh_to_sdf::{probe, Grid, SnapResult, Topology};
+use crate::{begin, crossings, get_triangles, guarded, run_in, seeding, Lent, Order, Sign};
+use mesh_to_sdf::{probe, Grid, SnapResult};
 use std::slice::{from_raw_parts, from_raw_parts_mut};
 use std::sync::Mutex;
 
@@ -39,12 +39,22 @@ impl OracleGrid {
 }
 
 impl OracleMesh {
-    unsafe fn rust(&self) -> (&[P], Topology<'_, u32>) {
+    /// The job of this mesh on the grid, and the order of its queue.
+    unsafe fn on(&self, grid: &OracleGrid, sign: u32) -> (Lent<'_>, Order) {
+        let OracleGrid { first, size, count } = *grid;
         let vertices = if self.vertices == 0 { &[] } else { from_raw_parts(self.coordinates, self.vertices) };
         let indices = (!self.indices.is_null()).then(|| from_raw_parts(self.indices, self.index_count));
-        (vertices, topology(self.strip != 0, indices))
+        let (sign, order) = match sign {
+            0 => (Sign::Raycast, Order::Source),
+            1 => (Sign::Normal, Order::Document),
+            _ => (Sign::Normal, Order::Source),
+        };
+        (Lent { count, first, size, strip: self.strip != 0, sign, vertices, indices }, order)
     }
 }
+
+/// For what depends on the mesh alone.
+const NO_GRID: OracleGrid = OracleGrid { first: [0.0; 3], size: [1.0; 3], count: [1; 3] };
 
 /// Writes the answer where it is to go, or keeps the words of the panic.
 fn reply<T>(answer: Result<T, String>, write: impl FnOnce(T)) -> i32 {
@@ -74,12 +84,13 @@ pub unsafe extern "C" fn oracle_panic_words(buffer: *mut u8, room: usize) -> usi
 pub unsafe extern "C" fn oracle_job(
     grid: &OracleGrid,
     mesh: &OracleMesh,
+    sign: u32,
     field: *mut f32,
     steps: &mut u32,
     times: &mut [f64; 3],
 ) -> i32 {
-    let (vertices, indices) = mesh.rust();
-    reply(run_on(vertices, indices, &grid.rust()), |answer| {
+    let (job, order) = mesh.on(grid, sign);
+    reply(run_in(order, job), |answer| {
         from_raw_parts_mut(field, answer.field.len()).copy_from_slice(&answer.field);
         *steps = answer.steps;
         *times = answer.times;
@@ -90,11 +101,11 @@ pub unsafe extern "C" fn oracle_job(
 pub unsafe extern "C" fn oracle_seeding(
     grid: &OracleGrid,
     mesh: &OracleMesh,
+    sign: u32,
     distances: *mut f32,
     triples: *mut [u32; 3],
 ) -> i32 {
-    let (vertices, indices) = mesh.rust();
-    reply(guarded(|| probe::seeding(vertices, indices, &grid.rust())), |cells| {
+    reply(seeding(mesh.on(grid, sign).0), |cells| {
         for (i, ((a, b, c), distance)) in cells.into_iter().enumerate() {
             *distances.add(i) = distance;
             *triples.add(i) = [a as u32, b as u32, c as u32];
@@ -104,8 +115,7 @@ pub unsafe extern "C" fn oracle_seeding(
 
 #[no_mangle]
 pub unsafe extern "C" fn oracle_crossings(grid: &OracleGrid, mesh: &OracleMesh, counts: *mut [u32; 3]) -> i32 {
-    let (vertices, indices) = mesh.rust();
-    reply(guarded(|| probe::crossings(vertices, indices, &grid.rust())), |cells| {
+    reply(crossings(mesh.on(grid, 0).0), |cells| {
         from_raw_parts_mut(counts, cells.len()).copy_from_slice(&cells);
     })
 }
@@ -117,8 +127,7 @@ pub unsafe extern "C" fn oracle_get_triangles(
     room: usize,
     triangles: &mut usize,
 ) -> i32 {
-    let (vertices, indices) = mesh.rust();
-    reply(guarded(|| probe::get_triangles(vertices, indices)), |list| {
+    reply(get_triangles(mesh.on(&NO_GRID, 0).0), |list| {
         *triangles = list.len();
         for (i, (a, b, c)) in list.into_iter().take(room).enumerate() {
             *triples.add(i) = [a as u32, b as u32, c as u32];
@@ -131,6 +140,11 @@ pub unsafe extern "C" fn oracle_get_triangles(
 #[no_mangle]
 pub extern "C" fn oracle_point_triangle_distance(p: &P, a: &P, b: &P, c: &P, distance: &mut f32) -> i32 {
     reply(guarded(|| probe::point_triangle_distance(p, a, b, c)), |d| *distance = d)
+}
+
+#[no_mangle]
+pub extern "C" fn oracle_point_triangle_signed_distance(p: &P, a: &P, b: &P, c: &P, distance: &mut f32) -> i32 {
+    reply(guarded(|| probe::point_triangle_signed_distance(p, a, b, c)), |d| *distance = d)
 }
 
 #[no_mangle]

@@ -1,4 +1,5 @@
-//! The unmodified Rust, asked from outside: whole jobs, single steps, and the same for C.
+//! The Rust, asked from outside: whole jobs, single steps, and the same for C. It is the unmodified one, but for jobs with Normal signs:
+//! these are answered by the Rust with the queue's order of document 02, §8, put in (tools/oracle/queue-order.patch).
 //!
 //! One thread of rayon's, so triangles are seeded in their order and one heap takes every entry. The number of
 //! propagation steps and the times are read from the source's own log lines.
@@ -6,10 +7,34 @@
 pub mod c;
 pub mod text;
 
-use mesh_to_sdf::{generate_grid_sdf, Grid, SignMethod, Topology};
 use std::cell::RefCell;
 use std::panic::{catch_unwind, AssertUnwindSafe};
 use std::sync::{Mutex, Once};
+
+/// The sign method of a job (document 02, §8).
+#[derive(Clone, Copy, PartialEq, Eq, Debug)]
+pub enum Sign {
+    Raycast,
+    Normal,
+}
+
+/// Whose order the queue has: the source's own, by `compare_distances`, or document 02's.
+#[derive(Clone, Copy, PartialEq, Eq, Debug)]
+pub enum Order {
+    Source,
+    Document,
+}
+
+impl Sign {
+    /// The order in which jobs with this method are answered. By Raycast no distance is negative and the two orders are one: there
+    /// the source stays as it is.
+    pub fn order(self) -> Order {
+        match self {
+            Sign::Raycast => Order::Source,
+            Sign::Normal => Order::Document,
+        }
+    }
+}
 
 /// One job, without document 01's bounds: the Rust has none.
 pub struct Job {
@@ -17,8 +42,28 @@ pub struct Job {
     pub first: [f32; 3],
     pub size: [f32; 3],
     pub strip: bool,
+    pub sign: Sign,
     pub vertices: Vec<[f32; 3]>,
     pub indices: Option<Vec<u32>>,
+}
+
+impl Job {
+    pub fn lent(&self) -> Lent<'_> {
+        let Job { count, first, size, strip, sign, ref vertices, ref indices } = *self;
+        Lent { count, first, size, strip, sign, vertices, indices: indices.as_deref() }
+    }
+}
+
+/// The same with its lists lent.
+#[derive(Clone, Copy)]
+pub struct Lent<'a> {
+    pub count: [u32; 3],
+    pub first: [f32; 3],
+    pub size: [f32; 3],
+    pub strip: bool,
+    pub sign: Sign,
+    pub vertices: &'a [[f32; 3]],
+    pub indices: Option<&'a [u32]>,
 }
 
 /// What the Rust gives for a job. Times are in milliseconds: seeding, spreading, crossings.
@@ -28,37 +73,71 @@ pub struct Answer {
     pub times: [f64; 3],
 }
 
-impl Job {
-    pub fn grid(&self) -> Grid<[f32; 3]> {
-        Grid::new(self.first, self.size, self.count.map(|n| n as usize))
-    }
-
-    pub fn topology(&self) -> Topology<'_, u32> {
-        topology(self.strip, self.indices.as_deref())
-    }
-}
-
-pub fn topology(strip: bool, indices: Option<&[u32]>) -> Topology<'_, u32> {
-    if strip {
-        Topology::TriangleStrip(indices)
-    } else {
-        Topology::TriangleList(indices)
-    }
+/// A job's topology, grid and method in the types of one of the two crates.
+macro_rules! in_types_of {
+    ($rust:ident, $job:expr) => {{
+        let job = $job;
+        let topology = match job.strip {
+            true => $rust::Topology::TriangleStrip(job.indices),
+            false => $rust::Topology::TriangleList(job.indices),
+        };
+        let grid = $rust::Grid::new(job.first, job.size, job.count.map(|n| n as usize));
+        let sign = match job.sign {
+            Sign::Raycast => $rust::SignMethod::Raycast,
+            Sign::Normal => $rust::SignMethod::Normal,
+        };
+        (topology, grid, sign)
+    }};
 }
 
 /// The field and the steps, or the words of the panic.
-pub fn run(job: &Job) -> Result<Answer, String> {
-    run_on(&job.vertices, job.topology(), &job.grid())
+pub fn run(job: Lent) -> Result<Answer, String> {
+    run_in(job.sign.order(), job)
 }
 
-pub fn run_on(vertices: &[[f32; 3]], topology: Topology<u32>, grid: &Grid<[f32; 3]>) -> Result<Answer, String> {
+/// The same with the queue in this order.
+pub fn run_in(order: Order, job: Lent) -> Result<Answer, String> {
     begin();
     LINES.with(|lines| lines.borrow_mut().clear());
-    let field = guarded(|| generate_grid_sdf(vertices, topology, grid, SignMethod::Raycast))?;
+    let field = guarded(|| match order {
+        Order::Source => {
+            let (topology, grid, sign) = in_types_of!(mesh_to_sdf, job);
+            mesh_to_sdf::generate_grid_sdf(job.vertices, topology, &grid, sign)
+        }
+        Order::Document => {
+            let (topology, grid, sign) = in_types_of!(mesh_to_sdf_ordered, job);
+            mesh_to_sdf_ordered::generate_grid_sdf(job.vertices, topology, &grid, sign)
+        }
+    })?;
     let (_, seeding) = logged("init steps: ")?;
     let (steps, spreading) = logged("propagation steps: ")?;
-    let (_, crossings) = logged("raycasts done: ")?;
+    let crossings = match job.sign {
+        Sign::Raycast => logged("raycasts done: ")?.1,
+        // No ray is cast.
+        Sign::Normal => 0.0,
+    };
     Ok(Answer { field, steps, times: [seeding, spreading, crossings] })
+}
+
+/// What seeding leaves: for each cell the vertex numbers of its triangle, and the distance. The queue has no part in it.
+pub fn seeding(job: Lent) -> Result<Vec<((usize, usize, usize), f32)>, String> {
+    guarded(|| {
+        let (topology, grid, sign) = in_types_of!(mesh_to_sdf, job);
+        mesh_to_sdf::probe::seeding(job.vertices, topology, &grid, sign)
+    })
+}
+
+/// The crossing counts along x, y and z of each cell. With Normal signs the Rust makes none, and the list is empty.
+pub fn crossings(job: Lent) -> Result<Vec<[u32; 3]>, String> {
+    guarded(|| match in_types_of!(mesh_to_sdf, job) {
+        (_, _, mesh_to_sdf::SignMethod::Normal) => Vec::new(),
+        (topology, grid, _) => mesh_to_sdf::probe::crossings(job.vertices, topology, &grid),
+    })
+}
+
+/// The triangles in order, by their vertex numbers.
+pub fn get_triangles(job: Lent) -> Result<Vec<(usize, usize, usize)>, String> {
+    guarded(|| mesh_to_sdf::probe::get_triangles(job.vertices, in_types_of!(mesh_to_sdf, job).0))
 }
 
 // One thread, a listener for the log lines, and no noise from panics that are caught.

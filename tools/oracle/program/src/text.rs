@@ -1,7 +1,7 @@
 //! Reads a job in document 01's text, of any size. Its limits and the lines `queue=` and `pops=` mean nothing
 //! to the Rust: they are looked at for their form and dropped.
 
-use crate::Job;
+use crate::{Job, Sign};
 
 /// More cells than this are not worth trying: document 01 ends at 1,048,576.
 const MOST_CELLS: u128 = 1 << 24;
@@ -17,6 +17,10 @@ pub fn read(text: &[u8]) -> Option<Job> {
         "strip" => true,
         _ => return None,
     };
+    // The one line that may be missing (document 02, §8); it has one spelling.
+    let said = lines.clone().next()? == "sign=normal";
+    let sign = if said { Sign::Normal } else { Sign::Raycast };
+    let mut lines = lines.skip(usize::from(said));
     let vertices = decimal(value(&mut lines, "vertices")?)?;
     let vertices = (0..vertices).map(|_| three(value(&mut lines, "v")?, float)).collect::<Option<Vec<_>>>()?;
     let indices = match value(&mut lines, "indices")? {
@@ -26,10 +30,10 @@ pub fn read(text: &[u8]) -> Option<Job> {
     decimal(value(&mut lines, "queue")?)?;
     decimal(value(&mut lines, "pops")?)?;
     let cells = count.iter().fold(1u128, |cells, &n| cells * u128::from(n));
-    (lines.next().is_none() && cells <= MOST_CELLS).then_some(Job { count, first, size, strip, vertices, indices })
+    (lines.next().is_none() && cells <= MOST_CELLS).then_some(Job { count, first, size, strip, sign, vertices, indices })
 }
 
-fn value<'a>(lines: &mut std::str::Split<'a, char>, key: &str) -> Option<&'a str> {
+fn value<'a>(lines: &mut impl Iterator<Item = &'a str>, key: &str) -> Option<&'a str> {
     lines.next()?.strip_prefix(key)?.strip_prefix('=')
 }
 

@@ -1,7 +1,7 @@
 //! Probe into the crate: lets its private functions be asked by themselves, on points of type `[f32; 3]`.
 //! It computes nothing of its own.
 
-use crate::{compare_distances as compare, generate, geo, Grid, Topology};
+use crate::{compare_distances as compare, generate, geo, Grid, SignMethod, Topology};
 
 type P = [f32; 3];
 
@@ -21,6 +21,10 @@ pub fn point_triangle_distance(p: &P, a: &P, b: &P, c: &P) -> f32 {
     geo::point_triangle_distance(p, a, b, c)
 }
 
+pub fn point_triangle_signed_distance(p: &P, a: &P, b: &P, c: &P) -> f32 {
+    geo::point_triangle_signed_distance(p, a, b, c)
+}
+
 pub fn closest_point_triangle(p: &P, a: &P, b: &P, c: &P) -> P {
     geo::probe::closest_point_triangle(p, a, b, c)
 }
@@ -36,8 +40,13 @@ pub fn ray_triangle_intersection_aligned(origin: &P, triangle: [&P; 3], axis: u3
 }
 
 /// What seeding leaves: for each cell the vertex numbers of its triangle, and the distance.
-pub fn seeding(vertices: &[P], indices: Topology<u32>, grid: &Grid<P>) -> Vec<((usize, usize, usize), f32)> {
-    generate::grid::probe::seeding(vertices, indices, grid)
+pub fn seeding(
+    vertices: &[P],
+    indices: Topology<u32>,
+    grid: &Grid<P>,
+    sign_method: SignMethod,
+) -> Vec<((usize, usize, usize), f32)> {
+    generate::grid::probe::seeding(vertices, indices, grid, sign_method)
 }
 
 /// The crossing counts of the ray pass: for each cell those along x, y and z.

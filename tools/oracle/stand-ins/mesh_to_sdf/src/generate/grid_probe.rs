@@ -5,12 +5,17 @@ use super::{compute_raycasts, generate_preheap, AtomicU32, BoundingHierarchy, Bv
 use crate::{geo, Grid, Point, SignMethod, Topology};
 
 /// What seeding leaves: for each cell the vertex numbers of its triangle, and the distance.
-pub(crate) fn seeding<V: Point>(vertices: &[V], indices: Topology<u32>, grid: &Grid<V>) -> Vec<(Triangle, f32)> {
+pub(crate) fn seeding<V: Point>(
+    vertices: &[V],
+    indices: Topology<u32>,
+    grid: &Grid<V>,
+    sign_method: SignMethod,
+) -> Vec<(Triangle, f32)> {
     let triangles: Vec<Triangle> = Topology::get_triangles(vertices, indices).collect();
     let preheap: Vec<RwLock<(Triangle, f32)>> =
         (0..grid.get_total_cell_count()).map(|_| RwLock::new(((0, 0, 0), f32::MAX))).collect();
     let steps = AtomicU32::new(0);
-    generate_preheap(vertices, &triangles, grid, &preheap, SignMethod::Raycast, &steps);
+    generate_preheap(vertices, &triangles, grid, &preheap, sign_method, &steps);
     preheap.into_iter().map(RwLock::into_inner).collect()
 }
 
