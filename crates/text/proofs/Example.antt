@@ -63,7 +63,7 @@ pub normal-text : jobText (example Normal) ≡ before ++ bytes "sign=normal\n" +
 unfolding example digits hex line each headText verticesText indicesText tailText jobText
 normal-text = refl
 
--- whatever stands behind it, `sign=raycast` is in the text of no job
+-- behind the same lines `sign=raycast` stands in the text of no job, whatever follows it
 refused : (rest : List ℕ) → wholeJob (before ++ bytes "sign=raycast\n" ++ rest) ≡ nothing
 unfolding wholeJob jobAt headAt verticesAt countLine floatsLine topologyLine normalLine numberLine threeNumbers hexAt endAt numberAt digitsAt hexValue wordAt optional orTry kept follow
 refused rest = refl
