@@ -21,6 +21,11 @@ pub fn dot([ax, ay, az]: Point, [bx, by, bz]: Point) -> f32 {
     (ax * bx + ay * by) + az * bz
 }
 
+/// Cross: y·z − z·y, and so round.
+pub fn cross([ax, ay, az]: Point, [bx, by, bz]: Point) -> Point {
+    [ay * bz - az * by, az * bx - ax * bz, ax * by - ay * bx]
+}
+
 /// Length: the square root of the dot with itself; the binary32 nearest the exact root.
 pub fn length(a: Point) -> f32 {
     dot(a, a).sqrt()
@@ -106,6 +111,18 @@ pub fn closest_on_segment(p: Point, a: Point, b: Point) -> Point {
 /// Distance: length of point − closest.
 pub fn distance(p: Point, triangle: [Point; 3]) -> f32 {
     length(sub(p, closest_point(p, triangle)))
+}
+
+/// Signed distance (document 02, §8): positive where point − closest has a dot above 0 with the normal, (b − a) × (c − a), which is
+/// not normalised. A dot of exactly 0 gives the negative.
+pub fn point_triangle_signed_distance(p: Point, [a, b, c]: [Point; 3]) -> f32 {
+    let away = sub(p, closest_point(p, [a, b, c]));
+    let normal = cross(sub(b, a), sub(c, a));
+    if dot(away, normal) > 0.0 {
+        length(away)
+    } else {
+        -length(away)
+    }
 }
 
 /// What a ray test answers. Grazed is document 02's, §3: document 01 had it among the misses.

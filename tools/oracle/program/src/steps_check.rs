@@ -68,6 +68,8 @@ struct Met {
     rays_grazed: u64,
     nan_distances: u64,
     infinite_distances: u64,
+    signed_positive: u64,
+    signed_minus_zero: u64,
     corners_closest: u64,
     snaps_inside: u64,
 }
@@ -99,6 +101,10 @@ fn geometry_case(r: &mut Random, met: &mut Met) {
         same(probe::point_triangle_distance(&p, &a, &b, &c), geometry::distance(p, [a, b, c])),
         case,
     );
+    let signed = geometry::point_triangle_signed_distance(p, [a, b, c]);
+    hold("point_triangle_signed_distance", same(probe::point_triangle_signed_distance(&p, &a, &b, &c), signed), case);
+    met.signed_positive += u64::from(signed.is_sign_positive() && !signed.is_nan());
+    met.signed_minus_zero += u64::from(signed.to_bits() == (-0.0_f32).to_bits());
     let distance = geometry::distance(p, [a, b, c]);
     met.nan_distances += u64::from(distance.is_nan());
     met.infinite_distances += u64::from(distance.is_infinite());

@@ -21,6 +21,10 @@ pub fn point_triangle_distance(p: &P, a: &P, b: &P, c: &P) -> f32 {
     geo::point_triangle_distance(p, a, b, c)
 }
 
+pub fn point_triangle_signed_distance(p: &P, a: &P, b: &P, c: &P) -> f32 {
+    geo::point_triangle_signed_distance(p, a, b, c)
+}
+
 pub fn closest_point_triangle(p: &P, a: &P, b: &P, c: &P) -> P {
     geo::probe::closest_point_triangle(p, a, b, c)
 }
