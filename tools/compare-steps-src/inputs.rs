@@ -16,16 +16,28 @@ const fn kind(name: &'static str, fill: Fill) -> Kind {
 }
 
 /// Of a step, by its name.
-pub fn kinds(step: &str) -> &'static [Kind] {
+pub fn kinds(step: &str) -> Vec<&'static Kind> {
+    common(step).iter().chain(special(step)).collect()
+}
+
+/// Those that it has with others.
+pub fn common(step: &str) -> &'static [Kind] {
     match step {
         "sqrt" | "sqrt_bits" => &ROOT,
         "compare" => &PAIR,
-        "ray" => &TRIANGLE,
         "grid_from_box" => &BOX,
         "grid_snap" => &SNAP,
         _ if step.starts_with("grid") => &GRID,
-        // The last are a ray's alone.
-        _ => &TRIANGLE[..TRIANGLE.len() - GRAZING],
+        _ => &TRIANGLE,
+    }
+}
+
+/// Those that are made for it alone.
+pub fn special(step: &str) -> &'static [Kind] {
+    match step {
+        "ray" => &GRAZING,
+        "signed_distance" => &SIDES,
+        _ => &[],
     }
 }
 
@@ -176,9 +188,6 @@ fn flip_zeros(r: &mut Random, w: &mut [u32; IN]) {
     }
 }
 
-/// How many kinds, the last, are made for rays that graze (document 02, §3).
-pub const GRAZING: usize = 5;
-
 /// The three corners and the origin on a lattice of three by three by three, so that a weight is 0 more often than not.
 fn coarse(r: &mut Random, w: &mut [u32; IN]) {
     let step = f32::from_bits(r.pick(&[bits(1.0), bits(0.1), bits(1.0 / 1024.0), bits(1_048_576.0), 0x80_0000]));
@@ -195,7 +204,7 @@ fn across(w: &[u32; IN]) -> [usize; 2] {
     [(axis + 1) % 3, (axis + 2) % 3]
 }
 
-static TRIANGLE: [Kind; 22] = [
+static TRIANGLE: [Kind; 17] = [
     kind("bits", |r, w| points(r, w, |r| r.next() as u32)),
     kind("within", |r, w| points(r, w, |r| within(r, REACH))),
     kind("bounds", |r, w| {
@@ -297,7 +306,10 @@ static TRIANGLE: [Kind; 22] = [
             equal_corners(r, w);
         }
     }),
-    // From here on for rays alone: `GRAZING` says how many.
+];
+
+/// For rays that graze (document 02, §3).
+static GRAZING: [Kind; 5] = [
     kind("graze-lattice", coarse),
     kind("graze-along-an-edge", |r, w| {
         // Over an edge that runs along an axis, or beyond its ends; the plane of the edge at 0 of either sign half the time.
@@ -349,6 +361,75 @@ static TRIANGLE: [Kind; 22] = [
             if !r.once_in(6) {
                 *word = bits(f32::from_bits(*word) * tiny);
             }
+        }
+    }),
+];
+
+/// All corners get one place along an axis, and so the normal points along it; which axis.
+fn flat(r: &mut Random, w: &mut [u32; IN]) -> usize {
+    let k = r.below(3) as usize;
+    (w[6 + k], w[9 + k]) = (w[3 + k], w[3 + k]);
+    k
+}
+
+/// For the side of a triangle (document 02, §8): a dot of exactly 0, of either sign and of a NaN, or next to 0.
+static SIDES: [Kind; 6] = [
+    kind("side-in-the-plane", |r, w| {
+        // In the plane of a flat facet, over it or beside it, where the dot is exactly 0; once in two some patterns off it.
+        plain_points(r, w);
+        let k = flat(r, w);
+        w[k] = if r.once_in(2) { w[3 + k] } else { near(r, w[3 + k], 2) };
+        flip_zeros(r, w);
+    }),
+    kind("side-lattice", coarse),
+    kind("side-over", |r, w| {
+        // Over the triangle or beside it, above and below its plane, by much and by hardly anything.
+        plain_points(r, w);
+        let [a, b, c] = [3, 6, 9].map(|at| [real(w, at), real(w, at + 1), real(w, at + 2)]);
+        let edge = |to: [f32; 3]| [0, 1, 2].map(|k| to[k] - a[k]);
+        let (u, v) = (r.unit() * 1.5, r.unit() * 1.5);
+        mixed(w, 1.0 - u - v, u, v);
+        let ([abx, aby, abz], [acx, acy, acz]) = (edge(b), edge(c));
+        let normal = [aby * acz - abz * acy, abz * acx - abx * acz, abx * acy - aby * acx];
+        let height = f32::from_bits(within(r, 1.0));
+        for k in 0..3 {
+            w[k] = bits(real(w, k) + normal[k] * height);
+        }
+    }),
+    kind("side-of-a-needle", |r, w| {
+        // A facet that is a segment, or a few patterns from one: its normal is zero, or what rounding leaves of it.
+        points(r, w, fine);
+        let t = r.below(9) as f32 / 8.0;
+        for k in 0..3 {
+            let x = bits(real(w, 3 + k) + (real(w, 6 + k) - real(w, 3 + k)) * t);
+            w[9 + k] = if r.once_in(2) { x } else { near(r, x, 1) };
+        }
+    }),
+    kind("side-underflow", |r, w| {
+        // So small that products of the normal and of the dot are lost, though the point is off the plane.
+        plain_points(r, w);
+        let tiny = 2f32.powi(-(r.between(20, 130) as i32));
+        for word in &mut w[..12] {
+            *word = bits(f32::from_bits(*word) * tiny);
+        }
+        if r.once_in(2) {
+            flat(r, w);
+        }
+    }),
+    kind("side-beyond", |r, w| {
+        // So small that the closest point comes out as infinite, and with it the distance. The dot is a NaN where infinities of both
+        // signs meet in it.
+        points(r, w, fine);
+        for k in 0..3 {
+            // Both edges go the same way, or the closest point is a NaN.
+            let (a, b, c) = (real(w, 3 + k), real(w, 6 + k), real(w, 9 + k));
+            w[9 + k] = bits(a + (c - a).abs().copysign(b - a));
+        }
+        let (u, v) = (r.unit().abs() * 0.5, r.unit().abs() * 0.5);
+        mixed(w, 1.0 - u - v, u, v);
+        let tiny = 2f32.powi(-(r.between(33, 36) as i32));
+        for word in &mut w[..12] {
+            *word = bits(f32::from_bits(*word) * tiny);
         }
     }),
 ];

@@ -1,6 +1,6 @@
 //! compare-steps N SEED: each step of the port held to the unmodified Rust, bit for bit, on N inputs of each kind; whether a ray
 //! grazes, to the model. Prints what was met and the first difference of each step and kind; ends with 1 if there was any. Then the
-//! time of a distance and of a ray test, the port's and the Rust's.
+//! time of a distance, a signed one and a ray test, the port's and the Rust's.
 
 mod inputs;
 mod port;
@@ -14,16 +14,19 @@ use port::PORT;
 use random::Random;
 use std::hint::black_box;
 use std::time::Instant;
-use steps::{bare_distance, bare_ray, number, rust_ray, Step, IN, OUT, STEPS};
+use steps::{bare_distance, bare_ray, bare_signed_distance, number, rust_ray, side, Step, IN, OUT, STEPS};
 
 /// The answers met, by document 01's number.
 #[derive(Default)]
 struct Met {
     given: u64,
-    /// Of these, the hits of a ray and the points inside a grid.
+    /// Of these, the hits of a ray, the points inside a grid and the positive signed distances.
     hits: u64,
-    /// The rays that graze.
+    /// The rays that graze, and the signed distances whose dot is exactly 0.
     grazed: u64,
+    /// Of signed distances, those that are -0, and those whose dot is a NaN.
+    minus_zeros: u64,
+    nan_dots: u64,
     refused: [u64; 7],
     differences: u64,
 }
@@ -33,6 +36,8 @@ impl Met {
         self.given += other.given;
         self.hits += other.hits;
         self.grazed += other.grazed;
+        self.minus_zeros += other.minus_zeros;
+        self.nan_dots += other.nan_dots;
         self.differences += other.differences;
         for (sum, x) in self.refused.iter_mut().zip(other.refused) {
             *sum += x;
@@ -77,6 +82,13 @@ fn hold(step: &Step, kind: &Kind, n: u64, r: &mut Random) -> Met {
         }
         met.hits += u64::from(owed[1] == 1 && ["ray", "grid_snap"].contains(&step.name));
         met.grazed += u64::from(owed[2] == 1 && step.name == "ray");
+        if step.name == "signed_distance" && owed[0] == 0 {
+            let dot = side(&words);
+            met.hits += u64::from(owed[1] >> 31 == 0);
+            met.grazed += u64::from(dot == 0.0);
+            met.minus_zeros += u64::from(owed[1] == 1 << 31);
+            met.nan_dots += u64::from(dot.is_nan());
+        }
     }
     met
 }
@@ -88,7 +100,7 @@ fn line(step: &str, kind: &str, n: u64, met: &Met) {
 }
 
 fn compare(n: u64, seed: u64) -> u64 {
-    println!("step             kind                     inputs      given  hit/in.    grazed refused 1         2         4         6 differ");
+    println!("step             kind                     inputs      given hit/in./+  grazed/0 refused 1         2         4         6 differ");
     let mut differences = 0;
     for (s, step) in STEPS.iter().enumerate() {
         let mut all = Met::default();
@@ -100,6 +112,9 @@ fn compare(n: u64, seed: u64) -> u64 {
             all.add(&met);
         }
         line(step.name, "(all)", n * of.len() as u64, &all);
+        if step.name == "signed_distance" {
+            println!("{} of the dots are exactly 0, {} distances are -0; {} dots are NaNs", all.grazed, all.minus_zeros, all.nan_dots);
+        }
         differences += all.differences;
     }
     differences
@@ -120,8 +135,8 @@ fn time(inputs: &[[u32; IN]], mut call: impl FnMut(&[u32; IN])) -> f64 {
 
 fn measure(seed: u64) {
     println!("\nns a call        kind                       port   the Rust  with the bounds tested");
-    for (step, of) in [("distance", ["fine", "scan"]), ("ray", ["fine", "scan"])] {
-        for kind in kinds(step).iter().filter(|k| of.contains(&k.name)) {
+    for step in ["distance", "signed_distance", "ray"] {
+        for kind in kinds(step).iter().filter(|k| ["fine", "scan"].contains(&k.name)) {
             let mut r = Random::new(seed, 0);
             let mut inputs = vec![[0; IN]; 20_000];
             inputs.iter_mut().for_each(|words| (kind.fill)(&mut r, words));
@@ -134,6 +149,9 @@ fn measure(seed: u64) {
             let rust = match step {
                 "distance" => time(&inputs, |words| {
                     black_box(bare_distance(words));
+                }),
+                "signed_distance" => time(&inputs, |words| {
+                    black_box(bare_signed_distance(words));
                 }),
                 _ => time(&inputs, |words| {
                     black_box(bare_ray(words));

@@ -33,6 +33,9 @@ PORT(triangle_box) { ANSWER(box) = sdf_triangle_bounding_box(POINT(0), POINT(3),
 PORT(segment) { ANSWER(point) = sdf_closest_point_segment(POINT(0), POINT(3), POINT(6)); }
 PORT(triangle) { ANSWER(point) = sdf_closest_point_triangle(POINT(0), POINT(3), POINT(6), POINT(9)); }
 PORT(distance) { ANSWER(distance) = sdf_point_triangle_distance(POINT(0), POINT(3), POINT(6), POINT(9)); }
+PORT(signed_distance) {
+    ANSWER(distance) = sdf_point_triangle_signed_distance(POINT(0), POINT(3), POINT(6), POINT(9));
+}
 PORT(ray) { ANSWER(ray) = sdf_ray_triangle_intersection_aligned(POINT(0), POINT(3), POINT(6), POINT(9), in[12]); }
 
 PORT(grid_first) { ANSWER(point) = sdf_grid_first(GRID); }

@@ -17,4 +17,5 @@ port! {
     port_triangle_box port_segment port_triangle port_distance port_ray
     port_grid_first port_grid_last port_grid_size port_grid_counts port_grid_total port_grid_box
     port_grid_index port_grid_coordinates port_grid_centre port_grid_snap port_grid_from_box
+    port_signed_distance
 }

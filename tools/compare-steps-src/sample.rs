@@ -10,13 +10,13 @@ mod random;
 #[allow(dead_code)]
 mod steps;
 
-use inputs::{kinds, GRAZING};
+use inputs::{common, kinds, special};
 use model::geometry::Reply;
 use random::Random;
-use steps::{number, plain_ray, point, IN, OUT, STEPS};
+use steps::{number, plain_ray, point, side, IN, OUT, STEPS};
 
-/// How many cases of each step, in the order of the steps.
-const CASES: [usize; STEPS.len()] = [20, 20, 42, 17, 34, 51, 51, 51, 5, 10, 5, 5, 5, 10, 15, 15, 15, 48, 16];
+/// How many cases of each step, in the order of the steps. Those of a signed distance are chosen one by one (`sides`).
+const CASES: [usize; STEPS.len()] = [20, 20, 42, 17, 34, 51, 51, 51, 5, 10, 5, 5, 5, 10, 15, 15, 15, 48, 16, 0];
 
 /// Document 01's points, "Points on each side".
 fn marked() -> Vec<(&'static str, Vec<f32>, Vec<u32>)> {
@@ -71,15 +71,11 @@ fn main() {
     let seed = std::env::args().nth(1).and_then(|a| a.parse().ok()).expect("steps-sample SEED");
     let mut r = Random::new(seed, 0);
     for (name, reals, rest) in marked() {
-        let mut words = [0; IN];
-        let given: Vec<u32> = reals.iter().map(|x| x.to_bits()).chain(rest).collect();
-        words[..given.len()].copy_from_slice(&given);
-        print(number(name), &words);
+        print(number(name), &given(&reals, &rest));
     }
     for (s, n) in CASES.into_iter().enumerate() {
-        let of = kinds(STEPS[s].name);
-        // Those made for rays that graze come last, with random numbers of their own: the cases before them stay as they were.
-        let of = &of[..of.len() - if STEPS[s].name == "ray" { GRAZING } else { 0 }];
+        // Those made for one step come last, with random numbers of their own: the cases before them stay as they were.
+        let of = common(STEPS[s].name);
         for case in 0..n {
             // Two of three are to be telling, where their kind has such cases; the others are as they come.
             let mut words = [0; IN];
@@ -93,14 +89,24 @@ fn main() {
         }
     }
     grazing(&mut Random::new(seed + 3, 0));
+    sides(&mut Random::new(seed + 8, 0));
+}
+
+/// The words of an input: floats, and what follows them.
+fn given(reals: &[f32], rest: &[u32]) -> [u32; IN] {
+    let mut words = [0; IN];
+    for (word, x) in words.iter_mut().zip(reals) {
+        *word = x.to_bits();
+    }
+    words[reals.len()..reals.len() + rest.len()].copy_from_slice(rest);
+    words
 }
 
 /// Twice of each kind that is made for rays that graze, along the axes in turn: a ray that grazes; one whose zero weights are all
 /// -0; and a miss with a weight of 0. Every kind has all three.
 fn grazing(r: &mut Random) {
-    let of = kinds("ray");
     for round in 0..2 {
-        for (k, kind) in of[of.len() - GRAZING..].iter().enumerate() {
+        for (k, kind) in special("ray").iter().enumerate() {
             for (n, wanted) in [Wanted::Grazed, Wanted::GrazedMinusZero, Wanted::Missed].into_iter().enumerate() {
                 let axis = (round + k + n) as u32 % 3;
                 let mut words = [0; IN];
@@ -142,4 +148,74 @@ fn weights(words: &[u32; IN]) -> [f32; 3] {
         let (a, b) = (corners[from], corners[to]);
         (p[z] - a[z]) * (b[y] - a[y]) - (p[y] - a[y]) * (b[z] - a[z])
     })
+}
+
+/// The signed distances (document 02, §8): four points about document 01's triangle, above and below it, on it and beside it in its
+/// plane; then inputs of some kinds, and of each that is made for the side, chosen by what they show.
+fn sides(r: &mut Random) {
+    use Shows::*;
+    const WANTED: [(&str, &[Shows]); 14] = [
+        ("bits", &[Refused(2)]),
+        ("tiny", &[Refused(6)]),
+        ("fine", &[Above]),
+        ("scan", &[Below]),
+        ("equal-corners", &[Beside]),
+        ("nearly-equal", &[Above]),
+        ("on-a-corner", &[AboveAtZero]),
+        ("on-an-edge", &[On]),
+        ("side-in-the-plane", &[Above, Below, Beside]),
+        ("side-lattice", &[Above, Beside, On]),
+        ("side-over", &[Above, Below, Beside]),
+        ("side-of-a-needle", &[Above, Beside]),
+        ("side-underflow", &[Beside, On, NoSide]),
+        ("side-beyond", &[NoSide, NoSide]),
+    ];
+    let step = number("signed_distance");
+    for p in [[1., 1., 1.], [1., 1., -1.], [1., 1., 0.], [1., -1., 0.]] {
+        print(step, &given(&[p, [0., 0., 0.], [4., 0., 0.], [0., 4., 0.]].concat(), &[]));
+    }
+    for (name, all) in WANTED {
+        let of = kinds("signed_distance");
+        let kind = of.iter().find(|k| k.name == name).expect("a kind's name");
+        for shows in all {
+            let mut words = [0; IN];
+            (kind.fill)(r, &mut words);
+            while !shows.is(&words) {
+                (kind.fill)(r, &mut words);
+            }
+            print(step, &words);
+        }
+    }
+}
+
+#[derive(Clone, Copy)]
+enum Shows {
+    Refused(u32),
+    Above,
+    Below,
+    /// The dot is exactly 0, and the distance is not.
+    Beside,
+    /// The distance is -0.
+    On,
+    /// The dot is above 0, and the distance, whose square is lost, is +0.
+    AboveAtZero,
+    /// The dot is a NaN, and the distance is not.
+    NoSide,
+}
+
+impl Shows {
+    fn is(self, words: &[u32; IN]) -> bool {
+        let out = answer(number("signed_distance"), words);
+        let (number, distance, dot) = (out[0], f32::from_bits(out[1]), side(words));
+        match self {
+            Shows::Refused(n) => number == n,
+            _ if number != 0 => false,
+            Shows::Above => dot > 0.0 && distance > 0.0,
+            Shows::Below => dot < 0.0 && distance < 0.0,
+            Shows::Beside => dot == 0.0 && distance != 0.0,
+            Shows::On => out[1] == (-0.0_f32).to_bits(),
+            Shows::AboveAtZero => out[1] == 0.0_f32.to_bits(),
+            Shows::NoSide => dot.is_nan(),
+        }
+    }
 }

@@ -3,7 +3,7 @@
 //! grazes, for which the Rust has no reply, is the model's answer.
 
 use mesh_to_sdf::{probe, Grid, SnapResult};
-use model::geometry::Reply;
+use model::geometry::{closest_point, cross, dot, sub, Reply};
 
 pub type P = [f32; 3];
 
@@ -26,7 +26,7 @@ const fn step(name: &'static str, takes: usize, gives: usize, owed: Ask) -> Step
 }
 
 /// In the order of the numbers that the stored sample has for them.
-pub const STEPS: [Step; 19] = [
+pub const STEPS: [Step; 20] = [
     step("sqrt", 1, 1, sqrt),
     step("sqrt_bits", 1, 1, sqrt),
     step("compare", 2, 2, compare),
@@ -52,6 +52,7 @@ pub const STEPS: [Step; 19] = [
     step("grid_centre", 12, 4, |i, o| of_cell(i, o, |g, at, o| put(o, &g.get_cell_center(&at)))),
     step("grid_snap", 12, 5, grid_snap),
     step("grid_from_box", 9, 10, grid_from_box),
+    step("signed_distance", 12, 2, signed_distance),
 ];
 
 /// Which step has a name.
@@ -165,6 +166,14 @@ fn distance(i: &[u32], o: &mut [u32]) {
     give_reals(o, &[bare_distance(i)]);
 }
 
+fn signed_distance(i: &[u32], o: &mut [u32]) {
+    if out_of_reach(i, 12) {
+        o[0] = 2;
+        return;
+    }
+    give_reals(o, &[bare_signed_distance(i)]);
+}
+
 fn ray(i: &[u32], o: &mut [u32]) {
     rust_ray(i, o);
     if o[0] == 0 {
@@ -197,6 +206,17 @@ pub fn plain_ray(i: &[u32]) -> Reply {
 #[inline(never)]
 pub fn bare_distance(i: &[u32]) -> f32 {
     probe::point_triangle_distance(&point(i), &point(&i[3..]), &point(&i[6..]), &point(&i[9..]))
+}
+
+#[inline(never)]
+pub fn bare_signed_distance(i: &[u32]) -> f32 {
+    probe::point_triangle_signed_distance(&point(i), &point(&i[3..]), &point(&i[6..]), &point(&i[9..]))
+}
+
+/// The dot that tells the side of a signed distance, for counting and choosing inputs by it.
+pub fn side(i: &[u32]) -> f32 {
+    let (p, a, b, c) = (point(i), point(&i[3..]), point(&i[6..]), point(&i[9..]));
+    dot(sub(p, closest_point(p, [a, b, c])), cross(sub(b, a), sub(c, a)))
 }
 
 #[inline(never)]

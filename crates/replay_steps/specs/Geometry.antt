@@ -1,11 +1,11 @@
--- Steps 0 to 7, the root, the comparison and the geometry: when the answer that a case stores is that of the definitions which the asked function's own
+-- Steps 0 to 7 and 19, the root, the comparison and the geometry: when the answer that a case stores is that of the definitions which the asked function's own
 -- contract names. A case has what goes in from word 1 on, and then what comes out. Definitions only.
 use mathlib.Core.Bool.{Bool, _&&_}
 use mathlib.Core.List.{List}
 use Prim.Native.Nat.{ℕ, zero, suc, _+_}
 use lib.IntN.{ℤ, pos, negsuc}
 use Rattle.float.specs.RootOf.{rootOf, rootBits}
-use Rattle.ask_geo.specs.Asked.{askedBox, askedSegment, askedTriangle, askedDistance, askedRay}
+use Rattle.ask_geo.specs.Asked.{askedBox, askedSegment, askedTriangle, askedDistance, askedSignedDistance, askedRay}
 use Rattle.c_records.specs.C as C
 use Rattle.c_records.specs.C.{pointIn, axisIn}
 use Rattle.c_records.specs.declared.SdfPointAnswer.{SdfPointAnswer}
@@ -75,6 +75,12 @@ storedDistance text base =
     isDistanceAnswer text base 13
     (C.distanceForC
     (askedDistance (pointIn (samplePoint text base 1)) (pointIn (samplePoint text base 4)) (pointIn (samplePoint text base 7)) (pointIn (samplePoint text base 10))))
+
+abbrev pub storedSignedDistance : List ℕ → ℕ → Bool
+storedSignedDistance text base =
+    isDistanceAnswer text base 13
+    (C.distanceForC
+    (askedSignedDistance (pointIn (samplePoint text base 1)) (pointIn (samplePoint text base 4)) (pointIn (samplePoint text base 7)) (pointIn (samplePoint text base 10))))
 
 abbrev pub storedRay : List ℕ → ℕ → Bool
 storedRay text base =

@@ -1,4 +1,4 @@
-// Steps 0 to 7: the root, the comparison and the geometry. Each asks what the case that begins with word
+// Steps 0 to 7 and 19: the root, the comparison and the geometry. Each asks what the case that begins with word
 // `base` asks, and says whether the port's answer is the stored one.
 use crate::words::is_point;
 use crate::words::is_real;
@@ -88,6 +88,17 @@ pub fn distance(text: &[u8], base: usize) -> bool
     let b = point(text, base, 7);
     let c = point(text, base, 10);
     let r = c_geometry::sdf_point_triangle_distance(p, a, b, c);
+    is_word(text, base, 13, r.number) & is_real(text, base, 14, r.distance)
+}
+
+pub fn signed_distance(text: &[u8], base: usize) -> bool
+    ensures { λ r. ⌜ r ≡ Geometry.storedSignedDistance (now (text .entry)) base ⌝ }
+{
+    let p = point(text, base, 1);
+    let a = point(text, base, 4);
+    let b = point(text, base, 7);
+    let c = point(text, base, 10);
+    let r = c_geometry::sdf_point_triangle_signed_distance(p, a, b, c);
     is_word(text, base, 13, r.number) & is_real(text, base, 14, r.distance)
 }
 

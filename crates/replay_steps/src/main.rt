@@ -20,6 +20,7 @@ fn geometry_step(text: &[u8], base: usize, step: u32) -> bool {
         5 => geometry::triangle(text, base),
         6 => geometry::distance(text, base),
         7 => geometry::ray(text, base),
+        19 => geometry::signed_distance(text, base),
         _ => false,
     }
 }
@@ -51,7 +52,7 @@ fn case_words(step: u32) -> usize
         3 | 13 => 17,
         4 | 8 | 9 | 10 | 11 => 14,
         5 | 16 => 17,
-        6 | 14 | 15 => 15,
+        6 | 14 | 15 | 19 => 15,
         7 | 17 => 18,
         12 => 12,
         18 => 20,
@@ -77,10 +78,11 @@ fn differs(text: &[u8], base: usize, case: u64) -> u64
     ensures { λ r. ⌜ r ≤ 1 ⌝ }
 {
     let step = words::word(text, base, 0);
-    let same = if step < 8 {
-        geometry_step(text, base, step)
-    } else {
+    let of_grid = (8 <= step) & (step < 19);
+    let same = if of_grid {
         grid_step(text, base, step)
+    } else {
+        geometry_step(text, base, step)
     };
     if same {
         return 0;
