@@ -1,17 +1,15 @@
 -- The entry with the smallest distance is taken. What waits is in order in every state before a pop: it starts empty, an entry is put in
--- at its place, and the first is taken out. So the first goes no later than any other; and waiting entries hold distances without a sign
--- bit, whose patterns order as the numbers do. Assumes nothing.
+-- at its place, and the first is taken out. So the first goes no later than any other; and waiting entries hold keys of distances, which
+-- order by magnitude and then by sign. Assumes nothing.
 use Prim.Native.Nat.{ℕ, _≤_, _<_}
 use native.Mathlib.Omega.{arith}
-use mathlib.Core.Path.{_≡_, refl, sym, ap, _∙_, subst}
+use mathlib.Core.Path.{_≡_, refl, sym, _∙_, subst}
 use mathlib.Core.Bool.{true}
 use mathlib.Core.List.{List·Memᴰ, List·Memᴰ·head, List·Memᴰ·tail}
 use lib.ListN.{length}
-use lib.Ieee.{binary32, ofBits}
-use lib.Ieee.Bits.{ofBits-toBits}
-use borrow.Author.Tests.{le-leb, eqb-true}
-use Rattle.float.specs.Distance.{Distance}
-use Rattle.float.proofs.Order.{bits-le, bits-eq}
+use Rattle.float_order.specs.Nearer.{keyOf}
+use Rattle.float_order.specs.Total.{Value}
+use Rattle.float_order.proofs.Keys.{key-magnitude, key-positive, key-level}
 use Rattle.lists.specs.Turns.{goes}
 use Rattle.lists.proofs.Turns.{turns-keep}
 use Rattle.lists.proofs.Made.{goes-same}
@@ -24,7 +22,7 @@ use Rattle.mesh_topology.specs.Topology.{trianglesOf, kth}
 use Rattle.mesh.specs.Mesh.{vertexCount}
 use Rattle.run.specs.Run.{RunInput, Place, off, at, State, taken, queue, queueCell, queueing, spreadTo, spreadAround}
 use Rattle.run.specs.Input.{runInput}
-use Rattle.run.proofs.Values.{Fair}
+use Rattle.run.proofs.Values.{Fair, distanceAt}
 use Rattle.run.proofs.Offers.{Offer, passes, takesIt, offer-went, Queued, queue-went, QueuedCell, notBelow, below, queueCell-went}
 use Rattle.run.specs.Good.{Waits, Good}
 use Rattle.run.proofs.Inputs.{fair-input}
@@ -34,7 +32,7 @@ use Rattle.job_checks.specs.Job.{Job, Lent}
 use Rattle.job_checks.specs.Refusals.{refusal}
 use Rattle.demand_3.specs.States.{BeforePop, afterQueueing, afterPop}
 use Rattle.demand_3.specs.Demand3.{inputFor}
-use Rattle.demand_3.specs.Smallest.{SmallestTaken}
+use Rattle.demand_3.specs.Smallest.{distanceOf, SmallestTaken}
 use Rattle.demand_3.proofs.States.{before-pop-good}
 use Rattle.demand_3.proofs.Theorem.{checks-passed}
 
@@ -85,21 +83,15 @@ module _ (g : RunInput) (F : Fair g) (O : Ordered g) where
       (λ i u v l. turn-in-order e i u v)
       h
 
-  -- ---- so the first is at the smallest distance
-
-  -- an entry that waits holds a distance
-  waits-distance : (s : State) (x : Entry) → Waits g (s .field) x → Distance (g .distance (x .triangle) (x .cell))
-  waits-distance s x W = F .distances (x .triangle) (x .cell) (W .number)
-
-  small : (s : State) (x : Entry) → Waits g (s .field) x → x .distance ≤ 0x7f80_0000
-  small s x W = omega (arith, W .far, waits-distance s x W .small)
+  -- ---- so the first has the smallest key, and keys order by magnitude, then positive first
 
   pub taken-smallest : SmallestTaken g
   taken-smallest s e w B q =
       record {
-        is-distance = ap (ofBits binary32) (first .far) ∙ ofBits-toBits binary32 _ (waits-distance s e first .held);
-        at-most-each = λ x m. bits-le (e .distance) (x .distance) (small s e first) (small s x (other x m)) ∙ le-leb (e .distance) (x .distance) (O .nearer e x (before x m));
-        larger-cell = λ x m t. larger x m (eqb-true (e .distance) (x .distance) (sym (bits-eq (e .distance) (x .distance) (small s e first) (small s x (other x m))) ∙ t));
+        is-key = first .far;
+        at-most-each = λ x m. key-magnitude distance-e (distance-x x m) (keys x m);
+        positive-first = λ x m. key-positive distance-e (distance-x x m) (keys x m);
+        larger-cell = λ x m t u. larger x m (first .far ∙ key-level distance-e (distance-x x m) t u ∙ sym (other x m .far));
       }
     where
       G : Good g s
@@ -111,8 +103,17 @@ module _ (g : RunInput) (F : Fair g) (O : Ordered g) where
       other : (x : Entry) → List·Memᴰ x w → Waits g (s .field) x
       other x m = G .waits x (subst (List·Memᴰ x) (sym q) (List·Memᴰ·tail m))
 
+      distance-e : Value
+      distance-e = distanceAt g F (e .triangle) (e .cell) (first .number)
+
+      distance-x : (x : Entry) → List·Memᴰ x w → Value
+      distance-x x m = distanceAt g F (x .triangle) (x .cell) (other x m .number)
+
       before : (x : Entry) → List·Memᴰ x w → g .goesFirst e x ≡ true
       before x m = after-member (O .total) e x w (subst (Sorted (g .goesFirst)) q (before-pop-in-order s B) .0) m
+
+      keys : (x : Entry) → List·Memᴰ x w → keyOf (distanceOf g e) ≤ keyOf (distanceOf g x)
+      keys x m = omega (arith, O .nearer e x (before x m), first .far, other x m .far)
 
       larger : (x : Entry) → List·Memᴰ x w → e .distance ≡ x .distance → x .cell < e .cell
       larger x m d =
@@ -137,4 +138,4 @@ order-on j b =
 pub smallest-taken : (j : Job) (b : Lent) → refusal j b ≡ 0 → SmallestTaken (inputFor j b)
 smallest-taken j b h =
     let p = checks-passed j b h in
-    taken-smallest (inputFor j b) (fair-input (j .grid) (j .mesh) (length (b .distances)) (j .limit) (p .some) (p .few)) (order-on j b)
+    taken-smallest (inputFor j b) (fair-input (j .grid) (j .mesh) (j .sign) (length (b .distances)) (j .limit) (p .some) (p .few)) (order-on j b)

@@ -63,7 +63,7 @@ pub demand-3 : (j : Job) (b : Lent) → Demand3 j b
 demand-3 j b t h c v =
     let E = done-ended j b t h in
     let p = checks-passed j b (E .passed) in
-    rw (E .fills) (run-means (j .grid) (j .mesh) (length (b .distances)) (j .limit) (p .some) (p .few) (E .last) (E .ran) c v)
+    rw (E .fills) (run-means (j .grid) (j .mesh) (length (b .distances)) (j .limit) (p .some) (p .few) (j .sign) (E .last) (E .ran) c v)
 
 -- ---- the corollary, of the lent buffers after a call
 

@@ -1,27 +1,31 @@
--- The magnitudes and the names of a run that is Done, over any input whose steps and indices are those of a grid. A triangle whose
--- snapped box covers a cell was met there in seeding; one that a neighbour held was offered around before the end; and no value rises.
--- Assumes nothing but what `FairOn` asks of the input.
-use Prim.Native.Nat.{ℕ, _≤_, _<_}
+-- The values and the names of a run that is Done, over any input whose steps and indices are those of a grid. A triangle whose snapped box
+-- covers a cell was met there in seeding; one that a neighbour held was offered around before the end; and no cell takes what is farther. Where
+-- distances have no sign bit, what is not nearer is at least as large. Assumes nothing but what `FairOn` asks of the input.
+use Prim.Native.Nat.{ℕ, _<_}
 use native.Mathlib.Omega.{arith}
-use mathlib.Core.Path.{_≡_, refl, sym, _∙_, subst}
+use mathlib.Core.Path.{_≡_, refl, sym, ap, _∙_, subst}
 use mathlib.Core.Logic.{_⊎_, inl, inr}
 use mathlib.Core.Bool.{true, false, true≢false}
 use mathlib.Core.List.{List}
-use lib.Ieee.{Float}
-use borrow.Author.Tests.{le-leb}
+use lib.Ieee.{Float, isNan, binary32, toBits}
+use borrow.Author.Tests.{le-leb, ltb-false}
 use Rattle.point.specs.declared.Axis.the-variants.{X, Y, Z}
 use Rattle.float.specs.Arith.{_≦_, _≺_, fMax}
 use Rattle.float.specs.Distance.{Distance}
-use Rattle.float.proofs.Order.{distance-le}
+use Rattle.float.proofs.Magnitude.{distance-sign}
+use Rattle.float.proofs.Order.{distance-lt, distance-le}
+use Rattle.float_order.specs.Nearer.{nearer}
+use Rattle.float_order.proofs.Nearer.{nearer-exactly, nearer-below}
+use Rattle.float_order.proofs.Height.{height-not-nearer}
 use Rattle.lists.specs.Turns.{goes}
 use Rattle.grid.specs.declared.Grid.{Grid}
 use Rattle.grid.specs.declared.Cell.{Cell}
 use Rattle.grid.specs.Index.{indexOf, total, Inside}
 use Rattle.grid.proofs.Laws.{index-below}
 use Rattle.run.specs.Run.{RunInput, State, none, held, named, run}
-use Rattle.run.specs.Good.{bits, CellHolds, isBare, has, Falls}
+use Rattle.run.specs.Good.{CellHolds, isBare, has, Falls}
 use Rattle.run.specs.Steps.{aroundCell}
-use Rattle.run.proofs.Values.{Fair, Met, met-on, max-distance, holds-distance, holds-at-most-max, has-below}
+use Rattle.run.proofs.Values.{Fair, Met, met-on, max-distance, maxValue, distanceAt, heldBy, holds-at-most-max, has-below}
 use Rattle.run.proofs.Offers.{Ran, run-went}
 use Rattle.run.proofs.Seeding.{InBox, seeding-good, seeding-empty, seeding-meets}
 use Rattle.run.proofs.Queueing.{queueing-to}
@@ -30,6 +34,10 @@ use Rattle.demand_3.specs.Offered.{Covers, Near, HeldNear, Offered}
 use Rattle.demand_3.specs.Meaning.{Least, Names}
 use Rattle.demand_3.proofs.States.{since-good, end-since, since-served}
 use Rattle.demand_3.proofs.Neighbours.{near-reached}
+
+-- a distance that is no NaN has no sign bit
+abbrev pub Unsigned : RunInput → Type 0
+Unsigned g = (k c : ℕ) → isNan (g .distance k c) ≡ false → Distance (g .distance k c)
 
 -- what the run is told is of the grid
 pub record FairOn (grid : Grid) (g : RunInput) : Type 0 where
@@ -89,14 +97,11 @@ module _ (grid : Grid) (g : RunInput) (O : FairOn grid g) (f : State) (D : run g
         go (inr h) = held-met k (o .triangle) h
 
     -- what the cell holds at the end
-    holds : CellHolds g (held f (indexOf grid c)) (named f (indexOf grid c)) (indexOf grid c)
+    pub holds : CellHolds g (held f (indexOf grid c)) (named f (indexOf grid c)) (indexOf grid c)
     holds = since-good g F f (end-since g F f D) .sound .each (indexOf grid c) (on-grid c v)
 
-    pub magnitude-distance : Distance (held f (indexOf grid c))
-    magnitude-distance = holds-distance g F holds
-
     -- what it names it was offered: it holds it itself
-    named-offered : named f (indexOf grid c) < g .triangles → Offered grid g c (named f (indexOf grid c))
+    pub named-offered : named f (indexOf grid c) < g .triangles → Offered grid g c (named f (indexOf grid c))
     named-offered l =
         record {
           triangle = l;
@@ -108,21 +113,44 @@ module _ (grid : Grid) (g : RunInput) (O : FairOn grid g) (f : State) (D : run g
           });
         }
 
-    at-most : (x : Float) → Distance x → bits (held f (indexOf grid c)) ≤ bits x → (held f (indexOf grid c) ≦ x) ≡ true
-    at-most x p l = distance-le (held f (indexOf grid c)) x magnitude-distance p ∙ le-leb (bits (held f (indexOf grid c))) (bits x) l
+    -- no triangle that was offered is nearer, nor is f32::MAX
+    pub none-nearer : (k : ℕ) → Offered grid g c k → nearer (g .distance k (indexOf grid c)) (held f (indexOf grid c)) ≡ false
+    none-nearer k o = let m = offered-met k o in height-not-nearer (distanceAt g F k (indexOf grid c) (m .number)) (heldBy g F holds) (m .least)
 
-    pub least : Least grid g c (held f (indexOf grid c))
-    least =
-        record {
-          at-most-max = at-most fMax max-distance (holds-at-most-max g F holds);
-          at-most-each = λ k o. let m = offered-met k o in at-most (g .distance k (indexOf grid c)) (F .distances k (indexOf grid c) (m .number)) (m .least);
-          one-of-them = one holds;
-        }
-      where
-        one : CellHolds g (held f (indexOf grid c)) (named f (indexOf grid c)) (indexOf grid c)
-            → (held f (indexOf grid c) ≡ fMax) ⊎ ((k : ℕ) × Offered grid g c k × (held f (indexOf grid c) ≡ g .distance k (indexOf grid c)))
-        one (isBare e n) = inl e
-        one (has l e n b) = inr (named f (indexOf grid c), named-offered l, e)
+    max-not-nearer : nearer fMax (held f (indexOf grid c)) ≡ false
+    max-not-nearer = height-not-nearer maxValue (heldBy g F holds) (holds-at-most-max g F holds)
+
+    -- ---- distances that have no sign bit
+
+    module _ (U : Unsigned g) where
+      pub magnitude-distance : Distance (held f (indexOf grid c))
+      magnitude-distance = of holds
+        where
+          of : {d : Float} {k : ℕ} → CellHolds g d k (indexOf grid c) → Distance d
+          of (isBare e n) = subst Distance (sym e) max-distance
+          of {k = k} (has l e n b) = subst Distance (sym e) (U k (indexOf grid c) (sym (ap isNan e) ∙ n))
+
+      -- of two of them, what is not nearer is at least as large
+      at-most : (x : Float) → Distance x → nearer x (held f (indexOf grid c)) ≡ false → (held f (indexOf grid c) ≦ x) ≡ true
+      at-most x p h =
+          let h′ = held f (indexOf grid c) in
+          let less = sym (nearer-exactly x h′ (distance-sign x p) (distance-sign h′ magnitude-distance)) ∙ h in
+          let n = toBits binary32 x in
+          let m = toBits binary32 h′ in
+          distance-le h′ x magnitude-distance p ∙ le-leb m n (ltb-false n m (sym (distance-lt x h′ p magnitude-distance) ∙ less))
+
+      pub least : Least grid g c (held f (indexOf grid c))
+      least =
+          record {
+            at-most-max = at-most fMax max-distance max-not-nearer;
+            at-most-each = λ k o. at-most (g .distance k (indexOf grid c)) (U k (indexOf grid c) (offered-met k o .number)) (none-nearer k o);
+            one-of-them = one holds;
+          }
+        where
+          one : CellHolds g (held f (indexOf grid c)) (named f (indexOf grid c)) (indexOf grid c)
+              → (held f (indexOf grid c) ≡ fMax) ⊎ ((k : ℕ) × Offered grid g c k × (held f (indexOf grid c) ≡ g .distance k (indexOf grid c)))
+          one (isBare e n) = inl e
+          one (has l e n b) = inr (named f (indexOf grid c), named-offered l, e)
 
     pub names : Names grid g c (held f (indexOf grid c)) (named f (indexOf grid c))
     names =
@@ -133,4 +161,4 @@ module _ (grid : Grid) (g : RunInput) (O : FairOn grid g) (f : State) (D : run g
       where
         none-named : (held f (indexOf grid c) ≺ fMax) ≡ false → CellHolds g (held f (indexOf grid c)) (named f (indexOf grid c)) (indexOf grid c) → named f (indexOf grid c) ≡ none
         none-named b (isBare e n) = n
-        none-named b (has l e n q) = absurd (true≢false (sym q ∙ b))
+        none-named b (has l e n q) = absurd (true≢false (sym (nearer-below _ q) ∙ b))

@@ -10,6 +10,9 @@ use lib.ListN.{getD}
 use lib.Ieee.{Float, nan, neg}
 use Rattle.float.specs.Arith.{_≦_, _≺_, fMax, if_then_else_}
 use Rattle.float.specs.Distance.{unsigned}
+use Rattle.float_order.specs.Nearer.{nearer}
+use Rattle.terms.specs.declared.SignMethod.{SignMethod}
+use Rattle.terms.specs.declared.SignMethod.the-variants.{Raycast, Normal}
 use Rattle.point.specs.declared.Axis.{Axis}
 use Rattle.point.specs.declared.Axis.the-variants.{X, Y, Z}
 use Rattle.grid.specs.declared.Grid.{Grid}
@@ -43,8 +46,8 @@ countLeft left i Z = getD left (3 * i + 2) 0
 abbrev pub oddOnes : (Axis → ℕ) → ℕ
 oddOnes count = count X % 2 + count Y % 2 + count Z % 2
 
--- what the three buffers hold for cell c after the call
-pub record CellMeans (grid : Grid) (mesh : Mesh) (g : RunInput) (field : List Float) (names left : List ℕ) (c : Cell) : Type 0 where
+-- what the three buffers hold for cell c after the call, where rays give the signs
+pub record RaycastMeans (grid : Grid) (mesh : Mesh) (g : RunInput) (field : List Float) (names left : List ℕ) (c : Cell) : Type 0 where
   -- the cell's value without its sign
   pub magnitude : Float
   pub no-sign : unsigned magnitude ≡ true
@@ -54,3 +57,22 @@ pub record CellMeans (grid : Grid) (mesh : Mesh) (g : RunInput) (field : List Fl
   -- definition, which are those left in the lent buffer."
   pub counts : (a : Axis) → countLeft left (indexOf grid c) a ≡ crossings grid mesh a c
   pub sign : getD field (indexOf grid c) nan ≡ (if leb 2 (oddOnes (countLeft left (indexOf grid c))) then neg magnitude else magnitude)
+
+-- "In Normal, demand 3 reads: each value is f32::MAX with none named, or the signed distance of the named triangle, which was offered to the
+-- cell." (document 02, §8)
+pub data Valued (grid : Grid) (g : RunInput) (c : Cell) (value : Float) (name : ℕ) : Type 0 where
+  noneNamed : value ≡ fMax → name ≡ none → Valued grid g c value name
+  ofNamed : Offered grid g c name → value ≡ g .distance name (indexOf grid c) → Valued grid g c value name
+
+-- what the three buffers hold for cell c after the call, where triangles give the signs
+pub record NormalMeans (grid : Grid) (g : RunInput) (field : List Float) (names left : List ℕ) (c : Cell) : Type 0 where
+  pub valued : Valued grid g c (getD field (indexOf grid c) nan) (getD names (indexOf grid c) 0)
+  -- and of the triangles offered to the cell none is nearer, by the comparison by which a cell takes one
+  pub none-nearer : (k : ℕ) → Offered grid g c k → nearer (g .distance k (indexOf grid c)) (getD field (indexOf grid c) nan) ≡ false
+  -- "no rays, crossings left zero"
+  pub no-crossings : (a : Axis) → countLeft left (indexOf grid c) a ≡ 0
+
+-- by the method of the signs
+abbrev pub CellMeans : SignMethod → Grid → Mesh → RunInput → List Float → List ℕ → List ℕ → Cell → Type 0
+CellMeans Raycast grid mesh g field names left c = RaycastMeans grid mesh g field names left c
+CellMeans Normal grid mesh g field names left c = NormalMeans grid g field names left c

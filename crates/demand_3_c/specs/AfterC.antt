@@ -14,4 +14,4 @@ use Rattle.c_job.specs.Job.{GivesC}
 abbrev pub AfterCallFromC : Job → Lent → SdfJobAnswer → Lent → Type 0
 AfterCallFromC j b answer left =
     GivesC (outcome j b) answer left → answer .number ≡ 0 → (c : Cell) → Inside (j .grid) c
-    → CellMeans (j .grid) (j .mesh) (inputFor j b) (left .field) (left .names) (left .crossings) c
+    → CellMeans (j .sign) (j .grid) (j .mesh) (inputFor j b) (left .field) (left .names) (left .crossings) c

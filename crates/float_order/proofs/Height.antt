@@ -62,10 +62,17 @@ height-less x y h =
     (ap (λ (v : Float). nearer v (y .float)) own ∙ h)
     (carried y x (total-order .total y x (before x y h)))
 
--- "a cell never takes the same value twice": of one height there is one value
+-- and back
 pub height-nearer : (x y : Value) → height (x .float) < height (y .float) → nearer (x .float) (y .float) ≡ true
 height-nearer x y l = go (nearer (x .float) (y .float)) refl
   where
     go : (t : Bool) → nearer (x .float) (y .float) ≡ t → t ≡ true
     go true e = refl
     go false e = absurd (omega (arith, height-not-less x y e))
+
+pub height-not-nearer : (x y : Value) → height (y .float) ≤ height (x .float) → nearer (x .float) (y .float) ≡ false
+height-not-nearer x y l = go (nearer (x .float) (y .float)) refl
+  where
+    go : (t : Bool) → nearer (x .float) (y .float) ≡ t → t ≡ false
+    go true e = absurd (omega (arith, height-less x y e))
+    go false e = refl

@@ -22,8 +22,8 @@ use Rattle.mesh.specs.Mesh.{Mesh}
 use Rattle.run.specs.Run.{RunInput}
 use Rattle.run.specs.Signs.{rowWeight, rowBelow, rowsBy, rows}
 use Rattle.job_checks.specs.Job.{Lent}
-use Rattle.demand_3.specs.Meaning.{countLeft, CellMeans}
-use Rattle.row_meaning.specs.Rows.{twoOrMoreOdd, inLayer, RowsMean}
+use Rattle.demand_3.specs.Meaning.{countLeft, RaycastMeans}
+use Rattle.row_meaning.specs.Rows.{twoOrMoreOdd, inLayer, ByRays}
 
 -- ---- a cell
 
@@ -54,10 +54,20 @@ row-is g field n l =
     ∙ sum-same (λ i. cond (of-layer i) (cond (set i) 1 0) 0) (λ i. cond (of-layer i && set i) 1 0) (total g) (λ i h. sym (both (of-layer i) (set i)))
     ∙ sym (count-sum (λ i. of-layer i && set i) (total g))
 
--- ---- buffers whose cells mean what demand 3 says, with the rows of their field
+-- ---- the rows of the field that is left
+
+module _ (g : Grid) (left : Lent) (rows-left : left .rows ≡ rows g (left .field)) where
+  pub row-signs : (n : ℕ) → n < layers g → getD (left .rows) n 0 ≡ inLayer g n (λ i. signBit (getD (left .field) i nan))
+  row-signs n l = ap (λ (r : List ℕ). getD r n 0) rows-left ∙ row-is g (left .field) n l
+
+  pub row-for-each : length (left .rows) ≡ layers g
+  unfolding rowsBy
+  row-for-each = ap length rows-left ∙ length-table (λ n. rowBelow rowWeight g (left .field) n (total g)) (layers g)
+
+-- ---- and where its cells mean what demand 3 says of rays
 
 module _ (g : Grid) (m : Mesh) (told : RunInput) (left : Lent)
-    (means : (i : ℕ) → i < total g → CellMeans g m told (left .field) (left .names) (left .crossings) (cellAt g i))
+    (means : (i : ℕ) → i < total g → RaycastMeans g m told (left .field) (left .names) (left .crossings) (cellAt g i))
     (rows-left : left .rows ≡ rows g (left .field)) where
   same : (i : ℕ) → indexOf g (cellAt g i) ≡ i
   same i = index-of-cell (countOn Y g) (countOn Z g) i
@@ -69,19 +79,13 @@ module _ (g : Grid) (m : Mesh) (told : RunInput) (left : Lent)
       ∙ negated (c .magnitude) (twoOrMoreOdd (left .crossings) (indexOf g (cellAt g i))) (c .no-sign)
       ∙ ap (twoOrMoreOdd (left .crossings)) (same i)
 
-  row-signs : (n : ℕ) → n < layers g → getD (left .rows) n 0 ≡ inLayer g n (λ i. signBit (getD (left .field) i nan))
-  row-signs n l = ap (λ (r : List ℕ). getD r n 0) rows-left ∙ row-is g (left .field) n l
-
-  pub rows-by-signs : RowsMean g m left
-  unfolding rowsBy
-  rows-by-signs =
+  pub rows-by-rays : ByRays g m left
+  rows-by-rays =
       record {
         cell = sign-set;
         counts = λ i h axis. ap (λ (k : ℕ). countLeft (left .crossings) k axis) (sym (same i)) ∙ means i h .counts axis;
-        row-each = ap length rows-left ∙ length-table (λ n. rowBelow rowWeight g (left .field) n (total g)) (layers g);
-        row-by-sign = row-signs;
         row-counts-inside = λ n l.
-            row-signs n l
+            row-signs g left rows-left n l
             ∙ count-same (λ i. eqb (layerOf g i) n && signBit (getD (left .field) i nan)) (λ i. eqb (layerOf g i) n && twoOrMoreOdd (left .crossings) i) (total g)
             (λ i h. ap (λ (b : Bool). eqb (layerOf g i) n && b) (sign-set i h));
       }
