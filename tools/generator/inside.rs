@@ -247,7 +247,7 @@ pub fn grazing_zeros(r: &mut Random) -> Job {
     }
 }
 
-fn triangle(mesh: &mut Mesh, corners: [[f64; 3]; 3]) {
+pub fn triangle(mesh: &mut Mesh, corners: [[f64; 3]; 3]) {
     let n = mesh.vertices.len() as u32;
     mesh.vertices.extend(corners);
     mesh.triangles.push([n, n + 1, n + 2]);

@@ -3,7 +3,7 @@
 //! of a facet, where the dot is exactly 0, and in which order the queue is taken. Beside these stand the kinds of the other sets with Normal
 //! signs, and texts whose sign line is spoiled. A kind that has ways takes them in turn.
 
-use crate::inside::{self, ends, hull, roomy_grid, within};
+use crate::inside::{self, ends, hull, roomy_grid, triangle, within};
 use crate::kinds::{self, job, join, place, shuffle, Make, BEYOND};
 use crate::random::Random;
 use crate::shapes::{self, Mesh};
@@ -142,7 +142,7 @@ fn deck(r: &mut Random, height: Height, rim: Option<f64>) -> Job {
     roomy(grid, &mesh, r)
 }
 
-/// The axis along which a deck is looked at from above: z most of the time.
+/// The axis along which a deck is looked at from above: z half of the time.
 fn up(r: &mut Random) -> usize {
     r.pick(&[2, 2, 0, 1])
 }
@@ -325,42 +325,39 @@ fn alike_both_sides(r: &mut Random) -> Job {
 fn centres_on_facets(r: &mut Random) -> Job {
     let grid = few_cells(r);
     let mut mesh = Mesh::default();
-    for n in 0..r.between(1, 3) {
+    for _ in 0..r.between(1, 3) {
         let mut corners = [0; 3].map(|_| grid.count.map(|n| f64::from(r.between(0, n - 1))));
         if r.once_in(2) {
             let axis = r.below(3) as usize;
             let layer = corners[0][axis];
             corners.iter_mut().for_each(|corner| corner[axis] = layer);
         }
-        mesh.vertices.extend(corners);
-        mesh.triangles.push([3 * n, 3 * n + 1, 3 * n + 2]);
+        triangle(&mut mesh, corners);
     }
     roomy(grid, &mesh, r)
 }
 
 /// A small facet in a layer of centres, so that the others of the layer lie in its plane, off it: at a distance, and negative. Half the time a
-/// second one beside it, in the next layer.
+/// second one, in a layer along the same axis.
 fn centres_in_plane(r: &mut Random) -> Job {
     let grid = few_cells(r);
     let axis = r.below(3) as usize;
     let mut mesh = Mesh::default();
-    for n in 0..r.between(1, 2) {
+    for _ in 0..r.between(1, 2) {
         let layer = f64::from(r.between(0, grid.count[axis] - 1));
         let middle = grid.count.map(|n| f64::from(r.between(0, 2 * n - 2)) * 0.5);
-        for corner in 0..3 {
+        let corners = [0; 3].map(|_| {
             let mut at = [0, 1, 2].map(|a| within(&grid, a, middle[a] + 0.3 * f64::from(r.unit())));
             at[axis] = layer;
-            mesh.vertices.push(at);
-            if corner == 2 {
-                mesh.triangles.push([3 * n, 3 * n + 1, 3 * n + 2]);
-            }
-        }
+            at
+        });
+        triangle(&mut mesh, corners);
     }
     roomy(grid, &mesh, r)
 }
 
-/// Centres so near to the plane of the facet that they name that the side depends on rounding: by the direction from corner a, which is that from the
-/// closest point but for something in the plane, a cell would have the other sign.
+/// Centres so near to the plane of the facet that they name that the side depends on rounding: taken from corner a, and not from the closest point,
+/// which is in the same plane, it would be the other.
 fn centres_near_plane(r: &mut Random) -> Job {
     loop {
         let job = Job { queue: 2_048, ..normal(inside::alike_soup(r)) };
@@ -419,9 +416,9 @@ fn indices_of(job: &mut Job) -> &mut Vec<u32> {
 fn normal_hull(r: &mut Random) -> Job {
     let way = r.turn(&["outwards", "inwards", "either"]);
     let (grid, mut mesh) = hull(r);
-    for triangle in &mut mesh.triangles {
+    for facet in &mut mesh.triangles {
         if way == "inwards" || way == "either" && r.once_in(2) {
-            turn_round(triangle);
+            turn_round(facet);
         }
     }
     roomy(grid, &mesh, r)
