@@ -76,7 +76,7 @@ pub fn compare_distances(a: f32, b: f32) -> Order
 pub fn is_nearer(a: f32, b: f32) -> bool
     ensures { λ r. ⌜ r ≡ Nearer.nearer a b ⌝ }
 {
-    if (a != a) | (b != b) {
+    if (b != b) | (a != a) {
         return false;
     }
     match compare_distances(a, b) {

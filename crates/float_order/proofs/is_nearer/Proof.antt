@@ -11,7 +11,7 @@ use Rattle.float_order.proofs.is_nearer.Statement.{statement}
 use Rattle.float_order.proofs.is_nearer.Tie as tie
 
 -- of a NaN and another value either way round
-no-number : (a b : Float) → T (fits binary32 b) → (isNan a || isNan b) ≡ true → false ≡ nearer a b
+no-number : (a b : Float) → T (fits binary32 b) → (isNan b || isNan a) ≡ true → false ≡ nearer a b
 unfolding isNan
 no-number nan b f h = sym (nan-nearer b f)
 no-number (inf s) nan f h = sym (nearer-nan (inf s))
@@ -22,12 +22,13 @@ no-number (fin s m e) (inf t) f h = absurd (true≢false (sym h))
 no-number (fin s m e) (fin t n d) f h = absurd (true≢false (sym h))
 
 returns : tie.Need-returns
-returns c = let s = c .before in no-number (s .args .a) (s .args .b) (subst T (sym (s .good .1 .0 .1)) tt) (tested (s .args .a) (s .args .b) true (c .if1 .taken))
+returns c = let s = c .before in no-number (s .args .a) (s .args .b) (subst T (sym (s .good .1 .0 .1)) tt) (tested (s .args .b) (s .args .a) true (c .if1 .taken))
 
 compare-distances-requires : tie.Need-compare-distances-requires
 compare-distances-requires c κs =
     let s = c .before in
-    neither (isNan (s .args .a)) (isNan (s .args .b)) (tested (s .args .a) (s .args .b) false (c .if1 .left))
+    let n = neither (isNan (s .args .b)) (isNan (s .args .a)) (tested (s .args .b) (s .args .a) false (c .if1 .left)) in
+    (n .1, n .0)
 
 returns-2 : tie.Need-returns-2
 unfolding nearer
