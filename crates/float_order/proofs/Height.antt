@@ -2,10 +2,9 @@
 -- where x is not nearer than y, what is nearer than y is nearer than x. Assumes nothing.
 use Prim.Native.Nat.{ℕ, _^_, _≤_, _<_}
 use native.Mathlib.Omega.{arith}
-use mathlib.Core.Path.{_≡_, refl, sym, ap, _∙_, subst}
-use mathlib.Core.Bool.{Bool, true, false, not, true≢false}
-use lib.Dec.{T}
-use lib.Ieee.{Float, binary32, isNan, ofBits, toBits}
+use mathlib.Core.Path.{_≡_, refl, sym, ap, _∙_}
+use mathlib.Core.Bool.{Bool, true, false, true≢false}
+use lib.Ieee.{Float, binary32, ofBits, toBits}
 use lib.Ieee.Bits.{ofBits-toBits, toBits-lt, ofBits-fits}
 use borrow.Author.Tests.{not-true, not-false}
 use Rattle.lists.proofs.Range.{count-at-most, count-fewer}

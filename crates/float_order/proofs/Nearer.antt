@@ -4,20 +4,20 @@
 use Prim.Native.Nat.{ℕ, _+_, _*_, _^_, _<_}
 use native.Mathlib.Nat.{mul-pos}
 use native.Mathlib.Omega.{arith}
-use mathlib.Core.Path.{_≡_, refl, sym, ap, ap₂, _∙_, subst}
-use mathlib.Core.Bool.{Bool, true, false, not, _&&_, _||_, cond, true≢false}
+use mathlib.Core.Path.{_≡_, refl, sym, ap, _∙_}
+use mathlib.Core.Bool.{Bool, true, false, not, _&&_, true≢false}
 use lib.Dec.{T, ltb, lit≤}
 use lib.Pow.{pow-pos}
 use lib.Ieee.{Float, nan, inf, fin, up, down, binary32, fits, isNan, unlike, ofBits, toBits, add, eq, le, lt, sub}
 use lib.Ieee.Fits.{down-pos}
 use borrow.Author.Tests.{lt-leb, lt-ltb}
-use Rattle.float.specs.Arith.{_⊖_, _≺_, _≦_, _≐_, fMax, if_then_else_}
+use Rattle.float.specs.Arith.{_≺_, fMax, if_then_else_}
 use Rattle.float.specs.Distance.{Distance}
 use Rattle.float.specs.Steps.{absOf, signBit}
 use Rattle.float.proofs.Magnitude.{abs-distance}
 use Rattle.float_order.specs.declared.Order.{Order}
 use Rattle.float_order.specs.declared.Order.the-variants.{Less, Equal, Greater}
-use Rattle.float_order.specs.Compare.{alikeMargin, apart, alike, byMagnitude, order}
+use Rattle.float_order.specs.Compare.{apart, alike, order}
 use Rattle.float_order.specs.Total.{Value, notGreater, notAfter, opposite}
 use Rattle.float_order.specs.Nearer.{isLess, nearer}
 use Rattle.float_order.proofs.Signs.{no-sign}

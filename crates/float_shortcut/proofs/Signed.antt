@@ -1,8 +1,8 @@
 -- The signed root has the magnitude's root for its magnitude and the sign of the square, unless that is a NaN. So what is not below in magnitude
 -- is not nearer, but where a positive value meets a negative one. Assumes nothing.
-use mathlib.Core.Path.{_≡_, refl, sym, ap, ap₂, _∙_, subst}
-use mathlib.Core.Bool.{Bool, true, false, not, cond, true≢false, _&&_, _||_}
-use lib.Dec.{T, T-not}
+use mathlib.Core.Path.{_≡_, refl, sym, ap, _∙_}
+use mathlib.Core.Bool.{Bool, true, false, not, cond, true≢false}
+use lib.Dec.{T}
 use lib.Ieee.{Float, nan, inf, fin, binary32, binary64, fits, isNan, neg, mul, le, lt, eq}
 use lib.Ieee.Bits.{is-false}
 use Rattle.float.specs.Arith.{_≺_}
@@ -12,10 +12,9 @@ use Rattle.float.specs.Steps.{absOf, signBit}
 use Rattle.float.proofs.Order.{distance-no-nan}
 use Rattle.float.proofs.Magnitude.{abs-fits, abs-distance, abs-itself, own-magnitude, distance-sign}
 use Rattle.float.proofs.NotBelow.{not-below}
-use Rattle.float.proofs.Roots.{root-distance, root-fits}
+use Rattle.float.proofs.Roots.{root-distance}
 use Rattle.float_order.specs.Nearer.{nearer}
 use Rattle.float_order.proofs.Nearer.{not-nearer}
-use Prim.Native.Nat.{zero, suc}
 use Rattle.float_shortcut.specs.Shown.{signedRoot, atLeastSquare}
 
 -- ---- the sign taken away, and set
@@ -32,18 +31,11 @@ neg-sign nan n = absurd n
 neg-sign (inf s) n = refl
 neg-sign (fin s m e) n = refl
 
-pub neg-nan : (x : Float) → isNan (neg x) ≡ isNan x
+neg-nan : (x : Float) → isNan (neg x) ≡ isNan x
 unfolding neg isNan
 neg-nan nan = refl
 neg-nan (inf s) = refl
 neg-nan (fin s m e) = refl
-
-pub neg-fits : (x : Float) → T (fits binary32 x) → T (fits binary32 (neg x))
-unfolding neg fits
-neg-fits nan f = tt
-neg-fits (inf s) f = tt
-neg-fits (fin s zero e) f = f
-neg-fits (fin s (suc m) e) f = f
 
 -- ---- without a sign bit it is the root
 

@@ -52,16 +52,7 @@ pub fn begin(
     job_clear::fill_field(field);
     slices::fill_numbers(names, 4_294_967_295);
     let sign = terms.sign;
-    let number = run_seed::seed(
-        field,
-        names,
-        grid,
-        vertices,
-        topology,
-        given,
-        indices,
-        sign,
-    );
+    let number = run_seed::seed(field, names, grid, vertices, topology, given, indices, sign);
     Begun {
         refused: 0,
         number: number,

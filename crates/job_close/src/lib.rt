@@ -39,7 +39,15 @@ fn sign_field(
     match sign {
         SignMethod::Raycast => {
             let pass = terms.pass;
-            let grazed = run_cross::cross(grid, vertices, topology, given, indices, crossings, pass);
+            let grazed = run_cross::cross(
+                grid,
+                vertices,
+                topology,
+                given,
+                indices,
+                crossings,
+                pass,
+            );
             run_signs::sign(crossings, field);
             grazed
         }

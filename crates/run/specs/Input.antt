@@ -1,6 +1,6 @@
 -- What the run is told of a job's grid, mesh and method of signs (document 01, "The run", 1 and 3; document 02, §8). Definitions only.
 use Prim.Native.Nat.{ℕ, _+_, _-_}
-use mathlib.Core.Bool.{Bool, _&&_}
+use mathlib.Core.Bool.{_&&_}
 use lib.Dec.{ltb}
 use lib.ListN.{length}
 use lib.Ieee.{Float}
@@ -8,7 +8,6 @@ use Rattle.float.specs.Arith.{_≺_, if_then_else_}
 use Rattle.terms.specs.declared.SignMethod.{SignMethod}
 use Rattle.point.specs.declared.Point.{Point}
 use Rattle.point.specs.declared.Axis.{Axis}
-use Rattle.point.specs.declared.Axis.the-variants.{X, Y, Z}
 use Rattle.point.specs.Point.{coordinate}
 use Rattle.grid.specs.declared.Grid.{Grid}
 use Rattle.grid.specs.declared.Cell.{Cell}
@@ -16,7 +15,6 @@ use Rattle.grid.specs.Axes.{countOn, firstOn, sizeOn, cellOn, cellNumbered, cel
 use Rattle.grid.specs.Index.{indexOf, cellAt, total}
 use Rattle.grid_axis.specs.OnAxis.{centreOn}
 use Rattle.grid.specs.Place.{centreOf, snapCell}
-use Rattle.geo_box.specs.declared.TriangleBox.{TriangleBox}
 use Rattle.geo_box.specs.Box as Triangle
 use Rattle.geo_closest.specs.Closest.{facetOf}
 use Rattle.geo_measure.specs.Measured.{measured}

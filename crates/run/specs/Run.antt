@@ -2,7 +2,7 @@
 -- the mesh and the lent queue: which cells a triangle's snapped box has, how far a triangle is from a cell, which cells lie around a
 -- cell, which entry is taken first. Input.antt says what these are for a job. Definitions only.
 use Prim.Native.Nat.{ℕ, zero, suc, _+_, max}
-use mathlib.Core.Bool.{Bool, true, false}
+use mathlib.Core.Bool.{Bool}
 use mathlib.Core.List.{List, [], _∷_}
 use lib.Dec.{ltb}
 use lib.ListN.{length, getD, set, replicate}

@@ -12,13 +12,11 @@ use borrow.Author.Tests.{ltb-true, eq-eqb, ne-eqb}
 use Rattle.float.specs.Arith.{if_then_else_}
 use Rattle.float_shortcut.specs.Shown.{signedRoot}
 use Rattle.terms.specs.declared.SignMethod.{SignMethod}
-use Rattle.point.specs.declared.Axis.{Axis}
 use Rattle.point.specs.declared.Axis.the-variants.{X, Y, Z}
-use Rattle.lists.specs.Table.{table}
 use Rattle.lists.proofs.Table.{length-table, table-at}
 use Rattle.grid.specs.declared.Grid.{Grid}
 use Rattle.grid.specs.declared.Cell.{Cell}
-use Rattle.grid.specs.Axes.{countOn, cellOn, cellNumbered, cellBy, onEvery}
+use Rattle.grid.specs.Axes.{countOn, cellOn, cellBy, onEvery}
 use Rattle.grid.specs.Index.{Inside, indexOf, cellAt, total}
 use Rattle.grid.specs.Bounds.{inBounds}
 use Rattle.grid.specs.Place.{centreOf}
@@ -31,7 +29,7 @@ use Rattle.geo_measure.specs.Measured.{measured, squaredBy}
 use Rattle.geo_measure.proofs.Laws.{measured-root}
 use Rattle.mesh.specs.Mesh.{Mesh, trianglesIn, cornersAt}
 use Rattle.queue.specs.declared.Entry.{Entry}
-use Rattle.run.specs.Run.{Place, off, at, none}
+use Rattle.run.specs.Run.{off, at, none}
 use Rattle.run.specs.Input.{distanceFrom}
 use Rattle.run.specs.Steps.{Shift, back, stay, ahead, Step, shiftOn, steps, stepAt, shifted, staysOn, stepFrom, aroundCell}
 use Rattle.run_around.specs.declared.Spot.{Spot}

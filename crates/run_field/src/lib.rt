@@ -86,16 +86,7 @@ pub fn run_field(
         (now (field .exit)) (now (names .exit)) (now (distances .exit)) (now (cells .exit)) (now (triangles .exit)) r ⌝ }
 {
     let sign = terms.sign;
-    let number = run_seed::seed(
-        field,
-        names,
-        grid,
-        vertices,
-        topology,
-        given,
-        indices,
-        sign,
-    );
+    let number = run_seed::seed(field, names, grid, vertices, topology, given, indices, sign);
     if number != 0 {
         return Progress {
             number: number,

@@ -43,5 +43,5 @@ pub placed : (g : Grid) (sign : SignMethod) (f : Facet) (k : ℕ) (at : Cell) (q
 unfolding offerTo
 placed g sign f k at q c s w hq hc =
     let same : signedRoot q ≡ measured sign f (centreOf g (cellAt g (indexOf g at))) =
-        ap signedRoot (hq ∙ ap (λ (a : Cell). squaredBy sign f (centreOf g a)) (sym (cell-of-index w))) ∙ measured-root sign f (centreOf g (cellAt g (indexOf g at))) in
+    ap signedRoot (hq ∙ ap (λ (a : Cell). squaredBy sign f (centreOf g a)) (sym (cell-of-index w))) ∙ measured-root sign f (centreOf g (cellAt g (indexOf g at))) in
     ap₂ (λ (d : Float) (i : ℕ). offerAt nothingElse k i d s) same hc

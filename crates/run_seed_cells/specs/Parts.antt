@@ -15,7 +15,7 @@ use Rattle.geo_closest.specs.Closest.{facetOf}
 use Rattle.geo_measure.specs.Measured.{measured}
 use Rattle.mesh.specs.declared.Corners.{Corners}
 use Rattle.mesh.specs.Mesh.{Mesh, cornersAt}
-use Rattle.run.specs.Run.{State, Box, offerAt, nothingElse}
+use Rattle.run.specs.Run.{State, offerAt, nothingElse}
 use Rattle.run.specs.Input.{snappedBox}
 
 -- in seeding nothing waits, and nothing was taken

@@ -1,13 +1,12 @@
 -- The reader of `specs/Reader.antt` takes the text of every job within the limits, and nothing else: each line by the laws of numbers, and the
 -- lines one behind the other by the law of chains.
-use Prim.Native.Nat.{ℕ, zero, suc, _+_, _*_, _^_, _≤_, _<_}
+use Prim.Native.Nat.{ℕ, _+_, _^_, _≤_, _<_}
 use native.Mathlib.Omega.{arith}
 use mathlib.Core.Path.{_≡_, refl, sym, ap, _∙_, subst}
-use mathlib.Core.Bool.{true, false}
-use mathlib.Core.Logic.{_⊎_, inl, inr, ⊎-elim}
+use mathlib.Core.Logic.{_⊎_, inl, inr}
 use mathlib.Core.List.{List, [], _∷_, _++_, append-assoc, append-nil}
 use Prim.Native.String.{String}
-use lib.Dec.{leb, eqb}
+use lib.Dec.{leb}
 use lib.ListN.{length}
 use borrow.Author.Tests.{leb-true, le-leb, ne-eqb}
 use Rattle.mesh_topology.specs.declared.Topology.{Topology}
@@ -17,7 +16,7 @@ use Rattle.terms.specs.declared.SignMethod.the-variants.{Raycast, Normal}
 use Rattle.text.specs.declared.Three.{Three}
 use Rattle.text.specs.declared.Head.{Head}
 use Rattle.text.specs.declared.Tail.{Tail}
-use Rattle.text.specs.Words.{bytes, space, lf, decimal, hex8, digits, spaced, line, lines}
+use Rattle.text.specs.Words.{bytes, space, lf, decimal, hex8, spaced, line, lines}
 use Rattle.text.specs.Limits.{mostVertices, mostIndices, mostCells, mostEntries, indexRoom}
 use Rattle.text.specs.TextJob.{
   TextJob,

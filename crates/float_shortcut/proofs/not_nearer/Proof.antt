@@ -5,7 +5,7 @@ use mathlib.Core.Path.{_≡_, refl, sym, ap₂, _∙_, subst}
 use mathlib.Core.Bool.{Bool, true, false, not, _&&_, _||_, true≢false}
 use lib.Dec.{T}
 use lib.Ieee.{Float, binary32, binary64, fits, mul, le}
-use Rattle.float.specs.Steps.{absOf, signBit}
+use Rattle.float.specs.Steps.{signBit}
 use Rattle.float_shortcut.specs.Shown.{atLeastSquare, Shown}
 use Rattle.float_shortcut.proofs.Signed.{shown}
 use Rattle.float_shortcut.proofs.not_nearer.Statement.{statement}

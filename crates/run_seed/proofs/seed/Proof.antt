@@ -1,13 +1,12 @@
 -- `run_seed::seed`: the state is the one after k turns, each a triangle. Assumes nothing.
-use mathlib.Core.Path.{_≡_, refl, sym, _∙_, subst}
-use Prim.Native.Nat.{ℕ, _+_, _-_, _≤_, _<_}
+use mathlib.Core.Path.{_≡_, refl, _∙_}
+use Prim.Native.Nat.{_-_, _≤_}
 use native.Mathlib.Omega.{arith}
 use lib.ListN.{length}
 use Rattle.lists.specs.Turns.{goes, turns, told}
 use Rattle.lists.proofs.Turns.{turns-none, turns-on, turns-stop, turns-end}
-use Rattle.mesh.specs.declared.Corners.{Corners}
 use Rattle.mesh.specs.Mesh.{meshOf, trianglesIn}
-use Rattle.run_seed_cells.specs.Parts.{seedState, overBox, overTriangle}
+use Rattle.run_seed_cells.specs.Parts.{seedState, overTriangle}
 use Rattle.run_seed.proofs.seed.Statement.{statement}
 use Rattle.run_seed.proofs.seed.Tie as tie
 
