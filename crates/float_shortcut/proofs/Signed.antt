@@ -1,18 +1,24 @@
 -- The signed root has the magnitude's root for its magnitude and the sign of the square, unless that is a NaN. So what is not below in magnitude
 -- is not nearer, but where a positive value meets a negative one. Assumes nothing.
-use mathlib.Core.Path.{_≡_, refl, sym, ap, _∙_}
-use mathlib.Core.Bool.{Bool, true, false, not, cond, true≢false}
-use lib.Dec.{T}
-use lib.Ieee.{Float, nan, inf, fin, binary32, binary64, fits, isNan, neg, mul, le, lt, eq}
+use Prim.Native.Nat.{ℕ, zero, suc, _+_, _*_, _<_}
+use native.Mathlib.Decide.{decLt}
+use native.Mathlib.Omega.{arith}
+use mathlib.Core.Path.{_≡_, refl, sym, ap, _∙_, subst}
+use mathlib.Core.Bool.{Bool, true, false, not, _||_, cond, true≢false, or-true}
+use lib.Dec.{T, ltb, eqb}
+use lib.Ieee.{Float, nan, inf, fin, binary32, binary64, up, down, below, level, fits, isNan, neg, mul, le, lt, eq}
 use lib.Ieee.Bits.{is-false}
-use Rattle.float.specs.Arith.{_≺_}
+use borrow.Author.Tests.{lt-ltb}
+use Rattle.float.specs.Arith.{_≺_, f0}
 use Rattle.float.specs.Distance.{Distance}
 use Rattle.float.specs.RootOf.{rootOf}
 use Rattle.float.specs.Steps.{absOf, signBit}
-use Rattle.float.proofs.Order.{distance-no-nan}
+use Rattle.float.proofs.Bools.{and-first}
+use Rattle.float.proofs.Order.{distance-no-nan, unsigned-distance}
 use Rattle.float.proofs.Magnitude.{abs-fits, abs-distance, abs-itself, own-magnitude, distance-sign}
 use Rattle.float.proofs.NotBelow.{not-below}
 use Rattle.float.proofs.Roots.{root-distance}
+use Rattle.float.proofs.Signs.{above-zero}
 use Rattle.float_order.specs.Nearer.{nearer}
 use Rattle.float_order.proofs.Nearer.{not-nearer}
 use Rattle.float_shortcut.specs.Shown.{signedRoot, atLeastSquare}
@@ -36,6 +42,13 @@ unfolding neg isNan
 neg-nan nan = refl
 neg-nan (inf s) = refl
 neg-nan (fin s m e) = refl
+
+neg-fits : (x : Float) → T (fits binary32 x) → T (fits binary32 (neg x))
+unfolding neg fits
+neg-fits nan f = tt
+neg-fits (inf s) f = tt
+neg-fits (fin s zero e) f = f
+neg-fits (fin s (suc m) e) f = f
 
 -- ---- without a sign bit it is the root
 
@@ -92,18 +105,61 @@ own-square (fin true m e) = refl
 own-square (fin false m e) = refl
 
 -- nothing is at most a NaN
-at-most-number : (x q : Float) → le x (absOf q) ≡ true → T (not (isNan q))
-unfolding le lt eq absOf isNan
+at-most-number : (x q : Float) → le x q ≡ true → T (not (isNan q))
+unfolding le lt eq isNan
 at-most-number nan nan h = absurd (true≢false (sym h))
 at-most-number (inf s) nan h = absurd (true≢false (sym h))
 at-most-number (fin s m e) nan h = absurd (true≢false (sym h))
 at-most-number x (inf s) h = tt
 at-most-number x (fin s m e) h = tt
 
-pub shown : (q h : Float) → T (fits binary32 q) → T (fits binary32 h) → atLeastSquare q h ≡ true → (signBit q ≡ false → signBit h ≡ true → ⊥) → nearer (signedRoot q) h ≡ false
-shown q h fq fh t s =
-    let n = at-most-number (mul binary64 h h) q t in
+-- what is at most q is at most its magnitude
+at-most-level : (s : Bool) (a b : ℕ) → (below s a true b || level s a true b) ≡ true → (below s a false b || level s a false b) ≡ true
+at-most-level true a b h = go (decLt 0 (a + b))
+  where
+    go : Dec (0 < a + b) → (ltb 0 (a + b) || level true a false b) ≡ true
+    go (yes l) = rw (lt-ltb 0 (a + b) l)
+    go (no l) = let p : a ≡ 0 = omega arith in let q : b ≡ 0 = omega arith in rw (p, q)
+at-most-level false a b h = rw (and-first (eqb a b) (eqb a 0) h) (or-true (ltb a b))
+
+at-most-abs : (x q : Float) → le x q ≡ true → le x (absOf q) ≡ true
+unfolding le lt eq absOf
+at-most-abs nan q h = absurd (true≢false (sym h))
+at-most-abs (inf s) nan h = absurd (true≢false (sym h))
+at-most-abs (inf true) (inf t) h = refl
+at-most-abs (inf false) (inf true) h = absurd (true≢false (sym h))
+at-most-abs (inf false) (inf false) h = refl
+at-most-abs (inf true) (fin t n d) h = refl
+at-most-abs (inf false) (fin t n d) h = absurd (true≢false (sym h))
+at-most-abs (fin s m e) nan h = absurd (true≢false (sym h))
+at-most-abs (fin s m e) (inf t) h = refl
+at-most-abs (fin s m e) (fin true n d) h = at-most-level s (m * up e * down d) (n * up d * down e) h
+at-most-abs (fin s m e) (fin false n d) h = h
+
+-- in magnitude, but where a positive value meets a negative one
+shown : (q h : Float) → T (fits binary32 q) → T (fits binary32 h) → le (mul binary64 h h) (absOf q) ≡ true → T (not (isNan q)) → (signBit q ≡ false → signBit h ≡ true → ⊥)
+    → nearer (signedRoot q) h ≡ false
+shown q h fq fh t n s =
     not-nearer (signedRoot q) h
     (ap (λ (v : Float). v ≺ absOf h) (magnitude-is q fq n)
     ∙ not-below (absOf q) (absOf h) (abs-fits q fq) (abs-fits h fh) (ap (λ (v : Float). le v (absOf q)) (sym (own-square h)) ∙ t))
     (λ e. s (sym (sign-is q fq n) ∙ e))
+
+-- what lies above 0 has no sign bit
+above-bare : (x : Float) → T (fits binary32 x) → (f0 ≺ x) ≡ true → signBit x ≡ false
+above-bare x f h = distance-sign x (unsigned-distance x f (above-zero x f h .0))
+
+pub shown-ahead : (q h : Float) → T (fits binary32 q) → T (fits binary32 h) → (f0 ≺ h) ≡ true → atLeastSquare q h ≡ true → nearer (signedRoot q) h ≡ false
+shown-ahead q h fq fh p t =
+    shown q h fq fh (at-most-abs (mul binary64 h h) q t) (at-most-number (mul binary64 h h) q t) (λ s m. true≢false (sym m ∙ above-bare h fh p))
+
+pub shown-behind : (q h : Float) → T (fits binary32 q) → T (fits binary32 h) → (f0 ≺ neg q) ≡ true → atLeastSquare (neg q) h ≡ true
+    → nearer (signedRoot q) h ≡ false
+shown-behind q h fq fh p t =
+    let bare = above-bare (neg q) (neg-fits q fq) p in
+    let n = number q (at-most-number (mul binary64 h h) (neg q) t) in
+    shown q h fq fh (ap (le (mul binary64 h h)) (sym (neg-abs q) ∙ own-magnitude (neg q) bare) ∙ t) n
+    (λ s m. true≢false (ap not (sym s) ∙ sym (neg-sign q n) ∙ bare))
+  where
+    number : (q : Float) → T (not (isNan (neg q))) → T (not (isNan q))
+    number q n = subst (λ (b : Bool). T (not b)) (neg-nan q) n

@@ -1,9 +1,9 @@
 -- The distance that a signed square stands for, and when the square shows that this distance is not nearer than another, with no root worked
 -- out. Definitions only.
 use mathlib.Core.Path.{_≡_}
-use mathlib.Core.Bool.{Bool, true, false, not, _&&_, _||_}
+use mathlib.Core.Bool.{Bool, true, false, _&&_, _||_}
 use lib.Ieee.{Float, binary64, neg, mul, le}
-use Rattle.float.specs.Arith.{if_then_else_}
+use Rattle.float.specs.Arith.{_≺_, f0, if_then_else_}
 use Rattle.float.specs.RootOf.{rootOf}
 use Rattle.float.specs.Steps.{absOf, signBit}
 use Rattle.float_order.specs.Nearer.{nearer}
@@ -12,11 +12,12 @@ use Rattle.float_order.specs.Nearer.{nearer}
 unfoldable pub signedRoot : Float → Float
 signedRoot q = if signBit q then neg (rootOf (absOf q)) else rootOf (absOf q)
 
--- q is in magnitude at least the square of h, worked out exactly: as a binary64 the square of a binary32 is not rounded (`square`, crates/float/proofs/NotBelow.antt)
+-- q is at least the square of h, worked out exactly: as a binary64 the square of a binary32 is not rounded (`square`, crates/float/proofs/NotBelow.antt)
 abbrev pub atLeastSquare : Float → Float → Bool
-atLeastSquare q h = le (mul binary64 h h) (absOf q)
+atLeastSquare q h = le (mul binary64 h h) q
 
--- what `not_nearer` ensures: its answer is that test, but for a positive q where h is negative, and where it holds the signed root of q is not nearer than h
+-- what `not_nearer` ensures: its answer is that test, of a positive h for q and of any h for −q where that is positive; and where it holds the
+-- signed root of q is not nearer than h
 pub record Shown (q h : Float) (r : Bool) : Type 0 where
-  pub is : r ≡ atLeastSquare q h && (signBit q || not (signBit h))
+  pub is : r ≡ (f0 ≺ h) && atLeastSquare q h || (f0 ≺ neg q) && atLeastSquare (neg q) h
   pub not-nearer : r ≡ true → nearer (signedRoot q) h ≡ false

@@ -12,15 +12,20 @@ pub fn signed_root(q: f32) -> f32
     if float::sign_bit(q) { -root } else { root }
 }
 
-// Whether q shows that its signed root is not nearer than h: it is at least the square of h in magnitude, and no positive
-// value that meets a negative one, before which it may go all the same. The square of an f32 is exact in an f64. A NaN
-// shows nothing.
+// Whether q shows that its signed root is not nearer than h: the square is at least that of h in magnitude. A positive q
+// shows it of a positive h alone: before a negative one it may go all the same. The square of an f32 is exact in an f64. A
+// NaN shows nothing, and neither does a zero, for which the root is worked out.
 pub fn not_nearer(q: f32, h: f32) -> bool
     ensures { λ r. ⌜ Shown q h r ⌝ }
 {
     let wide = std::num::f32_to_f64_with_nan(h);
-    if wide * wide <= std::num::f32_to_f64_with_nan(float::abs(q)) {
-        return float::sign_bit(q) | !float::sign_bit(h);
+    let square = wide * wide;
+    if (h > 0.0) & (square <= std::num::f32_to_f64_with_nan(q)) {
+        return true;
+    }
+    let back = -q;
+    if back > 0.0 {
+        return square <= std::num::f32_to_f64_with_nan(back);
     }
     false
 }
