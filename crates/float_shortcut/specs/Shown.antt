@@ -1,7 +1,7 @@
 -- The distance that a signed square stands for, and when the square shows that this distance is not nearer than another, with no root worked
 -- out. Definitions only.
 use mathlib.Core.Path.{_≡_}
-use mathlib.Core.Bool.{Bool, true, false, _&&_, _||_}
+use mathlib.Core.Bool.{Bool, true, false, _&&_}
 use lib.Ieee.{Float, binary64, neg, mul, le}
 use Rattle.float.specs.Arith.{_≺_, f0, if_then_else_}
 use Rattle.float.specs.RootOf.{rootOf}
@@ -16,8 +16,8 @@ signedRoot q = if signBit q then neg (rootOf (absOf q)) else rootOf (absOf q)
 abbrev pub atLeastSquare : Float → Float → Bool
 atLeastSquare q h = le (mul binary64 h h) q
 
--- what `not_nearer` ensures: its answer is that test, of a positive h for q and of any h for −q where that is positive; and where it holds the
--- signed root of q is not nearer than h
+-- what `not_nearer` ensures: its answer is that test, for q, where h is positive, or else for −q, where that is positive; and where it holds the signed
+-- root of q is not nearer than h
 pub record Shown (q h : Float) (r : Bool) : Type 0 where
-  pub is : r ≡ (f0 ≺ h) && atLeastSquare q h || (f0 ≺ neg q) && atLeastSquare (neg q) h
+  pub is : r ≡ (if atLeastSquare q h then f0 ≺ h else (f0 ≺ neg q) && atLeastSquare (neg q) h)
   pub not-nearer : r ≡ true → nearer (signedRoot q) h ≡ false

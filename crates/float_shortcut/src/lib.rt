@@ -20,8 +20,8 @@ pub fn not_nearer(q: f32, h: f32) -> bool
 {
     let wide = std::num::f32_to_f64_with_nan(h);
     let square = wide * wide;
-    if (h > 0.0) & (square <= std::num::f32_to_f64_with_nan(q)) {
-        return true;
+    if square <= std::num::f32_to_f64_with_nan(q) {
+        return h > 0.0;
     }
     let back = -q;
     if back > 0.0 {
