@@ -146,7 +146,7 @@ shown q h fq fh t n s =
     (λ e. s (sym (sign-is q fq n) ∙ e))
 
 -- what lies above 0 has no sign bit
-above-bare : (x : Float) → T (fits binary32 x) → (f0 ≺ x) ≡ true → signBit x ≡ false
+pub above-bare : (x : Float) → T (fits binary32 x) → (f0 ≺ x) ≡ true → signBit x ≡ false
 above-bare x f h = distance-sign x (unsigned-distance x f (above-zero x f h .0))
 
 pub shown-ahead : (q h : Float) → T (fits binary32 q) → T (fits binary32 h) → (f0 ≺ h) ≡ true → atLeastSquare q h ≡ true → nearer (signedRoot q) h ≡ false

@@ -4,10 +4,13 @@
 ghost use mathlib.Core.Path.{_≡_};
 ghost use Rattle.float_shortcut.specs.Shown.{signedRoot, Shown};
 
-// The root of the magnitude, with the sign of q.
+// The root of the magnitude, with the sign of q. With Raycast signs every square is positive, so that comes first.
 pub fn signed_root(q: f32) -> f32
     ensures { λ r. ⌜ r ≡ signedRoot q ⌝ }
 {
+    if q > 0.0 {
+        return float_root::sqrt(q);
+    }
     let root = float_root::sqrt(float::abs(q));
     if float::sign_bit(q) { -root } else { root }
 }
