@@ -33,9 +33,9 @@ module _ (k to : ℕ) (q : Float) (field : List Float) (names : List ℕ) where
     unfolding verdict
     was-nan t = record { is = λ also s. offered also s ∙ offer-nan also k to (signedRoot q) (over field names s) (signed-nan q fq ∙ is-nan q t) }
 
-    pub was-passed : ne q q ≡ false → nearer (signedRoot q) (getD field to nan) ≡ false → Considered k to q field names field names (record { number = 0; taken = false; distance = 0 })
+    pub was-passed : isNan q ≡ false → nearer (signedRoot q) (getD field to nan) ≡ false → Considered k to q field names field names (record { number = 0; taken = false; distance = 0 })
     unfolding verdict
-    was-passed t l = record { is = λ also s. offered also s ∙ offer-passed also k to (signedRoot q) (over field names s) (signed-nan q fq ∙ is-number q t) l }
+    was-passed t l = record { is = λ also s. offered also s ∙ offer-passed also k to (signedRoot q) (over field names s) (signed-nan q fq ∙ t) l }
 
     pub was-taken : {d : Float} {key : ℕ} → ne q q ≡ false → d ≡ signedRoot q → nearer d (getD field to nan) ≡ true → key ≡ keyOf d
         → Considered k to q field names (set field to d) (set names to k) (record { number = 0; taken = true; distance = key })

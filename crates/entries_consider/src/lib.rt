@@ -22,13 +22,13 @@ pub fn consider(field: &mut [f32], names: &mut [u32], k: u32, to: u32, q: f32) -
     if to == 0xffff_ffff {
         return v;
     }
-    if q != q {
-        v.number = 6;
-        return v;
-    }
     let i = to as usize;
     let held = field[i];
     if float_shortcut::not_nearer(q, held) {
+        return v;
+    }
+    if q != q {
+        v.number = 6;
         return v;
     }
     let d = float_shortcut::signed_root(q);

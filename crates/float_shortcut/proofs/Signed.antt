@@ -1,15 +1,15 @@
 -- The signed root has the magnitude's root for its magnitude and the sign of the square, unless that is a NaN. So what is not below in magnitude
 -- is not nearer, but where a positive value meets a negative one. Assumes nothing.
-use Prim.Native.Nat.{ℕ, zero, suc, _+_, _*_, _<_}
+use Prim.Native.Nat.{ℕ, _+_, _*_, _<_}
 use native.Mathlib.Decide.{decLt}
 use native.Mathlib.Omega.{arith}
 use mathlib.Core.Path.{_≡_, refl, sym, ap, _∙_, subst}
 use mathlib.Core.Bool.{Bool, true, false, not, _||_, cond, true≢false, or-true}
 use lib.Dec.{T, ltb, eqb}
-use lib.Ieee.{Float, nan, inf, fin, binary32, binary64, up, down, below, level, fits, isNan, neg, mul, le, lt, eq}
+use lib.Ieee.{Float, nan, inf, fin, binary32, binary64, up, down, below, level, fits, isNan, ofBits, neg, mul, le, lt, eq}
 use lib.Ieee.Bits.{is-false}
-use borrow.Author.Tests.{lt-ltb}
-use Rattle.float.specs.Arith.{_≺_, f0}
+use borrow.Author.Tests.{lt-ltb, ltb-true}
+use Rattle.float.specs.Arith.{_≺_, f0, if_then_else_}
 use Rattle.float.specs.Distance.{Distance}
 use Rattle.float.specs.RootOf.{rootOf}
 use Rattle.float.specs.Steps.{absOf, signBit}
@@ -21,7 +21,7 @@ use Rattle.float.proofs.Roots.{root-distance}
 use Rattle.float.proofs.Signs.{above-zero}
 use Rattle.float_order.specs.Nearer.{nearer}
 use Rattle.float_order.proofs.Nearer.{not-nearer}
-use Rattle.float_shortcut.specs.Shown.{signedRoot, atLeastSquare}
+use Rattle.float_shortcut.specs.Shown.{signedRoot, sizeOf, atLeastSquare}
 
 -- ---- the sign taken away, and set
 
@@ -42,13 +42,6 @@ unfolding neg isNan
 neg-nan nan = refl
 neg-nan (inf s) = refl
 neg-nan (fin s m e) = refl
-
-neg-fits : (x : Float) → T (fits binary32 x) → T (fits binary32 (neg x))
-unfolding neg fits
-neg-fits nan f = tt
-neg-fits (inf s) f = tt
-neg-fits (fin s zero e) f = f
-neg-fits (fin s (suc m) e) f = f
 
 -- ---- without a sign bit it is the root
 
@@ -149,17 +142,30 @@ shown q h fq fh t n s =
 pub above-bare : (x : Float) → T (fits binary32 x) → (f0 ≺ x) ≡ true → signBit x ≡ false
 above-bare x f h = distance-sign x (unsigned-distance x f (above-zero x f h .0))
 
-pub shown-ahead : (q h : Float) → T (fits binary32 q) → T (fits binary32 h) → (f0 ≺ h) ≡ true → atLeastSquare q h ≡ true → nearer (signedRoot q) h ≡ false
-shown-ahead q h fq fh p t =
-    shown q h fq fh (at-most-abs (mul binary64 h h) q t) (at-most-number (mul binary64 h h) q t) (λ s m. true≢false (sym m ∙ above-bare h fh p))
+-- and what lies below it has one
+below-signed : (x : Float) → (x ≺ f0) ≡ true → signBit x ≡ true
+unfolding lt ofBits
+below-signed nan h = absurd (true≢false (sym h))
+below-signed (inf s) h = h
+below-signed (fin true m e) h = refl
+below-signed (fin false m e) h = absurd (omega (arith, ltb-true (m * up e * 1) (0 * down e) h))
 
-pub shown-behind : (q h : Float) → T (fits binary32 q) → T (fits binary32 h) → (f0 ≺ neg q) ≡ true → atLeastSquare (neg q) h ≡ true
-    → nearer (signedRoot q) h ≡ false
-shown-behind q h fq fh p t =
-    let bare = above-bare (neg q) (neg-fits q fq) p in
-    let n = number q (at-most-number (mul binary64 h h) (neg q) t) in
-    shown q h fq fh (ap (le (mul binary64 h h)) (sym (neg-abs q) ∙ own-magnitude (neg q) bare) ∙ t) n
-    (λ s m. true≢false (ap not (sym s) ∙ sym (neg-sign q n) ∙ bare))
-  where
-    number : (q : Float) → T (not (isNan (neg q))) → T (not (isNan q))
-    number q n = subst (λ (b : Bool). T (not b)) (neg-nan q) n
+at-most-size : (x q : Float) (b : Bool) → le x (if b then neg q else q) ≡ true → le x (absOf q) ≡ true
+at-most-size x q true h = ap (le x) (sym (neg-abs q)) ∙ at-most-abs x (neg q) h
+at-most-size x q false h = at-most-abs x q h
+
+size-number : (q : Float) (b : Bool) → T (not (isNan (if b then neg q else q))) → T (not (isNan q))
+size-number q true n = subst (λ (t : Bool). T (not t)) (neg-nan q) n
+size-number q false n = n
+
+module _ (q h : Float) (t : atLeastSquare (sizeOf q) h ≡ true) where
+  pub shown-number : T (not (isNan q))
+  shown-number = size-number q (q ≺ neg q) (at-most-number (mul binary64 h h) (sizeOf q) t)
+
+  pub shown-size : T (fits binary32 q) → T (fits binary32 h) → ((f0 ≺ h) || (q ≺ f0)) ≡ true → nearer (signedRoot q) h ≡ false
+  shown-size fq fh s = shown q h fq fh (at-most-size (mul binary64 h h) q (q ≺ neg q) t) shown-number (by (f0 ≺ h) (q ≺ f0) refl refl s)
+    where
+      by : (a b : Bool) → (f0 ≺ h) ≡ a → (q ≺ f0) ≡ b → (a || b) ≡ true → signBit q ≡ false → signBit h ≡ true → ⊥
+      by true b e f o z m = true≢false (sym m ∙ above-bare h fh e)
+      by false true e f o z m = true≢false (sym (below-signed q f) ∙ z)
+      by false false e f o z m = true≢false (sym o)

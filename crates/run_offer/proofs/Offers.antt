@@ -27,11 +27,11 @@ module _ {field : List Float} {names ds cs ts : List ℕ} (p : Progress) (k c : 
   unfolding told
   offered-nan h t = record { held = h; is = λ g o r. offer-nan (queue g) k c (signedRoot q) (stateOf byKeys field names ds cs ts p) (signed-nan q fq ∙ is-nan q t) }
 
-  pub offered-passed : Held byKeys ds cs ts (p .waiting) → p .number ≡ 0 → ne q q ≡ false
+  pub offered-passed : Held byKeys ds cs ts (p .waiting) → p .number ≡ 0 → isNan q ≡ false
       → nearer (signedRoot q) (getD field c nan) ≡ false → ToldByKeys (λ g. offerAt (queue g) k c (signedRoot q)) field names ds cs ts p field names ds cs ts p
   offered-passed h z t l =
       let s = stateOf byKeys field names ds cs ts p in
-      record { held = h; is = λ g o r. offer-passed (queue g) k c (signedRoot q) s (signed-nan q fq ∙ is-number q t) l ∙ sym (told-goes (p .number) s z) }
+      record { held = h; is = λ g o r. offer-passed (queue g) k c (signedRoot q) s (signed-nan q fq ∙ t) l ∙ sym (told-goes (p .number) s z) }
 
   pub offered-taken : {d : Float} {ds′ cs′ ts′ : List ℕ} {r : Progress} {key : ℕ} → ne q q ≡ false → d ≡ signedRoot q → nearer d (getD field c nan) ≡ true → key ≡ keyOf d
       → Queued (record { distance = key; cell = c; triangle = k }) ds cs ts p ds′ cs′ ts′ r

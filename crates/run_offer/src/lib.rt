@@ -32,13 +32,13 @@ fn offer(
         (now (field .entry)) (now (names .entry)) (now (distances .entry)) (now (cells .entry)) (now (triangles .entry)) at
         (now (field .exit)) (now (names .exit)) (now (distances .exit)) (now (cells .exit)) (now (triangles .exit)) r ⌝ }
 {
-    if q != q {
-        return at.refused(6);
-    }
     let i = c as usize;
     let held = field[i];
     if float_shortcut::not_nearer(q, held) {
         return at;
+    }
+    if q != q {
+        return at.refused(6);
     }
     let d = float_shortcut::signed_root(q);
     if float_order::is_nearer(d, held) {

@@ -5,7 +5,7 @@ use mathlib.Core.Bool.{true, false}
 use mathlib.Core.List.{List}
 use lib.ListN.{getD, set}
 use lib.Dec.{T}
-use lib.Ieee.{Float, nan, ne, binary32, fits}
+use lib.Ieee.{Float, nan, isNan, ne, binary32, fits}
 use Rattle.float_order.specs.Nearer.{nearer}
 use Rattle.float_shortcut.specs.Shown.{signedRoot}
 use Rattle.float_shortcut.proofs.Signed.{signed-nan}
@@ -28,9 +28,9 @@ module _ (field : List Float) (names : List ℕ) (c k : ℕ) (q : Float) (fq : T
   unfolding told
   refused h = offer-nan nothingElse k c (signedRoot q) (seedState field names) (signed-nan q fq ∙ is-nan q h)
 
-  pub passed : ne q q ≡ false → nearer (signedRoot q) (getD field c nan) ≡ false → offerAt nothingElse k c (signedRoot q) (seedState field names) ≡ told 0 (seedState field names)
+  pub passed : isNan q ≡ false → nearer (signedRoot q) (getD field c nan) ≡ false → offerAt nothingElse k c (signedRoot q) (seedState field names) ≡ told 0 (seedState field names)
   unfolding told
-  passed h l = offer-passed nothingElse k c (signedRoot q) (seedState field names) (signed-nan q fq ∙ is-number q h) l
+  passed h l = offer-passed nothingElse k c (signedRoot q) (seedState field names) (signed-nan q fq ∙ h) l
 
   pub took : ne q q ≡ false → nearer (signedRoot q) (getD field c nan) ≡ true
       → offerAt nothingElse k c (signedRoot q) (seedState field names) ≡ told 0 (seedState (set field c (signedRoot q)) (set names c k))

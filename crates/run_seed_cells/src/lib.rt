@@ -17,13 +17,12 @@ pub fn offer(field: &mut [f32], names: &mut [u32], c: usize, k: u32, q: f32) -> 
         let t = seedState (now (field .exit)) (now (names .exit)) in
         ⌜ offerAt nothingElse k c (signedRoot q) s ≡ told r t ⌝ }
 {
+    let held = field[c];
+    if float_shortcut::not_nearer(q, held) {
+        return 0;
+    }
     if q != q {
         return 6;
-    }
-    let held = field[c];
-    let far = float_shortcut::not_nearer(q, held);
-    if far {
-        return 0;
     }
     let d = float_shortcut::signed_root(q);
     if float_order::is_nearer(d, held) {
