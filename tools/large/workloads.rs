@@ -77,7 +77,7 @@ pub struct Workload {
 
 impl Workload {
     fn new((name, make): (&'static str, Make), edge: u32, count: [u32; 3], triangles: u32) -> Workload {
-        let grid = Grid { first: [0.05; 3], size: [0.1; 3], count };
+        let grid = Grid { first: [0.05; 3], size: [0.1; 3], count, upright: None };
         let mesh = make(&grid, triangles, &mut Random::new(7, 0));
         Workload { name, edge, job: meshes::plain(grid, mesh) }
     }
