@@ -1,91 +1,127 @@
--- `run_rows::count_rows`: after k columns each row has what is counted of the cells before (`proofs/Columns.antt`). Assumes nothing.
+-- `run_rows::count_rows`: after each block every row has what is counted of the cells before (`proofs/Columns.antt`). Assumes nothing.
 use borrow.Author.Needs.{needs}
-use Prim.Native.Nat.{ℕ, _+_, _*_, _-_, _^_, _≤_, _<_}
-use native.Mathlib.Nat.{mul-le-mul-right}
+use Prim.Native.Nat.{ℕ, _+_, _*_, _-_, _≤_, _<_}
+use native.Mathlib.Nat.{mul-pos, mul-le-mul-right}
 use native.Mathlib.Omega.{arith}
-use mathlib.Core.Path.{_≡_, sym, ap, _∙_}
-use lib.ListN.{replicate}
-use Rattle.grid.specs.Index.{total}
-use Rattle.grid_index.proofs.Fits.{counts-fit}
-use Rattle.grid.proofs.Facts.{bounds-of}
-use Rattle.run_rows.proofs.Columns.{Rowed, rowed-none, rowed-more, rowed-room, rowed-all}
+use mathlib.Core.Path.{_≡_, sym, ap, ap₂, _∙_}
+use mathlib.Core.List.{List}
+use lib.ListN.{length, replicate, length-replicate}
+use Rattle.grid.specs.declared.Grid.{Grid}
+use Rattle.grid.specs.Index.{total, strideOn}
+use Rattle.grid.specs.Layers.{uprightOf, layers}
+use Rattle.grid.proofs.Facts.{bounds-of, on-axis, stride-pos}
+use Rattle.run_rows.proofs.Columns.{Rowed, rowed-none, rowed-more, rowed-room, rowed-all, blocksOn, total-blocks, some-blocks, whole-block}
 use Rattle.run_rows.proofs.count_rows.Statement.{statement}
 use Rattle.run_rows.proofs.count_rows.Tie as tie
 
+-- some times a number is not below the number
+le-mul : (h s : ℕ) → 0 < h → s ≤ h * s
+le-mul h s w = let more : 1 ≤ h = w in omega (arith, mul-le-mul-right s more)
+
 abbrev Inv-loop : tie.InvT-loop
-Inv-loop field rows₀ height columns k₀ rows k = (k ≤ columns) × Rowed height field k rows
+Inv-loop field rows₀ step block start₀ rows start = (start ≤ length field) × Rowed (length rows₀) step field start rows
 
 abbrev μ-loop : tie.MeasureT-loop
-μ-loop field rows₀ height columns k₀ rows k = columns - k
+μ-loop field rows₀ step block start₀ rows start = length field - start
 
--- the function's entry, from where the loop begins; and the cells of a column
-abbrev entry : tie.After-struct-known Inv-loop μ-loop → tie.Start Inv-loop μ-loop
+-- the function's entry, from where the loop begins; the rows when they are filled, the layers and the cells of a layer in a block
+abbrev entry : tie.After-stride-on Inv-loop μ-loop → tie.Start Inv-loop μ-loop
 entry begin = begin .before .before .before .before .before .before .before .before
 
-abbrev height : tie.After-struct-known Inv-loop μ-loop → ℕ
-height begin = begin .before .layers .result
+abbrev grid : tie.After-stride-on Inv-loop μ-loop → Grid
+grid begin = entry begin .args .grid
 
--- the grid's numbers are small
-small : (begin : tie.After-struct-known Inv-loop μ-loop) → let g = entry begin .args .grid in (g .«count_x» * g .«count_y» < 2 ^ 32) × (total g ≤ 1048576)
-small begin =
-    let g = entry begin .args .grid in
-    let b = bounds-of g (entry begin .pre .0) in
-    (counts-fit (g .«count_x») (g .«count_y») (g .«count_z») (b .on-x .few) (b .on-y .few) (b .on-z .few) .0, b .total-few)
+abbrev zeros : tie.After-stride-on Inv-loop μ-loop → List ℕ
+zeros begin = begin .before .before .before .before .fill-numbers .last .0
 
-column : (k n : ℕ) → (k + 1) * n ≡ k * n + n
-column k n = omega arith
+abbrev height : tie.After-stride-on Inv-loop μ-loop → ℕ
+height begin = length (zeros begin)
 
--- column k lies within the field
-within : (c : tie.In-loop Inv-loop μ-loop) → let begin = c .before .before in c .before .loop .k * height begin + height begin ≤ total (entry begin .args .grid)
+abbrev step : tie.After-stride-on Inv-loop μ-loop → ℕ
+step begin = begin .stride-on .result
+
+-- these are the grid's
+tall : (begin : tie.After-stride-on Inv-loop μ-loop) → height begin ≡ layers (grid begin)
+tall begin = ap length (begin .before .before .before .before .fill-numbers .ensures) ∙ length-replicate _ 0 ∙ entry begin .pre .1 .1
+
+stepped : (begin : tie.After-stride-on Inv-loop μ-loop) → step begin ≡ strideOn (grid begin) (uprightOf (grid begin))
+stepped begin = let found : tie.After-upright-axis Inv-loop μ-loop = search in begin .stride-on .ensures ∙ ap (strideOn (grid begin)) (found .upright-axis .ensures)
+
+-- the field is so many blocks
+sized : (begin : tie.After-stride-on Inv-loop μ-loop) → length (entry begin .args .field .now) ≡ blocksOn (uprightOf (grid begin)) (grid begin) * (height begin * step begin)
+sized begin =
+    let a = uprightOf (grid begin) in
+    entry begin .pre .1 .0 ∙ total-blocks a (grid begin) ∙ sym (ap₂ (λ (h : ℕ) (s : ℕ). blocksOn a (grid begin) * (h * s)) (tall begin) (stepped begin))
+
+-- there are layers, and cells in each; and few in all
+some : (begin : tie.After-stride-on Inv-loop μ-loop) → (0 < height begin) × (0 < step begin)
+some begin =
+    let ok = entry begin .pre .0 in
+    let a = uprightOf (grid begin) in
+    (rw (tall begin) (on-axis (bounds-of (grid begin) ok) a .some), rw (stepped begin) (stride-pos (grid begin) ok a))
+
+few : (begin : tie.After-stride-on Inv-loop μ-loop) → length (entry begin .args .field .now) ≤ 1048576
+few begin = rw (entry begin .pre .1 .0) (bounds-of (grid begin) (entry begin .pre .0) .total-few)
+
+mul-block : tie.Need-mul-block Inv-loop μ-loop
+mul-block c =
+    let one-of-them = le-mul (blocksOn (uprightOf (grid c)) (grid c)) (height c * step c) (some-blocks (uprightOf (grid c)) (grid c) (entry c .pre .0)) in
+    record { fits = omega (arith, one-of-them, sized c, few c) }
+
+-- a block that begins in the field ends in it
+within : (c : tie.In-loop Inv-loop μ-loop) → let begin = c .before .before in c .before .loop .start + height begin * step begin ≤ length (entry begin .args .field .now)
 within c =
     let begin = c .before .before in
-    let g = entry begin .args .grid in
-    let k = c .before .loop .k in
-    let columns : k + 1 ≤ g .«count_x» * g .«count_y» = omega arith in
-    let whole : g .«count_x» * g .«count_y» * height begin ≡ total g = ap (λ (n : ℕ). g .«count_x» * g .«count_y» * n) (begin .before .layers .ensures) in
-    omega (arith, mul-le-mul-right (height begin) columns, whole, column k (height begin))
+    let l = c .before .loop in
+    let inside : l .start < blocksOn (uprightOf (grid begin)) (grid begin) * (height begin * step begin) = omega (arith, sized begin) in
+    omega (arith, sized begin, whole-block (height begin) (step begin) (blocksOn (uprightOf (grid begin)) (grid begin)) (l .inv .1) inside)
 
 loop-holds : tie.Need-loop-holds Inv-loop μ-loop
 loop-holds c =
     let s = entry c in
-    let zeros = c .before .before .before .before .fill-numbers in
-    let long = s .pre .1 .1 ∙ sym (c .before .layers .ensures) in
-    (omega arith, rowed-none (height c) (s .args .field .now) (zeros .last .0) (zeros .ensures ∙ ap (λ (n : ℕ). replicate n 0) long))
+    let filled = c .before .before .before .before .fill-numbers in
+    (omega arith, rowed-none (height c) (step c) (s .args .field .now) (zeros c) (filled .ensures ∙ ap (λ (n : ℕ). replicate n 0) (s .pre .1 .1 ∙ sym (tall c))))
 
-add-column-requires : tie.Need-add-column-requires Inv-loop μ-loop
-add-column-requires c κs =
+add-block-requires : tie.Need-add-block-requires Inv-loop μ-loop
+add-block-requires c κs =
     let turn = c .before in
     let l = turn .before .loop in
-    let begin = turn .before .before in (
-      omega (arith, within turn, l .inv .1 .long, entry begin .pre .1 .0),
-      rowed-room (height begin) (entry begin .args .field .now) (l .k) (l .rows) (omega (arith, within turn, small begin .1)) (l .inv .1),
+    let begin = turn .before .before in
+    let long = l .inv .1 .long in
+    let cells : step begin ≤ height begin * step begin = le-mul (height begin) (step begin) (some begin .0) in (
+      (omega (arith, long, some begin .0), rw long (within turn)),
+      rowed-room (height begin) (step begin) (entry begin .args .field .now) (l .start) (l .rows) (omega (arith, within turn, few begin)) (l .inv .1),
     )
 
-add-k : tie.Need-add-k Inv-loop μ-loop
-add-k c = let turn : tie.In-loop Inv-loop μ-loop = search in omega (arith, small (turn .before .before) .0)
+-- a block has cells
+less : tie.Need-loop-less Inv-loop μ-loop
+less c =
+    let turn : tie.In-loop Inv-loop μ-loop = search in
+    let begin = turn .before .before in
+    omega (arith, within turn, mul-pos (some begin .0) (some begin .1))
 
 loop-again : tie.Need-loop-again Inv-loop μ-loop
 loop-again c =
-    let added : tie.After-add-column Inv-loop μ-loop = search in
-    let turn = added .before .before in
+    let added : tie.After-add-block Inv-loop μ-loop = search in
+    let turn : tie.In-loop Inv-loop μ-loop = search in
     let l = turn .before .loop in
     let begin = turn .before .before in
-    (omega arith, rowed-more (height begin) (entry begin .args .field .now) (l .k) (l .inv .1) (added .add-column .ensures))
+    (within turn, rowed-more (height begin) (step begin) (entry begin .args .field .now) (l .start) (l .inv .1) (added .add-block .ensures))
 
 same-length : tie.Need-same-length Inv-loop μ-loop
-same-length c = let begin = c .before .before in c .before .loop .inv .1 .long ∙ begin .before .layers .ensures ∙ sym (entry begin .pre .1 .1)
+same-length c = let begin = c .before .before in c .before .loop .inv .1 .long ∙ tall begin ∙ sym (entry begin .pre .1 .1)
 
 returns : tie.Need-returns Inv-loop μ-loop
 returns c =
     let l = c .before .loop in
     let begin = c .before .before in
-    rowed-all (entry begin .args .grid) (entry begin .args .field .now) (l .k) (l .rows) (omega arith) (rw (begin .before .layers .ensures) at (l .inv .1))
+    let all : l .start ≡ total (grid begin) = omega (arith, entry begin .pre .1 .0) in
+    rowed-all (grid begin) (entry begin .args .field .now) (l .rows) (tall begin) (stepped begin) all (l .inv .1)
 
 pub count-rows-spec : {M : Type 1} → statement M
 count-rows-spec =
     tie.close (tie.spec
     Inv-loop μ-loop
-    (λ c κs. search needs) (λ c κs. tt) (λ c. search needs) (λ c. record { fits = small c .0 }) (λ c. omega (arith, small c .0)) loop-holds
-    (λ c. omega (arith, within c, small (c .before .before) .1)) add-column-requires add-k
-    (λ c. let turn : tie.In-loop Inv-loop μ-loop = search in omega arith) loop-again
+    (λ c κs. search needs) (λ c κs. tt) (λ c κs. search needs) (λ c. search needs) mul-block loop-holds
+    add-block-requires (λ c. let turn : tie.In-loop Inv-loop μ-loop = search in omega (arith, within turn, few (turn .before .before))) less loop-again
     same-length returns)
