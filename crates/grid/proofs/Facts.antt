@@ -3,7 +3,7 @@ use mathlib.Core.Path.{_≡_, refl, sym, ap, _∙_}
 use mathlib.Core.Bool.{Bool, true, false, not, _&&_, true≢false}
 use Prim.Native.Nat.{ℕ, _*_, _/_, _%_, _^_, _≤_, _<_}
 use native.Mathlib.Nat.{div-one, mod-eq-of-lt, mul-pos, le-trans, lt-of-lt-of-le}
-use lib.Dec.{leb, ltb, lit≤}
+use lib.Dec.{leb, ltb, lit≤, lit<}
 use lib.Ieee.{Float}
 use borrow.Author.Tests.{leb-true, ltb-true, lt-ltb, not-true, not-false}
 use Rattle.point.specs.declared.Axis.{Axis}
@@ -15,10 +15,10 @@ use Rattle.grid.specs.Index.{Inside, index, coordinates, cellAt, strideO
 use Rattle.grid_axis.specs.AxisBounds.{isCount, isCoordinate, isSize, axisInBounds}
 use Rattle.grid_index.specs.ByCounts.{isTotal}
 use Rattle.grid_index.proofs.Fits.{counts-fit}
-use Rattle.grid.specs.Bounds.{isAxis, inBounds}
+use Rattle.grid.specs.Bounds.{isAxis, isUpright, inBounds}
 use Rattle.grid.proofs.Laws.{index-below, cell-within, put-within}
 
-both : (a b : Bool) → (a && b) ≡ true → (a ≡ true) × (b ≡ true)
+pub both : (a b : Bool) → (a && b) ≡ true → (a ≡ true) × (b ≡ true)
 both true b h = (refl, h)
 both false b h = absurd (true≢false (sym h))
 
@@ -58,6 +58,7 @@ pub record Bounds (g : Grid) : Type 0 where
   pub on-x : Axis-bounds (countOn X g) (firstOn X g) (sizeOn X g)
   pub on-y : Axis-bounds (countOn Y g) (firstOn Y g) (sizeOn Y g)
   pub on-z : Axis-bounds (countOn Z g) (firstOn Z g) (sizeOn Z g)
+  pub stands : g .upright ≤ 2
   pub total-few : total g ≤ 1048576
 
 pub on-axis : {g : Grid} → Bounds g → (a : Axis) → Axis-bounds (countOn a g) (firstOn a g) (sizeOn a g)
@@ -71,12 +72,14 @@ axes-of g h a = axis-bounds (countOn a g) (firstOn a g) (sizeOn a g) (each (isAx
 pub bounds-of : (g : Grid) → inBounds g ≡ true → Bounds g
 unfolding inBounds
 bounds-of g h =
-    let tests = both (onEvery (isAxis g)) (isTotal (total g) && true) h in
+    let tests = both (onEvery (isAxis g)) (isUpright (g .upright) && (isTotal (total g) && true)) h in
+    let others = both (isUpright (g .upright)) (isTotal (total g) && true) (tests .1) in
     record {
       on-x = axes-of g (tests .0) X;
       on-y = axes-of g (tests .0) Y;
       on-z = axes-of g (tests .0) Z;
-      total-few = leb-true (total g) 1048576 (both (leb 1 (total g)) (leb (total g) 1048576) (both (isTotal (total g)) true (tests .1) .0) .1);
+      stands = leb-true (g .upright) 2 (others .0);
+      total-few = leb-true (total g) 1048576 (both (leb 1 (total g)) (leb (total g) 1048576) (both (isTotal (total g)) true (others .1) .0) .1);
     }
 
 -- ---- a cell within the counts
@@ -105,6 +108,11 @@ unfolding coordinates
 number-on g X h = sym (mod-eq-of-lt (cell-within h .x-below))
 number-on g Y h = refl
 number-on g Z {i} h = ap (λ (n : ℕ). n % countOn Z g) (sym (div-one i))
+
+pub stride-pos : (g : Grid) → inBounds g ≡ true → (axis : Axis) → 0 < strideOn g axis
+stride-pos g h X = let b = bounds-of g h in mul-pos (b .on-y .some) (b .on-z .some)
+stride-pos g h Y = bounds-of g h .on-z .some
+stride-pos g h Z = lit< tt
 
 -- ---- what `grid_index` asks for
 -- the counts are few

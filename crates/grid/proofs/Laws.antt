@@ -22,13 +22,13 @@ two-below {q} {r} {m} {n} h l = lt-of-lt-of-le (step (q * n) (add-mul q 1 n)) (m
     step : (p : ℕ) → (q + 1) * n ≡ p + 1 * n → p + r < (q + 1) * n
     step p e = omega arith
 
-front : (q : ℕ) {r n : ℕ} → r < n → (q * n + r) / n ≡ q
+pub front : (q : ℕ) {r n : ℕ} → r < n → (q * n + r) / n ≡ q
 front q {r} {n} l = mul-add-div-right (pos-of l) q r ∙ omega (arith, div-eq-of-lt l)
   where
     pos-of : r < n → 0 < n
     pos-of h = omega arith
 
-behind : (q : ℕ) {r n : ℕ} → r < n → (q * n + r) % n ≡ r
+pub behind : (q : ℕ) {r n : ℕ} → r < n → (q * n + r) % n ≡ r
 behind q {r} {n} l = mul-add-mod-self-right q n r ∙ mod-eq-of-lt l
 
 -- ---- index and cell

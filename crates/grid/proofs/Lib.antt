@@ -1,3 +1,4 @@
 pub mod Laws
 pub mod Facts
 pub mod Snaps
+pub mod Standing

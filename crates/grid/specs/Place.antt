@@ -48,7 +48,7 @@ snap g p = record { result = if clamped g p then Outside else Inside; cell = sna
 unfoldable pub lastCell : Grid → Point
 lastCell g = pointBy (λ a. centreOn (firstOn a g) (sizeOn a g) (countOn a g))
 
--- `from_bounding_box`, axis by axis
+-- `from_bounding_box`, axis by axis; z is upright, as in the source, which knows no other
 unfoldable pub fromBox : Point → Point → Counts → Grid
 fromBox low high n = record {
   «first_cell» = pointBy (λ a. boxFirst (coordinate a low) (coordinate a high) (along a n));
@@ -56,4 +56,5 @@ fromBox low high n = record {
   «count_x» = n .x;
   «count_y» = n .y;
   «count_z» = n .z;
+  upright = 2;
 }

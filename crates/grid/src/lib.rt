@@ -29,13 +29,16 @@ pub struct Counts {
     pub z: u32,
 }
 
-// The centre of the first cell, the size of every cell, and how many cells there are along each axis.
+// The centre of the first cell, the size of every cell, how many cells there are along each axis, and which axis is upright: 0 is
+// x, 1 is y, 2 is z, and any other number is out of bounds. The layers of the table lie along the upright axis (document 02, §9);
+// nothing else depends on it.
 pub struct Grid {
     pub first_cell: Point,
     pub cell_size: Point,
     pub count_x: u32,
     pub count_y: u32,
     pub count_z: u32,
+    pub upright: u32,
 }
 
 // Whether a point lies in the grid: Outside if it had to be brought to the nearest cell.
@@ -117,7 +120,7 @@ impl Grid {
         let x = grid_axis::axis_in_bounds(self.count_x, first.x, size.x);
         let y = grid_axis::axis_in_bounds(self.count_y, first.y, size.y);
         let z = grid_axis::axis_in_bounds(self.count_z, first.z, size.z);
-        if !(x & y & z) {
+        if !(x & y & z & (self.upright <= 2)) {
             return false;
         }
         grid_index::total_in_bounds(self.count_x, self.count_y, self.count_z)
@@ -239,7 +242,7 @@ impl Grid {
         SnapAnswer::Snapped(parts::snap_point_to_grid(self, point))
     }
 
-    // The grid that fills a box, where it and its counts are within the bounds.
+    // The grid that fills a box, where it and its counts are within the bounds. It stands on z.
     pub fn from_bounding_box(bbox_min: Point, bbox_max: Point, cell_count: Counts) -> GridAnswer
         ensures { λ r. ⌜ Reply.gridReply r ≡ Reply.made (Place.fromBox «bbox_min» «bbox_max» «cell_count») ⌝ }
     {
@@ -256,6 +259,7 @@ impl Grid {
             count_x: cell_count.x,
             count_y: cell_count.y,
             count_z: cell_count.z,
+            upright: 2,
         };
         if !grid.in_bounds() {
             return GridAnswer::Refused(1);

@@ -12,7 +12,7 @@ ghost use mathlib.Core.Path.{_≡_};
 ghost use mathlib.Core.Bool.{true};
 ghost use Prim.Native.Nat.{_^_, _<_};
 ghost use Rattle.grid.specs.Axes as Axes;
-ghost use Rattle.grid.specs.Index.{Inside, indexOf, cellAt, total, isCell};
+ghost use Rattle.grid.specs.Index.{Inside, indexOf, cellAt, total, strideOn, isCell};
 ghost use Rattle.grid.specs.Layers as Layers;
 ghost use Rattle.grid.specs.Place as Place;
 ghost use Rattle.grid.specs.Bounds.{inBounds};
@@ -27,11 +27,30 @@ pub fn count_on(grid: Grid, axis: Axis) -> u32
     }
 }
 
+// The axis that is upright.
+pub fn upright_axis(grid: Grid) -> Axis
+    ensures { λ r. ⌜ r ≡ Layers.uprightOf grid ⌝ }
+{
+    point::axis_numbered(grid.upright)
+}
+
 // How many layers there are.
 pub fn layers(grid: Grid) -> u32
     ensures { λ r. ⌜ r ≡ Layers.layers grid ⌝ }
 {
-    grid.count_z
+    count_on(grid, upright_axis(grid))
+}
+
+// By how much the index grows from a cell to the next along an axis.
+pub fn stride_on(grid: Grid, axis: Axis) -> u32
+    requires { ⌜ inBounds grid ≡ true ⌝ }
+    ensures { λ r. ⌜ r ≡ strideOn grid axis ⌝ }
+{
+    match axis {
+        Axis::X => grid.count_y * grid.count_z,
+        Axis::Y => grid.count_z,
+        Axis::Z => 1,
+    }
 }
 
 // How many cells there are.

@@ -1,8 +1,10 @@
 -- "Componentwise `sub` and `add`, dot as (x·x + y·y) + z·z, and length as the square root of the dot with itself" (document 01).
 -- One rounding for each operation, in the order of `point.rs`. Definitions only.
 use mathlib.Core.Bool.{Bool, _&&_}
+use Prim.Native.Nat.{ℕ}
+use lib.Dec.{eqb}
 use lib.Ieee.{Float}
-use Rattle.float.specs.Arith.{_⊕_, _⊖_, _⊗_, _⊘_, _≐_}
+use Rattle.float.specs.Arith.{_⊕_, _⊖_, _⊗_, _⊘_, _≐_, if_then_else_}
 use Rattle.float.specs.RootOf.{rootOf}
 use Rattle.point.specs.declared.Point.{Point}
 use Rattle.point.specs.declared.Axis.{Axis}
@@ -51,6 +53,13 @@ abbrev pub coordinate : Axis → Point → Float
 coordinate X p = p .x
 coordinate Y p = p .y
 coordinate Z p = p .z
+
+-- 0 is x, 1 is y, and any other number z
+abbrev pub axisNumbered : ℕ → Axis
+axisNumbered n =
+    if eqb n 0 then X
+    else if eqb n 1 then Y
+    else Z
 
 -- the coordinates in the order in which the ray test's get_x, get_y, get_z read them: first the one along the axis
 abbrev pub turned : Axis → Point → Point

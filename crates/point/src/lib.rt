@@ -17,6 +17,19 @@ pub enum Axis {
     Z,
 }
 
+// The axis of a number: 0 is x, 1 is y, and any other z.
+pub fn axis_numbered(number: u32) -> Axis
+    ensures { λ r. ⌜ r ≡ Spec.axisNumbered number ⌝ }
+{
+    if number == 0 {
+        return Axis::X;
+    }
+    if number == 1 {
+        return Axis::Y;
+    }
+    Axis::Z
+}
+
 impl Point {
     pub fn add(self, other: Point) -> Point
         ensures { λ r. ⌜ r ≡ self +ᵥ other ⌝ }

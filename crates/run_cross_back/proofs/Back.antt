@@ -21,7 +21,7 @@ use Rattle.grid.specs.Axes.{countOn, cellOn}
 use Rattle.grid.specs.Index.{Inside, indexOf, total, strideOn}
 use Rattle.grid.specs.Bounds.{inBounds}
 use Rattle.grid.proofs.Laws.{index-along, put-same}
-use Rattle.grid.proofs.Facts.{inside-on, inside-put}
+use Rattle.grid.proofs.Facts.{inside-on, inside-put, stride-pos}
 use Rattle.mesh.specs.Mesh.{Mesh, trianglesIn}
 use Rattle.terms.specs.declared.Pass.the-variants.{Quick}
 use Rattle.run.specs.Signs.{crosses, crossings, allCrossings}
@@ -29,7 +29,7 @@ use Rattle.run.specs.Ends.{ends, after, summedBack}
 use Rattle.run.proofs.Ends.{back-last, back-next, back-as, same-counts}
 use Rattle.run_cross_lines.specs.Lines.{entryOf}
 use Rattle.run_cross_lines.specs.Pass.{Counted}
-use Rattle.run_cross_lines.proofs.Entries.{entry-below, one-axis, one-cell, stride-pos}
+use Rattle.run_cross_lines.proofs.Entries.{entry-below, one-axis, one-cell}
 use Rattle.run_cross_lines.proofs.Hits.{all-crossings, counted-quick}
 use Rattle.run_cross_back.specs.Back.{markOf, SumsFit, SummedBack, SummedFrom, withNext, nextAdded}
 

@@ -1,10 +1,9 @@
 -- Every cell is one number of one line along each axis, and every entry is that of one cell and one axis. So an entry is found by
 -- its axis, its line and its number on the line, and only so. Once over the three axes. Assumes nothing.
 use Prim.Native.Nat.{ℕ, zero, suc, _+_, _*_, _/_, _%_, _<_}
-use native.Mathlib.Nat.{mod-lt, mul-pos}
+use native.Mathlib.Nat.{mod-lt}
 use native.Mathlib.Omega.{arith}
 use mathlib.Core.Path.{_≡_, refl}
-use mathlib.Core.Bool.{true}
 use lib.Dec.{eqb, lit<}
 use Rattle.point.specs.declared.Axis.{Axis}
 use Rattle.point.specs.declared.Axis.the-variants.{X, Y, Z}
@@ -12,8 +11,6 @@ use Rattle.grid.specs.declared.Grid.{Grid}
 use Rattle.grid.specs.declared.Cell.{Cell}
 use Rattle.grid.specs.Axes.{countOn, cellOn, cellNumbered, next, cellFrom}
 use Rattle.grid.specs.Index.{Inside, indexOf, cellAt, total, strideOn}
-use Rattle.grid.specs.Bounds.{inBounds}
-use Rattle.grid.proofs.Facts.{bounds-of}
 use Rattle.grid.proofs.Laws.{index-below, index-of-cell, index-injective, index-along, cell-within}
 use Rattle.float.specs.Arith.{if_then_else_}
 use Rattle.run.specs.Signs.{axisAt}
@@ -79,11 +76,6 @@ one-axis g a b c d e = same-place a b (omega (arith, place-below a, place-below 
 pub one-cell : (g : Grid) (a b : Axis) (c d : Cell) → Inside g c → Inside g d → entryOf g a c ≡ entryOf g b d → c ≡ d
 unfolding entryOf
 one-cell g a b c d v w e = index-injective v w (omega (arith, place-below a, place-below b))
-
-pub stride-pos : (g : Grid) → inBounds g ≡ true → (axis : Axis) → 0 < strideOn g axis
-stride-pos g h X = let b = bounds-of g h in mul-pos (b .on-y .some) (b .on-z .some)
-stride-pos g h Y = bounds-of g h .on-z .some
-stride-pos g h Z = lit< tt
 
 -- along a line the entries lie a step apart
 index-on-line : (g : Grid) (axis : Axis) (n u v : ℕ) → indexOf g (cellFrom axis n u v) ≡ indexOf g (cellFrom axis 0 u v) + n * strideOn g axis

@@ -75,22 +75,10 @@ pub fn entry(grid: Grid, axis: Axis, cell: Cell) -> usize
     3 * (index as usize) + place(axis)
 }
 
-// By how much the index grows from a cell to the next along the axis.
-fn stride(grid: Grid, axis: Axis) -> u32
-    requires { ⌜ inBounds grid ≡ true ⌝ }
-    ensures { λ r. ⌜ r ≡ strideOn grid axis ⌝ }
-{
-    match axis {
-        Axis::X => grid.count_y * grid.count_z,
-        Axis::Y => grid.count_z,
-        Axis::Z => 1,
-    }
-}
-
-// The same of the entry.
+// By how much the entry grows from a cell to the next along the axis.
 pub fn step(grid: Grid, axis: Axis) -> usize
     requires { ⌜ inBounds grid ≡ true ⌝ }
     ensures { λ r. ⌜ r ≡ 3 * strideOn grid axis ⌝ }
 {
-    3 * (stride(grid, axis) as usize)
+    3 * (grid::parts::stride_on(grid, axis) as usize)
 }

@@ -1,98 +1,205 @@
--- The rows, a column of cells at a time: of the cells of a column one lies in layer z, and that is its cell number z. Assumes nothing.
-use Prim.Native.Nat.{ℕ, zero, suc, _+_, _*_, _%_, _^_, _≤_, _<_}
-use native.Mathlib.Nat.{add-zero, zero-mul, mul-add-mod-self-right, mod-eq-of-lt}
+-- The rows, a block of cells at a time, once over the upright axis. A block has `step` cells of each layer side by side, so what it adds to a layer is the sum
+-- over these, and that is what its columns add, each with one cell of the layer. Assumes nothing.
+use Prim.Native.Nat.{ℕ, zero, suc, _+_, _*_, _/_, _%_, _^_, _≤_, _<_}
+use native.Mathlib.Nat.{add-zero, add-mul, zero-mul, one-mul, mul-one, mul-assoc, mul-le-mul-right}
 use native.Mathlib.Decide.{decLt, ℕ-discrete}
 use native.Mathlib.Omega.{arith}
-use mathlib.Core.Path.{_≡_, sym, ap, ap₂, _∙_}
+use mathlib.Core.Path.{_≡_, refl, sym, ap, ap₂, _∙_}
 use mathlib.Core.Bool.{Bool, true, false, cond}
 use mathlib.Core.List.{List}
 use lib.Dec.{ltb, eqb}
 use lib.ListN.{length, getD, replicate, length-replicate, getD-replicate, List·getD-eq-default}
 use lib.Ieee.{Float, nan}
 use borrow.Author.Tests.{lt-ltb, le-ltb, eq-eqb, ne-eqb}
-use Rattle.point.specs.declared.Axis.the-variants.{X, Y}
+use Rattle.point.specs.declared.Axis.{Axis}
+use Rattle.point.specs.declared.Axis.the-variants.{X, Y, Z}
 use Rattle.grid.specs.declared.Grid.{Grid}
 use Rattle.grid.specs.Axes.{countOn}
-use Rattle.grid.specs.Index.{coordinates, total}
-use Rattle.grid.specs.Layers.{layers}
+use Rattle.grid.specs.Index.{total, strideOn}
+use Rattle.grid.specs.Layers.{uprightOf, layers}
+use Rattle.grid.proofs.Laws.{front, behind}
+use Rattle.grid.proofs.Facts.{number-on}
 use Rattle.lists.specs.Range.{sumBelow}
-use Rattle.lists.proofs.Range.{sum-none, sum-more, sum-le}
+use Rattle.lists.proofs.Range.{sum-none, sum-more, sum-le, sum-same, sum-apart, sum-zeros}
 use Rattle.lists.proofs.Table.{is-table}
 use Rattle.run.specs.Signs.{counted, rowWeight, rowBelow, rowsBy, rows}
 use Rattle.slices.specs.Counts.{Room}
-use Rattle.run_rows.specs.Column.{ColumnAdded}
+use Rattle.run_rows.specs.Column.{weightOn, ColumnAdded, ColumnsAdded}
 
--- of n numbers in a row from `base` on, where number j is of layer j, the weight of those of layer z
-column : (n base z : ℕ) (layer weigh : ℕ → ℕ) → ((j : ℕ) → j < n → layer (base + j) ≡ j) → (j : ℕ) → j ≤ n
-    → sumBelow (λ i. cond (eqb (layer i) z) (weigh i) 0) (base + j) ≡ sumBelow (λ i. cond (eqb (layer i) z) (weigh i) 0) base + cond (ltb z j) (weigh (base + z)) 0
-column n base z layer weigh h zero l = rw (add-zero base, le-ltb z 0 (omega arith)) (omega arith)
-column n base z layer weigh h (suc j) l =
-    ap (sumBelow q) (next base j) ∙ sum-more q (base + j) ∙ ap₂ (λ (x : ℕ) (y : ℕ). x + y) (column n base z layer weigh h j (omega arith)) (ap (λ (i : ℕ). cond (eqb i z) (weigh (base + j)) 0) (h j l)) ∙ last (ℕ-discrete z j) (decLt z j)
-  where
-    q : ℕ → ℕ
-    q i = cond (eqb (layer i) z) (weigh i) 0
+pub one-more : (b n : ℕ) → (b + 1) * n ≡ b * n + n
+one-more b n = omega arith
 
-    next : (base j : ℕ) → base + suc j ≡ base + j + 1
-    next base j = omega arith
+-- ---- columns side by side
 
-    last : Dec (z ≡ j) → Dec (z < j)
-        → sumBelow q base + cond (ltb z j) (weigh (base + z)) 0 + cond (eqb j z) (weigh (base + j)) 0 ≡ sumBelow q base + cond (ltb z (suc j)) (weigh (base + z)) 0
-    last (yes e) d = rw (le-ltb z j (omega arith), lt-ltb z (suc j) (omega arith), eq-eqb j z (sym e), e) (omega arith)
-    last (no e) (yes d) = rw (lt-ltb z j d, lt-ltb z (suc j) (omega arith), ne-eqb j z (λ i. e (sym i))) (omega arith)
-    last (no e) (no d) = rw (le-ltb z j (omega arith), le-ltb z (suc j) (omega (arith, above z j e d)), ne-eqb j z (λ i. e (sym i))) (omega arith)
-      where
-        above : (z j : ℕ) → (z ≡ j → ⊥) → (z < j → ⊥) → j < z
-        above z j e d = omega arith
+pub columns-none : (field : List Float) (start step : ℕ) (l : List ℕ) → ColumnsAdded field start step 0 l l
+columns-none field start step l =
+    record { long = refl; each = λ n h. sym (ap (λ (k : ℕ). getD l n 0 + k) (sum-none _) ∙ add-zero (getD l n 0)) }
 
--- what the cells below c add to layer z, where layers follow each other, `height` of them to a column
-abbrev pub layerBelow : ℕ → List Float → ℕ → ℕ → ℕ
-layerBelow height field z c = sumBelow (λ i. cond (eqb (i % height) z) (rowWeight (getD field i nan)) 0) c
-
--- a column more
-layer-more : (height : ℕ) (field : List Float) (z k : ℕ) → z < height
-    → layerBelow height field z ((k + 1) * height) ≡ layerBelow height field z (k * height) + rowWeight (getD field (k * height + z) nan)
-layer-more height field z k h =
-    ap (layerBelow height field z) (more k height) ∙ column height (k * height) z (λ i. i % height) (λ i. rowWeight (getD field i nan)) (λ j l. mul-add-mod-self-right k height j ∙ mod-eq-of-lt l) height (omega arith) ∙ ap (λ (b : Bool). layerBelow height field z (k * height) + cond b (rowWeight (getD field (k * height + z) nan)) 0) (lt-ltb z height h)
-  where
-    more : (k n : ℕ) → (k + 1) * n ≡ k * n + n
-    more k n = omega arith
-
--- after k columns each row has what is counted of the cells before
-pub record Rowed (height : ℕ) (field : List Float) (k : ℕ) (l : List ℕ) : Type 0 where
-  pub long : length l ≡ height
-  pub each : (z : ℕ) → z < height → getD l z 0 ≡ layerBelow height field z (k * height)
-
-pub rowed-none : (height : ℕ) (field : List Float) (l : List ℕ) → l ≡ replicate height 0 → Rowed height field 0 l
-rowed-none height field l e =
-    record {
-      long = ap length e ∙ length-replicate height 0;
-      each = λ z h. ap (λ (s : List ℕ). getD s z 0) e ∙ getD-replicate height z 0 0 h ∙ sym (ap (layerBelow height field z) (zero-mul height) ∙ sum-none _);
-    }
-
-pub rowed-more : (height : ℕ) (field : List Float) (k : ℕ) {l m : List ℕ} → Rowed height field k l → ColumnAdded field (k * height) l m → Rowed height field (k + 1) m
-rowed-more height field k {l} {m} s t =
+pub columns-more : (field : List Float) (start step k : ℕ) {old l new : List ℕ}
+    → ColumnsAdded field start step k old l → ColumnAdded field (start + k) step l new → ColumnsAdded field start step (k + 1) old new
+columns-more field start step k {old} {l} {new} s t =
     record {
       long = t .long ∙ s .long;
-      each = λ z h. t .each z (omega (arith, s .long)) ∙ ap (λ (n : ℕ). n + rowWeight (getD field (k * height + z) nan)) (s .each z h) ∙ sym (layer-more height field z k h);
+      each = λ n h.
+          let w : ℕ → ℕ = λ j. weightOn field (start + j) step n in
+          omega (arith, t .each n (omega (arith, s .long)), s .each n h, sum-more w k);
     }
 
--- a row is at most the number of cells
-pub rowed-room : (height : ℕ) (field : List Float) (k : ℕ) (l : List ℕ) → k * height ≤ 1048576 → Rowed height field k l → Room 1 l
-rowed-room height field k l h s z = go (decLt z height)
-  where
-    one : (b c : Bool) → cond b (cond c 1 0) 0 ≤ 1
-    one true true = omega arith
-    one true false = omega arith
-    one false c = omega arith
+-- a weight is at most 1
+pub one : (b : Bool) → cond b 1 0 ≤ 1
+one true = omega arith
+one false = omega arith
 
-    go : Dec (z < height) → getD l z 0 + 1 < 2 ^ 32
-    go (yes w) = omega (arith, s .each z w, sum-le (λ i. cond (eqb (i % height) z) (rowWeight (getD field i nan)) 0) 1 (k * height) (λ i l. one (eqb (i % height) z) (counted (getD field i nan))))
+-- k columns add at most k to a row
+pub columns-room : (field : List Float) (start step k : ℕ) {old l : List ℕ} → k < step → Room step old → ColumnsAdded field start step k old l → Room 1 l
+columns-room field start step k {old} {l} h room s n = go (decLt n (length old))
+  where
+    go : Dec (n < length old) → getD l n 0 + 1 < 2 ^ 32
+    go (yes w) =
+        omega (arith, s .each n w, room n, sum-le (λ j. weightOn field (start + j) step n) 1 k (λ j m. one (counted (getD field (start + j + n * step) nan))))
     go (no w) =
-        let past : length l ≤ z = omega (arith, s .long) in
-        let none : getD l z 0 ≡ 0 = List·getD-eq-default l 0 past in
+        let past : length l ≤ n = omega (arith, s .long) in
+        let none : getD l n 0 ≡ 0 = List·getD-eq-default l 0 past in
+        omega (arith, room n)
+
+-- ---- a block
+
+-- of blocks of `height` times `step` numbers, where the numbers of layer m are `step` side by side: the weight of those of layer n, in the block
+-- that begins at `start`, as far as its first m layers go
+block : (height step start n : ℕ) (layer weigh : ℕ → ℕ) → ((m j : ℕ) → m < height → j < step → layer (start + m * step + j) ≡ m) → (m : ℕ) → m ≤ height
+    → sumBelow (λ i. cond (eqb (layer i) n) (weigh i) 0) (start + m * step)
+    ≡ sumBelow (λ i. cond (eqb (layer i) n) (weigh i) 0) start + cond (ltb n m) (sumBelow (λ j. weigh (start + j + n * step)) step) 0
+block height step start n layer weigh h zero l = rw (zero-mul step, add-zero start, le-ltb n 0 (omega arith)) (omega arith)
+block height step start n layer weigh h (suc m) l =
+    ap (sumBelow q) (next start m step) ∙ sum-apart q (start + m * step) step ∙ ap₂ (λ (x : ℕ) (y : ℕ). x + y) (block height step start n layer weigh h m (omega arith)) (of-layer ∙ chosen (eqb m n)) ∙ last (ℕ-discrete n m) (decLt n m)
+  where
+    q : ℕ → ℕ
+    q i = cond (eqb (layer i) n) (weigh i) 0
+
+    of : ℕ → ℕ
+    of k = sumBelow (λ j. weigh (start + j + k * step)) step
+
+    next : (start m step : ℕ) → start + suc m * step ≡ start + m * step + step
+    next start m step = omega arith
+
+    swap : (a b c : ℕ) → a + b + c ≡ a + c + b
+    swap a b c = omega arith
+
+    of-layer : sumBelow (λ j. q (start + m * step + j)) step ≡ sumBelow (λ j. cond (eqb m n) (weigh (start + j + m * step)) 0) step
+    of-layer =
+        sum-same (λ j. q (start + m * step + j)) (λ j. cond (eqb m n) (weigh (start + j + m * step)) 0) step
+        (λ j w. ap₂ (λ (k : ℕ) (p : ℕ). cond (eqb k n) (weigh p) 0) (h m j l w) (swap start (m * step) j))
+
+    chosen : (b : Bool) → sumBelow (λ j. cond b (weigh (start + j + m * step)) 0) step ≡ cond b (of m) 0
+    chosen true = refl
+    chosen false = sum-zeros step
+
+    last : Dec (n ≡ m) → Dec (n < m) → sumBelow q start + cond (ltb n m) (of n) 0 + cond (eqb m n) (of m) 0 ≡ sumBelow q start + cond (ltb n (suc m)) (of n) 0
+    last (yes e) d = rw (le-ltb n m (omega arith), lt-ltb n (suc m) (omega arith), eq-eqb m n (sym e), e) (omega arith)
+    last (no e) (yes d) = rw (lt-ltb n m d, lt-ltb n (suc m) (omega arith), ne-eqb m n (λ i. e (sym i))) (omega arith)
+    last (no e) (no d) = rw (le-ltb n m (omega arith), le-ltb n (suc m) (omega (arith, above n m e d)), ne-eqb m n (λ i. e (sym i))) (omega arith)
+      where
+        above : (n m : ℕ) → (n ≡ m → ⊥) → (n < m → ⊥) → m < n
+        above n m e d = omega arith
+
+-- what the cells below c add to layer n, where a layer has `step` cells side by side, and `height` layers make a block
+abbrev pub layerBelow : ℕ → ℕ → List Float → ℕ → ℕ → ℕ
+layerBelow height step field n c = sumBelow (λ i. cond (eqb (i / step % height) n) (rowWeight (getD field i nan)) 0) c
+
+-- the layers of a block that begins behind b others
+layer-in : (height step b m j : ℕ) → m < height → j < step → (b * (height * step) + m * step + j) / step % height ≡ m
+layer-in height step b m j h l =
+    ap (λ (i : ℕ). i / step % height) (digits b height step m j) ∙ ap (λ (i : ℕ). i % height) (front (b * height + m) l) ∙ behind b h
+  where
+    digits : (b height step m j : ℕ) → b * (height * step) + m * step + j ≡ (b * height + m) * step + j
+    digits b height step m j = rw (← mul-assoc, add-mul)
+
+-- ---- blocks one after another
+
+-- the rows when the blocks before `start` are added: each has what is counted of the cells before
+pub record Rowed (height step : ℕ) (field : List Float) (start : ℕ) (l : List ℕ) : Type 0 where
+  pub long : length l ≡ height
+  pub blocks : ℕ
+  pub begun : start ≡ blocks * (height * step)
+  pub each : (n : ℕ) → n < height → getD l n 0 ≡ layerBelow height step field n start
+
+pub rowed-none : (height step : ℕ) (field : List Float) (l : List ℕ) → l ≡ replicate height 0 → Rowed height step field 0 l
+rowed-none height step field l e =
+    record {
+      long = ap length e ∙ length-replicate height 0;
+      blocks = 0;
+      begun = sym (zero-mul (height * step));
+      each = λ n h. ap (λ (s : List ℕ). getD s n 0) e ∙ getD-replicate height n 0 0 h ∙ sym (sum-none _);
+    }
+
+pub rowed-more : (height step : ℕ) (field : List Float) (start : ℕ) {l m : List ℕ}
+    → Rowed height step field start l → ColumnsAdded field start step step l m → Rowed height step field (start + height * step) m
+rowed-more height step field start {l} {m} s t =
+    record {
+      long = t .long ∙ s .long;
+      blocks = s .blocks + 1;
+      begun = ap (λ (k : ℕ). k + height * step) (s .begun) ∙ sym (one-more (s .blocks) (height * step));
+      each = λ n h.
+          t .each n (omega (arith, s .long))
+          ∙ ap (λ (k : ℕ). k + sumBelow (λ j. weightOn field (start + j) step n) step) (s .each n h)
+          ∙ sym (added n h);
+    }
+  where
+    in-layer : (k j : ℕ) → k < height → j < step → (start + k * step + j) / step % height ≡ k
+    in-layer k j h l = ap (λ (i : ℕ). (i + k * step + j) / step % height) (s .begun) ∙ layer-in height step (s .blocks) k j h l
+
+    added : (n : ℕ) → n < height → layerBelow height step field n (start + height * step) ≡ layerBelow height step field n start + sumBelow (λ j. weightOn field (start + j) step n) step
+    added n h =
+        block height step start n (λ i. i / step % height) (λ i. rowWeight (getD field i nan)) in-layer height (omega arith)
+        ∙ ap (λ (b : Bool). layerBelow height step field n start + cond b (sumBelow (λ j. weightOn field (start + j) step n) step) 0) (lt-ltb n height h)
+
+-- a row is at most the number of cells
+pub rowed-room : (height step : ℕ) (field : List Float) (start : ℕ) (l : List ℕ) → start + step ≤ 2097152 → Rowed height step field start l → Room step l
+rowed-room height step field start l h s n = go (decLt n height)
+  where
+    weight : (b c : Bool) → cond b (cond c 1 0) 0 ≤ 1
+    weight true c = one c
+    weight false c = omega arith
+
+    go : Dec (n < height) → getD l n 0 + step < 2 ^ 32
+    go (yes w) =
+        omega (arith, s .each n w, sum-le (λ i. cond (eqb (i / step % height) n) (rowWeight (getD field i nan)) 0) 1 start (λ i m. weight (eqb (i / step % height) n) (counted (getD field i nan))))
+    go (no w) =
+        let past : length l ≤ n = omega (arith, s .long) in
+        let none : getD l n 0 ≡ 0 = List·getD-eq-default l 0 past in
         omega arith
 
-pub rowed-all : (g : Grid) (field : List Float) (k : ℕ) (l : List ℕ) → k ≡ countOn X g * countOn Y g → Rowed (layers g) field k l → l ≡ rows g field
-unfolding rowsBy rowBelow coordinates
-rowed-all g field k l e s =
-    is-table 0 (λ z. rowBelow rowWeight g field z (total g)) (layers g) l (s .long) (λ z h. s .each z h ∙ ap (λ (n : ℕ). layerBelow (layers g) field z (n * layers g)) e)
+-- ---- the blocks of a grid
+
+-- how many blocks there are along an axis
+abbrev pub blocksOn : Axis → Grid → ℕ
+blocksOn X g = 1
+blocksOn Y g = countOn X g
+blocksOn Z g = countOn X g * countOn Y g
+
+pub total-blocks : (a : Axis) (g : Grid) → total g ≡ blocksOn a g * (countOn a g * strideOn g a)
+total-blocks X g = rw (one-mul, ← mul-assoc)
+total-blocks Y g = rw (← mul-assoc)
+total-blocks Z g = rw mul-one
+
+-- the block that begins before the end lies before the end
+pub whole-block : (height step : ℕ) {field : List Float} {start : ℕ} {l : List ℕ} (blocks : ℕ)
+    → Rowed height step field start l → start < blocks * (height * step) → start + height * step ≤ blocks * (height * step)
+whole-block height step {field} {start} {l} blocks s h = go (decLt (s .blocks) blocks)
+  where
+    go : Dec (s .blocks < blocks) → start + height * step ≤ blocks * (height * step)
+    go (yes w) =
+        let more : s .blocks + 1 ≤ blocks = omega arith in
+        omega (arith, s .begun, mul-le-mul-right (height * step) more, one-more (s .blocks) (height * step))
+    go (no w) =
+        let past : blocks ≤ s .blocks = omega arith in
+        absurd (omega (arith, s .begun, mul-le-mul-right (height * step) past))
+
+-- when all are added, the rows are the run's
+pub rowed-all : (g : Grid) (field : List Float) (l : List ℕ) → Rowed (layers g) (strideOn g (uprightOf g)) field (total g) l → l ≡ rows g field
+unfolding rowsBy rowBelow
+rowed-all g field l s =
+    is-table 0 (λ n. rowBelow rowWeight g field n (total g)) (layers g) l (s .long)
+    (λ n h.
+        s .each n h
+        ∙ sum-same _ _ (total g) (λ i w. ap (λ (k : ℕ). cond (eqb k n) (rowWeight (getD field i nan)) 0) (sym (number-on g (uprightOf g) w))))

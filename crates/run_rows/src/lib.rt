@@ -1,16 +1,20 @@
-// The rows: how many cells of each layer are inside. A cell counts "when its sign bit is set" (document 02, §2), -0 too. A part
-// of the port: users call `sdf`.
+// The rows: how many cells of each layer are inside. A cell counts "when its sign bit is set" (document 02, §2), -0 too. The layers
+// lie along the upright axis (§9). A part of the port: users call `sdf`.
+//
+// Along any axis the field is a row of blocks. A block has the cells of every layer in turn, `step` of each side by side, where `step` is
+// by how much the index grows from a layer to the next: with z upright a block is one column of cells, with x upright the whole field.
+// So a column of cells, one of each layer, begins at each of the first `step` cells of a block.
 use grid::Grid;
 ghost use mathlib.Core.Path.{_≡_};
 ghost use mathlib.Core.Bool.{true};
-ghost use Prim.Native.Nat.{_+_, _≤_};
+ghost use Prim.Native.Nat.{_+_, _*_, _≤_};
 ghost use lib.ListN.{length};
 ghost use Rattle.grid.specs.Index.{total};
 ghost use Rattle.grid.specs.Layers.{layers};
 ghost use Rattle.grid.specs.Bounds.{inBounds};
 ghost use Rattle.run.specs.Signs as Signs;
-ghost use Rattle.slices.specs.Counts.{Room};
-ghost use Rattle.run_rows.specs.Column.{ColumnAdded};
+ghost use Rattle.slices.specs.Counts.{Room, PlacesBelow};
+ghost use Rattle.run_rows.specs.Column.{ColumnAdded, ColumnsAdded};
 
 // What counts in a row.
 fn counted(d: f32) -> bool
@@ -19,21 +23,33 @@ fn counted(d: f32) -> bool
     float::sign_bit(d)
 }
 
-// Adds the cells of one column, which begin at `base`, each to its row.
-fn add_column(field: &[f32], base: usize, rows: &mut [u32])
-    requires { ⌜ base + length (now rows) ≤ length (now field) ⌝ }
+// Adds the cells of one column, which begins at `base`, each to its row.
+fn add_column(field: &[f32], base: usize, step: usize, rows: &mut [u32])
+    requires { ⌜ PlacesBelow base step (length (now rows)) (length (now field)) ⌝ }
     requires { ⌜ Room 1 (now rows) ⌝ }
-    ensures { λ _. ⌜ ColumnAdded (now (field .entry)) base (now (rows .entry)) (now (rows .exit)) ⌝ }
+    ensures { λ _. ⌜ ColumnAdded (now (field .entry)) base step (now (rows .entry)) (now (rows .exit)) ⌝ }
 {
-    let mut z = 0;
-    while z < rows.len() {
-        rows[z] += slices::one_if(counted(field[base + z]));
-        z += 1;
+    let mut n = 0;
+    while n < rows.len() {
+        rows[n] += slices::one_if(counted(field[base + n * step]));
+        n += 1;
     }
 }
 
-// The rows of a field. They may hold anything before. The columns are taken in the order of the field,
-// in which the cells of a column lie side by side.
+// Adds the columns of one block, which begin side by side from `start` on.
+fn add_block(field: &[f32], start: usize, step: usize, rows: &mut [u32])
+    requires { ⌜ start + length (now rows) * step ≤ length (now field) ⌝ }
+    requires { ⌜ Room step (now rows) ⌝ }
+    ensures { λ _. ⌜ ColumnsAdded (now (field .entry)) start step step (now (rows .entry)) (now (rows .exit)) ⌝ }
+{
+    let mut k = 0;
+    while k < step {
+        add_column(field, start + k, step, rows);
+        k += 1;
+    }
+}
+
+// The rows of a field. They may hold anything before.
 pub fn count_rows(grid: Grid, field: &[f32], rows: &mut [u32])
     requires { ⌜ inBounds grid ≡ true ⌝ }
     requires { ⌜ length (now field) ≡ total grid ⌝ }
@@ -41,11 +57,12 @@ pub fn count_rows(grid: Grid, field: &[f32], rows: &mut [u32])
     ensures { λ _. ⌜ now (rows .exit) ≡ Signs.rows grid (now (field .entry)) ⌝ }
 {
     slices::fill_numbers(rows, 0);
-    let height = grid::parts::layers(grid) as usize;
-    let columns = (grid.count_x * grid.count_y) as usize;
-    let mut k = 0;
-    while k < columns {
-        add_column(field, k * height, rows);
-        k += 1;
+    let upright = grid::parts::upright_axis(grid);
+    let step = grid::parts::stride_on(grid, upright) as usize;
+    let block = rows.len() * step;
+    let mut start = 0;
+    while start < field.len() {
+        add_block(field, start, step, rows);
+        start += block;
     }
 }

@@ -5,8 +5,9 @@ use native.Mathlib.Omega.{arith}
 use mathlib.Core.Path.{_≡_, ap, _∙_}
 use lib.Dec.{lit<}
 use Rattle.grid.specs.Axes.{cellFrom}
+use Rattle.grid.proofs.Facts.{stride-pos}
 use Rattle.run_cross_lines.specs.Lines.{entryOf}
-use Rattle.run_cross_lines.proofs.Entries.{inside-line, stride-pos}
+use Rattle.run_cross_lines.proofs.Entries.{inside-line}
 use Rattle.run_cross_lines.proofs.Grown.{line-within, line-grown}
 use Rattle.run_cross_hits.proofs.add_line.Statement.{statement}
 use Rattle.run_cross_hits.proofs.add_line.Tie as tie

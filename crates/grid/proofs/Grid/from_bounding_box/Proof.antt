@@ -17,6 +17,7 @@ grid first size n = record {
   «count_x» = n .x;
   «count_y» = n .y;
   «count_z» = n .z;
+  upright = 2;
 }
 
 -- the grid that is made is the definition's
