@@ -51,8 +51,8 @@ module _ (j : TextJob) where
           → before ++ topology ++ sign ++ vertices ++ indices ++ tail ≡ before ++ (topology ++ sign ++ vertices ++ indices ++ tail)
       regrouped before topology sign vertices indices tail = simp append-assoc
 
-pub said-readable : (u v : Upright) (j : TextJob) → Readable (saying u j) → Readable (saying v j)
-said-readable u v j r =
+pub said-readable : (u : Upright) (j : TextJob) → Readable j → Readable (saying u j)
+said-readable u j r =
     record {
       head-fits = record {
         counts-fit = r .head-fits .counts-fit;
