@@ -14,3 +14,4 @@ pub mod Numbers
 pub mod NoCrossing
 pub mod Ends
 pub mod SameMesh
+pub mod Standing

@@ -1,13 +1,13 @@
 -- The rows, a block of cells at a time, once over the upright axis. A block has `step` cells of each layer side by side, so what it adds to a layer is the sum
 -- over these, and that is what its columns add, each with one cell of the layer. Assumes nothing.
 use Prim.Native.Nat.{ℕ, zero, suc, _+_, _*_, _/_, _%_, _^_, _≤_, _<_}
-use native.Mathlib.Nat.{add-zero, add-mul, zero-mul, one-mul, mul-one, mul-assoc, mul-le-mul-right}
+use native.Mathlib.Nat.{add-zero, add-mul, zero-mul, one-mul, mul-one, mul-assoc, mul-pos, mul-le-mul-right}
 use native.Mathlib.Decide.{decLt, ℕ-discrete}
 use native.Mathlib.Omega.{arith}
 use mathlib.Core.Path.{_≡_, refl, sym, ap, ap₂, _∙_}
 use mathlib.Core.Bool.{Bool, true, false, cond}
 use mathlib.Core.List.{List}
-use lib.Dec.{ltb, eqb}
+use lib.Dec.{ltb, eqb, lit<}
 use lib.ListN.{length, getD, replicate, length-replicate, getD-replicate, List·getD-eq-default}
 use lib.Ieee.{Float, nan}
 use borrow.Author.Tests.{lt-ltb, le-ltb, eq-eqb, ne-eqb}
@@ -17,8 +17,9 @@ use Rattle.grid.specs.declared.Grid.{Grid}
 use Rattle.grid.specs.Axes.{countOn}
 use Rattle.grid.specs.Index.{total, strideOn}
 use Rattle.grid.specs.Layers.{uprightOf, layers}
+use Rattle.grid.specs.Bounds.{inBounds}
 use Rattle.grid.proofs.Laws.{front, behind}
-use Rattle.grid.proofs.Facts.{number-on}
+use Rattle.grid.proofs.Facts.{bounds-of, number-on}
 use Rattle.lists.specs.Range.{sumBelow}
 use Rattle.lists.proofs.Range.{sum-none, sum-more, sum-le, sum-same, sum-apart, sum-zeros}
 use Rattle.lists.proofs.Table.{is-table}
@@ -182,6 +183,11 @@ total-blocks X g = rw (one-mul, ← mul-assoc)
 total-blocks Y g = rw (← mul-assoc)
 total-blocks Z g = rw mul-one
 
+pub some-blocks : (a : Axis) (g : Grid) → inBounds g ≡ true → 0 < blocksOn a g
+some-blocks X g h = lit< tt
+some-blocks Y g h = bounds-of g h .on-x .some
+some-blocks Z g h = mul-pos (bounds-of g h .on-x .some) (bounds-of g h .on-y .some)
+
 -- the block that begins before the end lies before the end
 pub whole-block : (height step : ℕ) {field : List Float} {start : ℕ} {l : List ℕ} (blocks : ℕ)
     → Rowed height step field start l → start < blocks * (height * step) → start + height * step ≤ blocks * (height * step)
@@ -196,10 +202,14 @@ whole-block height step {field} {start} {l} blocks s h = go (decLt (s .blocks) b
         absurd (omega (arith, s .begun, mul-le-mul-right (height * step) past))
 
 -- when all are added, the rows are the run's
-pub rowed-all : (g : Grid) (field : List Float) (l : List ℕ) → Rowed (layers g) (strideOn g (uprightOf g)) field (total g) l → l ≡ rows g field
+rowed-end : (g : Grid) (field : List Float) (l : List ℕ) → Rowed (layers g) (strideOn g (uprightOf g)) field (total g) l → l ≡ rows g field
 unfolding rowsBy rowBelow
-rowed-all g field l s =
+rowed-end g field l s =
     is-table 0 (λ n. rowBelow rowWeight g field n (total g)) (layers g) l (s .long)
     (λ n h.
-        s .each n h
-        ∙ sum-same _ _ (total g) (λ i w. ap (λ (k : ℕ). cond (eqb k n) (rowWeight (getD field i nan)) 0) (sym (number-on g (uprightOf g) w))))
+    s .each n h
+    ∙ sum-same _ _ (total g) (λ i w. ap (λ (k : ℕ). cond (eqb k n) (rowWeight (getD field i nan)) 0) (sym (number-on g (uprightOf g) w))))
+
+pub rowed-all : (g : Grid) (field : List Float) (l : List ℕ) {height step start : ℕ} → height ≡ layers g → step ≡ strideOn g (uprightOf g) → start ≡ total g
+    → Rowed height step field start l → l ≡ rows g field
+rowed-all g field l tall stepped ended s = rowed-end g field l (rw (tall, stepped, ended) at s)

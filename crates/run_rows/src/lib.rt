@@ -7,7 +7,7 @@
 use grid::Grid;
 ghost use mathlib.Core.Path.{_≡_};
 ghost use mathlib.Core.Bool.{true};
-ghost use Prim.Native.Nat.{_+_, _*_, _≤_};
+ghost use Prim.Native.Nat.{_+_, _*_, _≤_, _<_};
 ghost use lib.ListN.{length};
 ghost use Rattle.grid.specs.Index.{total};
 ghost use Rattle.grid.specs.Layers.{layers};
@@ -38,7 +38,7 @@ fn add_column(field: &[f32], base: usize, step: usize, rows: &mut [u32])
 
 // Adds the columns of one block, which begin side by side from `start` on.
 fn add_block(field: &[f32], start: usize, step: usize, rows: &mut [u32])
-    requires { ⌜ start + length (now rows) * step ≤ length (now field) ⌝ }
+    requires { ⌜ (0 < length (now rows)) × (start + length (now rows) * step ≤ length (now field)) ⌝ }
     requires { ⌜ Room step (now rows) ⌝ }
     ensures { λ _. ⌜ ColumnsAdded (now (field .entry)) start step step (now (rows .entry)) (now (rows .exit)) ⌝ }
 {

@@ -29,7 +29,7 @@ abbrev entry : tie.At-loop Inv-loop μ-loop → tie.Start Inv-loop μ-loop
 entry l = l .before .before .before
 
 abbrev head : tie.After-one-if Inv-loop μ-loop → tie.At-loop Inv-loop μ-loop
-head c = let l : tie.At-loop Inv-loop μ-loop = search in l
+head c = c .before .before .before .before
 
 -- what each row is to hold, and what is stored in this turn
 abbrev rows-then : tie.At-loop Inv-loop μ-loop → ℕ → ℕ
@@ -48,6 +48,18 @@ loop-holds c = let a = c .before .before .args in (omega arith, refl, filled-non
 -- the cell lies in the field
 below : (c : tie.In-loop Inv-loop μ-loop) → let a = entry (c .before) .args in a .base + c .before .loop .n * a .step < length (a .field .now)
 below c = entry (c .before) .pre .0 (c .before .loop .n) (omega arith)
+
+mul-counted : tie.Need-mul-counted Inv-loop μ-loop
+mul-counted c = let turn : tie.In-loop Inv-loop μ-loop = search in record { fits = omega (arith, below turn) }
+
+add-counted : tie.Need-add-counted Inv-loop μ-loop
+add-counted c = let turn : tie.In-loop Inv-loop μ-loop = search in omega (arith, below turn)
+
+mul-counted-2 : tie.Need-mul-counted-2 Inv-loop μ-loop
+mul-counted-2 c = let turn : tie.In-loop Inv-loop μ-loop = search in omega (arith, below turn)
+
+shared-slice-read-counted : tie.Need-shared-slice-read-counted Inv-loop μ-loop
+shared-slice-read-counted c = let turn : tie.In-loop Inv-loop μ-loop = search in omega (arith, below turn)
 
 add-rows : tie.Need-add-rows Inv-loop μ-loop
 add-rows c =
@@ -73,7 +85,7 @@ pub add-column-spec : {M : Type 1} → statement M
 add-column-spec =
     tie.close (tie.spec
     Inv-loop μ-loop loop-holds
-    (λ c. omega arith) (λ c. omega arith) (λ c. omega arith) (λ c κs. search needs) (λ c κs. search needs)
+    mul-counted add-counted mul-counted-2 shared-slice-read-counted (λ c κs. search needs) (λ c κs. search needs)
     (λ c. omega arith) (λ c. omega arith) add-rows
     (λ c. omega arith) (λ c. omega arith) (λ c. omega arith) loop-again
     (λ c. omega arith) returns)
