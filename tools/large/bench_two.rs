@@ -143,7 +143,7 @@ impl Buffers {
             std::process::exit(2);
         }
         assert_eq!(answer.number, number, "the job is done, or refused where it should be");
-        (answer, times)
+        (answer, if to == To::Checks { times } else { times.seen() })
     }
 
     /// What must be the same of the two.
