@@ -46,9 +46,9 @@ def values(listing):
 
 def owed(jobs, originals=None):
     """The listings that the jobs are owed: the unmodified Rust's field and pops (with Normal signs those of the Rust with the queue's order of
-    document 02, §8, put in), rows counted off that field, and the model's number, peak, grazed and names (the Rust says nothing of a ray
-    that grazes; tools/grazed-check counts them once more). Where two speak they must agree. With `originals` the jobs are conversions
-    of these, and the Rust is given the originals: it still takes strips. Builds the oracle and the model."""
+    document 02, §8, put in), rows that the oracle counts off that field along the upright axis, and the model's number, peak, grazed and names
+    (the Rust says nothing of a ray that grazes; tools/grazed-check counts them once more). Where two speak they must agree. With `originals`
+    the jobs are conversions of these, and the Rust is given the originals: it still takes strips. Builds the oracle and the model."""
     build("tools/oracle/build")
     build("tools/model/build")
     model = batch(["build/model/model", "--batch"], jobs)
@@ -99,18 +99,9 @@ def joined(model, rust):
     assert [cell for cell, _ in names] == theirs["cell"]
     lines = ["answer=0", "pops=" + theirs["steps"][0], "peak=" + ours["peak"][0], "grazed=" + ours["grazed"][0]]
     lines += [f"cell={cell} {name}" for cell, (_, name) in zip(theirs["cell"], names)]
-    rows = set_signs(theirs["cell"], len(ours["row"]))
-    assert ours["row"] == rows
-    lines += ["row=" + row for row in rows]
+    assert ours["row"] == theirs["row"]
+    lines += ["row=" + row for row in theirs["row"]]
     return "".join(line + "\n" for line in lines).encode()
-
-
-def set_signs(cells, layers):
-    """`LAYER COUNT` for each layer: how many of its cells have their sign bit set. Along z the index grows by one."""
-    rows = [0] * layers
-    for index, bits in map(str.split, cells):
-        rows[int(index) % layers] += int(bits, 16) >> 31
-    return [f"{layer} {count}" for layer, count in enumerate(rows)]
 
 
 def first_difference(printed, owes):

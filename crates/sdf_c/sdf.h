@@ -4,15 +4,16 @@
  * themselves, and a scanner's file read and written. What they owe is docs/SPECIFICATION.md, whose sections stand here as
  * [4.1]; every function is proved to meet it.
  *
- * In seven lines, with buffers of n floats, n, 3 n and 64 numbers and n entries:
+ * In eight lines, with buffers of n floats, n, 3 n and 64 numbers and n entries:
  *
- *   sdf_grid grid = {{0.05f, 0.05f, 0.05f}, {0.1f, 0.1f, 0.1f}, {64, 64, 64}};
+ *   sdf_grid grid = {.first = {0.05f, 0.05f, 0.05f}, .size = {0.1f, 0.1f, 0.1f}, .count = {64, 64, 64},
+ *       .upright = SDF_Z};
  *   size_t n = sdf_grid_total(grid).value;
  *   sdf_job_answer a = sdf_generate_grid_sdf_records(grid, vertices, 3 * vertex_count, SDF_LIST, SDF_INDICES, indices,
  *       index_count, field, n, names, n, crossings, 3 * n, rows, 64, queue, n,
  *       (sdf_terms){.limit = UINT32_MAX, .pass = SDF_QUICK});
  *   if (a.number == SDF_QUEUE_FULL) lend twice the queue and call again;
- *   if (a.number == SDF_DONE) signbit(field[i]) says inside, and rows[z] counts the inside cells of layer z;
+ *   if (a.number == SDF_DONE) signbit(field[i]) says inside, and rows[z] counts the inside cells of layer z, as z is upright;
  *
  * examples/c/tank.c is a whole program.
  *
@@ -40,8 +41,9 @@
 extern "C" {
 #endif
 
-/* Raised whenever a function, a record or a number below is no longer what it was. */
-#define SDF_VERSION 9
+/* Raised whenever a function, a record or a number below is no longer what it was. Since 10 sdf_grid has its upright axis, as its
+ * last member: what is said in capitals there concerns every program that was written for 9. */
+#define SDF_VERSION 10
 
 /* The numbers of the whole job [4.1], in the order in which they are checked; the first that applies is given. A
  * question asked by itself [4.4] gives 1 for the grid, 2 for a coordinate that is not finite or above 2,097,152 in
@@ -49,7 +51,8 @@ extern "C" {
 enum {
     SDF_DONE = 0,         /* not refused */
     SDF_GRID = 1,         /* the grid is out of bounds: a count outside 1 .. 1,024, more than 1,048,576 cells, a first
-                             coordinate not finite or above 1,048,576 in magnitude, a size outside 1/1,024 .. 1,024 */
+                             coordinate not finite or above 1,048,576 in magnitude, a size outside 1/1,024 .. 1,024, an
+                             upright axis that is none of SDF_X, SDF_Y, SDF_Z */
     SDF_COORDINATES = 2,  /* the coordinates are not a multiple of three, more than 393,216 vertices, or a coordinate (of
                              an unused vertex too) not finite or above 1,048,576 in magnitude */
     SDF_TOPOLOGY = 13,    /* a strip, though it make no triangle: strips are withdrawn. List its triangles: the three
@@ -59,8 +62,8 @@ enum {
     SDF_OFF_GRID = 10,    /* a triangle lies off the grid: on some axis all three of its corners are below the minimum of
                              sdf_grid_box, or all three above its maximum. Touching is allowed. A vertex that no triangle
                              uses may lie anywhere. Move or drop the triangle, or ask for more cells on that side */
-    SDF_LENGTHS = 5,      /* a buffer's length is not the one that the grid asks for, or the queue's three lengths differ
-                             (a queue that is a row of records has one length) */
+    SDF_LENGTHS = 5,      /* a buffer's length is not the one that the grid asks for (of the rows, the count of its upright
+                             axis), or the queue's three lengths differ (a queue that is a row of records has one length) */
     SDF_NOT_A_NUMBER = 6, /* a distance met in seeding or spreading is a NaN: two corners a hair apart */
     SDF_QUEUE_FULL = 7,   /* an entry had to be queued and the queue was full */
     SDF_LIMIT_MET = 8,    /* entries waited and the pops taken were the limit */
@@ -69,7 +72,8 @@ enum {
     SDF_FACETS = 12       /* more than 131,072 facets */
 };
 
-/* The axes. For C an axis is a plain number: 0 is x, 1 is y, and any other number z. */
+/* The axes, of a ray and the upright one of a grid: for C plain numbers, the same for both. A ray is along z by any number but
+ * 0 and 1. A grid whose upright axis is none of the three is refused by SDF_GRID. */
 enum { SDF_X = 0, SDF_Y = 1, SDF_Z = 2 };
 
 /* What a comparison finds. */
@@ -84,10 +88,20 @@ typedef struct {
     uint32_t x, y, z;
 } sdf_cell;
 
-/* The centre of the first cell, the size of every cell, and the counts. */
+/* The centre of the first cell, the size of every cell, the counts, and which axis is upright.
+ *   upright      the axis along which the rows run: SDF_Z for a tank that was scanned standing on z; horizontal tanks are
+ *                scanned with another axis upright. It decides how many rows there are, and which cells each of them
+ *                counts. Nothing else depends on it: not the field, the names, the crossings, nor what a question gives
+ *
+ * NAME THE MEMBERS, AND ALWAYS SAY `.upright`. LEFT OUT, IT IS 0, AND 0 IS SDF_X: A GRID THAT IS INITIALISED BY POSITION AND
+ * LEFT SHORT, AS {{..}, {..}, {..}} OF VERSION 9, STANDS ON X. THAT IS WITHIN THE BOUNDS, SO IT IS NOT REFUSED, AND -Wall DOES
+ * NOT WARN OF IT: THE TABLE WOULD BE THAT OF THE LAYERS ALONG X. (gcc and clang warn of an initialiser that is left short with
+ * -Wextra, but in C not of one with names. Where the counts along x and z differ, rows lent for z are refused by SDF_LENGTHS;
+ * where they do not, nothing tells.) */
 typedef struct {
     sdf_point first, size;
     sdf_cell count;
+    uint32_t upright;
 } sdf_grid;
 
 /* What the whole job is asked for by value, beside the grid and the mesh. Say its members by their names, as {.limit = n,
@@ -198,8 +212,9 @@ enum { SDF_RAYCAST = 0, SDF_NORMAL = 1 };
  *   crossings    3 n numbers: the rays' hits along x, y, z of each cell in turn. A ray that grazes adds none: the answer's
  *                `grazed` says how often one did. Where it is large, shift the grid by a hair and ask again. With
  *                SDF_NORMAL there are no rays: all zero, and `grazed` too
- *   rows         as many as the z count: how many cells of each layer are inside, that is, have their sign bit set
- *                (signbit of <math.h>). -0 counts, and +0 does not: `field[i] < 0` would leave out a centre on the surface
+ *   rows         as many as the upright axis's count: how many cells of each layer are inside, that is, have their sign bit
+ *                set (signbit of <math.h>). Layer k is the cells whose number along the upright axis is k. -0 counts, and +0
+ *                does not: `field[i] < 0` would leave out a centre on the surface
  *   distances, cells, triangles
  *                the queue: three arrays of one length, its room. Any length, 0 too
  * terms          limit: how many entries may be taken. pass: SDF_QUICK or SDF_PLAIN, which give the same. sign: SDF_RAYCAST or
@@ -314,7 +329,8 @@ sdf_cell_answer sdf_grid_coordinates(sdf_grid grid, uint32_t index);
 sdf_point_answer sdf_grid_centre(sdf_grid grid, sdf_cell cell);
 /* The cell that a point lies in, or the nearest one. Any point may be asked for. */
 sdf_snap_answer sdf_grid_snap(sdf_grid grid, sdf_point point);
-/* The grid of so many cells that fills a box. Refuses by 1 what it would make. */
+/* The grid of so many cells that fills a box, with z upright (SDF_Z): set `upright` in what comes back for another axis.
+ * Refuses by 1 what it would make. */
 sdf_grid_answer sdf_grid_from_bounding_box(sdf_point min, sdf_point max, sdf_cell count);
 
 #ifdef __cplusplus

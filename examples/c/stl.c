@@ -3,8 +3,8 @@
  *   stl FILE firstX firstY firstZ sizeX sizeY sizeZ countX countY countZ
  *
  * FILE is a binary STL. The numbers are decimal: the centre of the grid's first cell, the size of a cell and how many cells
- * there are along each axis, all in the file's unit. Prints how many cells of each layer are inside. Ends with 1 if the
- * library refuses the file or the job, and says why and what to do; with 2 on a wrong use. README.md has the commands. */
+ * there are along each axis, all in the file's unit. Prints how many cells of each layer along z are inside. Ends with 1 if
+ * the library refuses the file or the job, and says why and what to do; with 2 on a wrong use. README.md has the commands. */
 #include "sdf.h"
 
 #include <stdio.h>
@@ -105,9 +105,10 @@ int main(int words, char **word) {
     if (words != 11)
         end(MISUSED, "usage", "stl FILE firstX firstY firstZ sizeX sizeY sizeZ countX countY countZ");
     const char *name = word[1];
-    sdf_grid grid = {{number_of(word[2]), number_of(word[3]), number_of(word[4])},
-                     {number_of(word[5]), number_of(word[6]), number_of(word[7])},
-                     {count_of(word[8]), count_of(word[9]), count_of(word[10])}};
+    sdf_grid grid = {.first = {number_of(word[2]), number_of(word[3]), number_of(word[4])},
+                     .size = {number_of(word[5]), number_of(word[6]), number_of(word[7])},
+                     .count = {count_of(word[8]), count_of(word[9]), count_of(word[10])},
+                     .upright = SDF_Z};
 
     /* The file says how many facets it has, and so how much is to be lent: nine numbers each. */
     size_t length;
@@ -126,7 +127,7 @@ int main(int words, char **word) {
     sdf_number_answer total = sdf_grid_total(grid);
     if (total.number != SDF_DONE)
         refuse(total.number, "grid");
-    size_t n = total.value, layers = grid.count.z;
+    size_t n = total.value, layers = grid.count.z; /* z is upright */
     float *field = lend(n, sizeof *field);
     uint32_t *names = lend(n, sizeof *names), *crossings = lend(3 * n, sizeof *crossings);
     uint32_t *rows = lend(layers, sizeof *rows);

@@ -66,7 +66,12 @@ static void mesh(void) {
 }
 
 int main(void) {
-    sdf_grid grid = {{cell / 2, cell / 2, cell / 2}, {cell, cell, cell}, {EDGE, EDGE, EDGE}};
+    /* The tank stands on z. All three counts are the same here: without `.upright` the rows would be those along x, and nothing
+     * would say so. */
+    sdf_grid grid = {.first = {cell / 2, cell / 2, cell / 2},
+                     .size = {cell, cell, cell},
+                     .count = {EDGE, EDGE, EDGE},
+                     .upright = SDF_Z};
     mesh();
     sdf_job_answer answer = sdf_generate_grid_sdf(
         grid, vertices, 3 * VERTICES, SDF_LIST, SDF_INDICES, indices, 3 * TRIANGLES, field, CELLS, names, CELLS,

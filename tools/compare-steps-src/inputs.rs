@@ -2,7 +2,7 @@
 //! what goes wrong there: bounds, rounding, equal and nearly equal corners, ties of the region tests, signed zeros.
 
 use crate::random::Random;
-use crate::steps::IN;
+use crate::steps::{IN, UPRIGHT};
 
 pub type Fill = fn(&mut Random, &mut [u32; IN]);
 
@@ -434,7 +434,26 @@ static SIDES: [Kind; 6] = [
     }),
 ];
 
-// The grids: first, size, counts, and a cell, an index or a point.
+// The grids: first, size, counts and the upright axis, and a cell, an index or a point behind them. The axis is no part of a kind (`upright`).
+
+/// Where the cell, the index or the point stands.
+const ASKED: usize = UPRIGHT + 1;
+
+/// An upright axis: mostly one of the three, once in eight none. It has random numbers of its own, so that the kinds stay as they were.
+pub fn upright(r: &mut Random) -> u32 {
+    if r.once_in(8) {
+        let any = r.next() as u32;
+        return r.pick(&[3, u32::MAX, 3, u32::MAX, 4, 255, 256, 1 << 31, any]);
+    }
+    r.below(3) as u32
+}
+
+/// Any words, but for the axis.
+fn any_words(r: &mut Random, w: &mut [u32; IN]) {
+    for word in (0..UPRIGHT).chain(ASKED..IN) {
+        w[word] = r.next() as u32;
+    }
+}
 
 /// Counts whose product is within the bound, and once in 16 any.
 fn counts(r: &mut Random, w: &mut [u32]) {
@@ -454,7 +473,7 @@ fn cells(r: &mut Random, w: &mut [u32; IN]) {
     for k in 0..3 {
         // Mostly below the count, at times the count itself or any number.
         let n = u64::from(w[6 + k]).max(1);
-        w[9 + k] = match r.below(40) {
+        w[ASKED + k] = match r.below(40) {
             0 => w[6 + k],
             1 => r.next() as u32,
             2..=8 => (n - 1) as u32,
@@ -464,7 +483,7 @@ fn cells(r: &mut Random, w: &mut [u32; IN]) {
     // A step that takes an index reads it from the first of the three.
     if r.once_in(2) {
         let total = u64::from(w[6]).wrapping_mul(u64::from(w[7])).wrapping_mul(u64::from(w[8])).clamp(1, 1 << 32);
-        w[9] = if r.once_in(20) { total as u32 } else { r.below(total) as u32 };
+        w[ASKED] = if r.once_in(20) { total as u32 } else { r.below(total) as u32 };
     }
 }
 
@@ -505,9 +524,7 @@ fn tank_grid(r: &mut Random, w: &mut [u32; IN]) {
 
 static GRID: [Kind; 5] = [
     kind("bits", |r, w| {
-        for word in &mut w[..12] {
-            *word = r.next() as u32;
-        }
+        any_words(r, w);
         if r.once_in(2) {
             cells(r, w);
         }
@@ -524,29 +541,25 @@ fn to_sides(r: &mut Random, w: &mut [u32; IN]) {
         let (first, size) = (real(w, k), real(w, 3 + k));
         let cell = r.below(u64::from(w[6 + k].min(1024)) + 3) as f32 - 1.0;
         let side = if r.once_in(2) { first - size * 0.5 + cell * size } else { first + (cell - 0.5) * size };
-        w[9 + k] = if r.once_in(2) { bits(side) } else { near(r, bits(side), 2) };
+        w[ASKED + k] = if r.once_in(2) { bits(side) } else { near(r, bits(side), 2) };
     }
 }
 
 fn to_box(r: &mut Random, w: &mut [u32; IN]) {
     for k in 0..3 {
         let (first, size, count) = (real(w, k), real(w, 3 + k), w[6 + k].min(1024) as f32);
-        w[9 + k] = bits(first + size * count * (r.unit() * 0.75 + 0.5));
+        w[ASKED + k] = bits(first + size * count * (r.unit() * 0.75 + 0.5));
     }
 }
 
 static SNAP: [Kind; 8] = [
     kind("bits", |r, w| {
         any_grid(r, w);
-        for word in &mut w[9..12] {
+        for word in &mut w[ASKED..] {
             *word = r.next() as u32;
         }
     }),
-    kind("random-grid", |r, w| {
-        for word in &mut w[..12] {
-            *word = r.next() as u32;
-        }
-    }),
+    kind("random-grid", any_words),
     kind("sides-whole", |r, w| {
         whole_grid(r, w);
         to_sides(r, w);
@@ -570,7 +583,7 @@ static SNAP: [Kind; 8] = [
     kind("ends", |r, w| {
         // Points at which the quotient is a NaN, an infinity or past 64 bits.
         grid_at_bounds(r, w);
-        for word in &mut w[9..12] {
+        for word in &mut w[ASKED..] {
             let ends = [0, 1, 0x7f7f_ffff, 0x7f80_0000, 0x7fc0_0000, bits(2_097_152.0), bits(1e19), bits(9.3e15)];
             *word = sign(r) | r.pick(&ends);
         }

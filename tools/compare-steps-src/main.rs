@@ -9,12 +9,12 @@ mod port;
 mod random;
 mod steps;
 
-use inputs::{kinds, Kind};
+use inputs::{kinds, upright, Kind};
 use port::PORT;
 use random::Random;
 use std::hint::black_box;
 use std::time::Instant;
-use steps::{bare_distance, bare_ray, bare_signed_distance, number, rust_ray, side, Step, IN, OUT, STEPS};
+use steps::{bare_distance, bare_ray, bare_signed_distance, number, rust_ray, side, Step, IN, OUT, STEPS, UPRIGHT};
 
 /// The answers met, by document 01's number.
 #[derive(Default)]
@@ -27,6 +27,8 @@ struct Met {
     /// Of signed distances, those that are -0, and those whose dot is a NaN.
     minus_zeros: u64,
     nan_dots: u64,
+    /// Of grids, those with each axis upright, and those with none, which are refused by 1.
+    upright: [u64; 4],
     refused: [u64; 7],
     differences: u64,
 }
@@ -39,7 +41,7 @@ impl Met {
         self.minus_zeros += other.minus_zeros;
         self.nan_dots += other.nan_dots;
         self.differences += other.differences;
-        for (sum, x) in self.refused.iter_mut().zip(other.refused) {
+        for (sum, x) in self.refused.iter_mut().chain(&mut self.upright).zip(other.refused.into_iter().chain(other.upright)) {
             *sum += x;
         }
     }
@@ -57,12 +59,16 @@ fn settled(step: &Step, mut out: [u32; OUT]) -> [u32; OUT] {
     out
 }
 
-fn hold(step: &Step, kind: &Kind, n: u64, r: &mut Random) -> Met {
+fn hold(step: &Step, kind: &Kind, n: u64, r: &mut Random, standing: &mut Random) -> Met {
     let ask = PORT[number(step.name)];
     let mut met = Met::default();
     let mut words = [0; IN];
     for _ in 0..n {
         (kind.fill)(r, &mut words);
+        if step.takes_grid() {
+            words[UPRIGHT] = upright(standing);
+            met.upright[words[UPRIGHT].min(3) as usize] += 1;
+        }
         let (mut owed, mut got) = ([0; OUT], [0; OUT]);
         (step.owed)(&words, &mut owed);
         ask(&words, &mut got);
@@ -107,11 +113,15 @@ fn compare(n: u64, seed: u64) -> u64 {
         let of = kinds(step.name);
         for (k, kind) in of.iter().enumerate() {
             let mut r = Random::new(seed ^ ((s as u64) << 40) ^ ((k as u64) << 48), 0);
-            let met = hold(step, kind, n, &mut r);
+            let met = hold(step, kind, n, &mut r, &mut Random::new(seed, k as u64));
             line(step.name, kind.name, n, &met);
             all.add(&met);
         }
         line(step.name, "(all)", n * of.len() as u64, &all);
+        if step.takes_grid() {
+            let [x, y, z, none] = all.upright;
+            println!("{x} of the grids have x upright, {y} have y, {z} have z; {none} say no axis, and are refused by 1");
+        }
         if step.name == "signed_distance" {
             println!("{} of the dots are exactly 0, {} distances are -0; {} dots are NaNs", all.grazed, all.minus_zeros, all.nan_dots);
         }

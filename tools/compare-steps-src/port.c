@@ -21,7 +21,9 @@ static uint32_t bits(float x) {
 
 #define POINT(k) (*(const sdf_point *)(in + (k)))
 #define CELL(k) (*(const sdf_cell *)(in + (k)))
+/* First, size, counts and the upright axis. */
 #define GRID (*(const sdf_grid *)in)
+_Static_assert(sizeof(sdf_grid) == 10 * sizeof(uint32_t), "a grid is ten words");
 #define PORT(name) void port_##name(const uint32_t *in, uint32_t *out)
 #define ANSWER(type) *(sdf_##type##_answer *)out
 
@@ -44,8 +46,8 @@ PORT(grid_size) { ANSWER(point) = sdf_grid_size(GRID); }
 PORT(grid_counts) { ANSWER(cell) = sdf_grid_counts(GRID); }
 PORT(grid_total) { ANSWER(number) = sdf_grid_total(GRID); }
 PORT(grid_box) { ANSWER(box) = sdf_grid_box(GRID); }
-PORT(grid_index) { ANSWER(number) = sdf_grid_index(GRID, CELL(9)); }
-PORT(grid_coordinates) { ANSWER(cell) = sdf_grid_coordinates(GRID, in[9]); }
-PORT(grid_centre) { ANSWER(point) = sdf_grid_centre(GRID, CELL(9)); }
-PORT(grid_snap) { ANSWER(snap) = sdf_grid_snap(GRID, POINT(9)); }
+PORT(grid_index) { ANSWER(number) = sdf_grid_index(GRID, CELL(10)); }
+PORT(grid_coordinates) { ANSWER(cell) = sdf_grid_coordinates(GRID, in[10]); }
+PORT(grid_centre) { ANSWER(point) = sdf_grid_centre(GRID, CELL(10)); }
+PORT(grid_snap) { ANSWER(snap) = sdf_grid_snap(GRID, POINT(10)); }
 PORT(grid_from_box) { ANSWER(grid) = sdf_grid_from_bounding_box(POINT(0), POINT(3), CELL(6)); }

@@ -13,16 +13,19 @@ mod steps;
 use inputs::{common, kinds, special};
 use model::geometry::Reply;
 use random::Random;
-use steps::{number, plain_ray, point, side, IN, OUT, STEPS};
+use steps::{number, plain_ray, point, side, IN, OUT, STEPS, UPRIGHT};
 
-/// How many cases of each step, in the order of the steps. Those of a signed distance are chosen one by one (`sides`).
+/// How many cases of each step are drawn, in the order of the steps. Those of a signed distance are chosen one by one (`sides`).
 const CASES: [usize; STEPS.len()] = [20, 20, 42, 17, 34, 51, 51, 51, 5, 10, 5, 5, 5, 10, 15, 15, 15, 48, 16, 0];
+/// How many of a step are printed at most, since the program that replays them reads 65,536 bytes: the last of the most numerous are left out.
+const MOST: usize = 44;
 
 /// Document 01's points, "Points on each side".
 fn marked() -> Vec<(&'static str, Vec<f32>, Vec<u32>)> {
     let triangle = [0., 0., 0., 4., 0., 0., 0., 4., 0.];
     let to_triangle = |p: [f32; 3]| [&p[..], &triangle[..]].concat();
-    let four_cells = |x: f32| (vec![0.5, 0.5, 0.5, 1., 1., 1.], vec![4, 1, 1], vec![x, 0.5, 0.5]);
+    // Four cells along x, with z upright.
+    let four_cells = |x: f32| (vec![0.5, 0.5, 0.5, 1., 1., 1.], vec![4, 1, 1, 2], vec![x, 0.5, 0.5]);
     let mut cases = vec![
         ("sqrt", vec![2.0], vec![]),
         ("sqrt_bits", vec![f32::from_bits(1)], vec![]),
@@ -37,7 +40,7 @@ fn marked() -> Vec<(&'static str, Vec<f32>, Vec<u32>)> {
     ];
     for x in [0.0, 4.0, -0.25] {
         let (grid, counts, point) = four_cells(x);
-        // The counts stand between the grid's floats and the point's.
+        // The counts and the axis stand between the grid's floats and the point's.
         let bits: Vec<u32> = point.iter().map(|x: &f32| x.to_bits()).collect();
         cases.push(("grid_snap", grid, [counts, bits].concat()));
     }
@@ -79,17 +82,42 @@ fn main() {
         for case in 0..n {
             // Two of three are to be telling, where their kind has such cases; the others are as they come.
             let mut words = [0; IN];
+            if STEPS[s].takes_grid() {
+                // Not in step with what is telling.
+                words[UPRIGHT] = (case + case / 3) as u32 % 3;
+            }
             for _ in 0..1000 {
                 (of[case % of.len()].fill)(&mut r, &mut words);
                 if case % 3 == 2 || telling(s, &words) {
                     break;
                 }
             }
-            print(s, &words);
+            if case < MOST {
+                print(s, &words);
+            }
         }
     }
     grazing(&mut Random::new(seed + 3, 0));
     sides(&mut Random::new(seed + 8, 0));
+    no_axis(&mut Random::new(seed + 9, 0));
+}
+
+/// Every question of a grid that says an axis which is none (document 02, §9), though it would have an answer with x, y or z: 3, and the largest
+/// number.
+fn no_axis(r: &mut Random) {
+    for upright in [3, u32::MAX] {
+        for (s, step) in STEPS.iter().enumerate().filter(|(_, step)| step.takes_grid()) {
+            let of = common(step.name);
+            let kind = of.iter().find(|k| ["tank", "box"].contains(&k.name)).expect("a kind's name");
+            let mut words = [0; IN];
+            (kind.fill)(r, &mut words);
+            while !telling(s, &words) {
+                (kind.fill)(r, &mut words);
+            }
+            words[UPRIGHT] = upright;
+            print(s, &words);
+        }
+    }
 }
 
 /// The words of an input: floats, and what follows them.

@@ -9,7 +9,10 @@ pub type P = [f32; 3];
 
 /// The most words that go in, and that come out.
 pub const IN: usize = 13;
-pub const OUT: usize = 10;
+pub const OUT: usize = 11;
+
+/// Where a grid has its upright axis, behind first, size and counts (document 02, §9); what else a question takes comes after it.
+pub const UPRIGHT: usize = 9;
 
 pub type Ask = fn(&[u32], &mut [u32]);
 
@@ -35,25 +38,32 @@ pub const STEPS: [Step; 20] = [
     step("triangle", 12, 4, triangle),
     step("distance", 12, 2, distance),
     step("ray", 13, 4, ray),
-    step("grid_first", 9, 4, |i, o| of_grid(i, o, |g, o| put(o, &g.get_first_cell()))),
-    step("grid_last", 9, 4, |i, o| of_grid(i, o, |g, o| put(o, &g.get_last_cell()))),
-    step("grid_size", 9, 4, |i, o| of_grid(i, o, |g, o| put(o, &g.get_cell_size()))),
-    step("grid_counts", 9, 4, |i, o| of_grid(i, o, |g, o| put_cell(o, g.get_cell_count()))),
-    step("grid_total", 9, 2, |i, o| of_grid(i, o, |g, o| o[0] = g.get_total_cell_count() as u32)),
-    step("grid_box", 9, 7, |i, o| {
+    step("grid_first", 10, 4, |i, o| of_grid(i, o, |g, o| put(o, &g.get_first_cell()))),
+    step("grid_last", 10, 4, |i, o| of_grid(i, o, |g, o| put(o, &g.get_last_cell()))),
+    step("grid_size", 10, 4, |i, o| of_grid(i, o, |g, o| put(o, &g.get_cell_size()))),
+    step("grid_counts", 10, 4, |i, o| of_grid(i, o, |g, o| put_cell(o, g.get_cell_count()))),
+    step("grid_total", 10, 2, |i, o| of_grid(i, o, |g, o| o[0] = g.get_total_cell_count() as u32)),
+    step("grid_box", 10, 7, |i, o| {
         of_grid(i, o, |g, o| {
             let (low, high) = g.get_bounding_box();
             put(o, &low);
             put(&mut o[3..], &high);
         })
     }),
-    step("grid_index", 12, 2, |i, o| of_cell(i, o, |g, at, o| o[0] = g.get_cell_idx(&at) as u32)),
-    step("grid_coordinates", 10, 4, grid_coordinates),
-    step("grid_centre", 12, 4, |i, o| of_cell(i, o, |g, at, o| put(o, &g.get_cell_center(&at)))),
-    step("grid_snap", 12, 5, grid_snap),
-    step("grid_from_box", 9, 10, grid_from_box),
+    step("grid_index", 13, 2, |i, o| of_cell(i, o, |g, at, o| o[0] = g.get_cell_idx(&at) as u32)),
+    step("grid_coordinates", 11, 4, grid_coordinates),
+    step("grid_centre", 13, 4, |i, o| of_cell(i, o, |g, at, o| put(o, &g.get_cell_center(&at)))),
+    step("grid_snap", 13, 5, grid_snap),
+    step("grid_from_box", 9, 11, grid_from_box),
     step("signed_distance", 12, 2, signed_distance),
 ];
+
+impl Step {
+    /// Whether it takes a grid.
+    pub fn takes_grid(&self) -> bool {
+        self.name.starts_with("grid") && self.name != "grid_from_box"
+    }
+}
 
 /// Which step has a name.
 pub fn number(name: &str) -> usize {
@@ -97,12 +107,14 @@ fn grid_in_bounds(words: &[u32]) -> bool {
         && words[3..6].iter().all(|&w| real(w) >= 1.0 / 1024.0 && real(w) <= 1024.0)
         && counts.iter().all(|&n| (1..=1024).contains(&n))
         && counts.iter().map(|&n| u64::from(n)).product::<u64>() <= 1_048_576
+        && words[UPRIGHT] <= 2
 }
 
 fn counts(words: &[u32]) -> [usize; 3] {
     [words[0] as usize, words[1] as usize, words[2] as usize]
 }
 
+/// The Rust's grid, which has no upright axis: no answer depends on it.
 fn grid(words: &[u32]) -> Grid<P> {
     Grid::new(point(words), point(&words[3..]), counts(&words[6..]))
 }
@@ -239,20 +251,20 @@ fn of_grid(i: &[u32], o: &mut [u32], ask: fn(Grid<P>, &mut [u32])) {
 fn of_cell(i: &[u32], o: &mut [u32], ask: fn(Grid<P>, [usize; 3], &mut [u32])) {
     if !grid_in_bounds(i) {
         o[0] = 1;
-    } else if (0..3).any(|k| i[9 + k] >= i[6 + k]) {
+    } else if (0..3).any(|k| i[10 + k] >= i[6 + k]) {
         o[0] = 4;
     } else {
-        ask(grid(i), counts(&i[9..]), &mut o[1..]);
+        ask(grid(i), counts(&i[10..]), &mut o[1..]);
     }
 }
 
 fn grid_coordinates(i: &[u32], o: &mut [u32]) {
     if !grid_in_bounds(i) {
         o[0] = 1;
-    } else if i[9] >= i[6] * i[7] * i[8] {
+    } else if i[10] >= i[6] * i[7] * i[8] {
         o[0] = 4;
     } else {
-        put_cell(&mut o[1..], grid(i).get_cell_integer_coordinates(i[9] as usize));
+        put_cell(&mut o[1..], grid(i).get_cell_integer_coordinates(i[10] as usize));
     }
 }
 
@@ -261,7 +273,7 @@ fn grid_snap(i: &[u32], o: &mut [u32]) {
         o[0] = 1;
         return;
     }
-    let (inside, cell) = match grid(i).snap_point_to_grid(&point(&i[9..])) {
+    let (inside, cell) = match grid(i).snap_point_to_grid(&point(&i[10..])) {
         SnapResult::Inside(cell) => (1, cell),
         SnapResult::Outside(cell) => (0, cell),
     };
@@ -271,12 +283,14 @@ fn grid_snap(i: &[u32], o: &mut [u32]) {
 
 fn grid_from_box(i: &[u32], o: &mut [u32]) {
     let made = Grid::from_bounding_box(&point(i), &point(&i[3..]), counts(&i[6..]));
-    let mut words = [0; 9];
+    let mut words = [0; 10];
     put(&mut words, &made.get_first_cell());
     put(&mut words[3..], &made.get_cell_size());
-    words[6..].copy_from_slice(&i[6..9]);
+    words[6..9].copy_from_slice(&i[6..9]);
+    // It is made with z upright.
+    words[UPRIGHT] = 2;
     if grid_in_bounds(&words) {
-        o[1..10].copy_from_slice(&words);
+        o[1..11].copy_from_slice(&words);
     } else {
         o[0] = 1;
     }

@@ -82,8 +82,51 @@ pub const SIGNS: [(&str, &str); 32] = [
     ("\nsign=normal", "vertices="),
 ];
 
-pub fn damage_sign((spelling, place): (&str, &str), text: &str) -> Vec<u8> {
-    let mut lines: Vec<&str> = text.lines().filter(|line| *line != "sign=normal").collect();
+/// The same of the line `upright=` (document 02, §9), whose own place is before "topology=". In it `upright=x`, `y` and `z` alone are a job's.
+pub const UPRIGHTS: [(&str, &str); 38] = [
+    ("upright=w", "topology="),
+    ("upright=x", "vertices="),
+    ("upright=", "topology="),
+    ("upright=X", "topology="),
+    ("upright=x\nupright=x", "topology="),
+    ("upright=y", "size="),
+    ("upright=2", "topology="),
+    ("upright=z\nupright=z", "topology="),
+    ("upright=z", "vertices="),
+    ("upright=y", ""),
+    ("upright=x\nupright=z", "topology="),
+    ("upright=xy", "topology="),
+    ("upright=z", "first="),
+    ("upright=y ", "topology="),
+    ("upright=3", "topology="),
+    ("upright=x", "sign="),
+    (" upright=y", "topology="),
+    ("upright=z", "size="),
+    ("upright= x", "topology="),
+    ("upright=y\r", "topology="),
+    ("upright", "topology="),
+    ("upright=x", "count="),
+    ("x", "topology="),
+    ("upright:y", "topology="),
+    ("upright=z", ""),
+    ("upright==y", "topology="),
+    ("uprights=x", "topology="),
+    ("Upright=y", "topology="),
+    ("UPRIGHT=X", "topology="),
+    ("upright=x", "v="),
+    ("upright=none", "topology="),
+    ("upright=x y z", "topology="),
+    ("upright=y", "indices="),
+    ("\nupright=x", "topology="),
+    ("upright=y", "queue="),
+    ("upright=-x", "topology="),
+    ("upright=x", "pops="),
+    ("upright=0", "topology="),
+];
+
+/// The text with another spelling for the line of this key, in another place or in its own.
+pub fn damage_line(key: &str, (spelling, place): (&str, &str), text: &str) -> Vec<u8> {
+    let mut lines: Vec<&str> = text.lines().filter(|line| !line.starts_with(key)).collect();
     let found = lines.iter().position(|line| !place.is_empty() && line.starts_with(place));
     lines.insert(found.unwrap_or(lines.len()), spelling);
     (lines.join("\n") + "\n").into_bytes()
@@ -148,7 +191,8 @@ pub fn damage(way: &str, text: &str, r: &mut Random) -> Vec<u8> {
         }
         "no-value" => lines[at] = format!("{}=", value(&lines[at]).0),
         "other-topology" => {
-            lines[3] = format!("topology={}", r.pick(&["fan", "List", "lists", "stri", "", "list strip"]))
+            let line = lines.iter().position(|l| l.starts_with("topology=")).unwrap();
+            lines[line] = format!("topology={}", r.pick(&["fan", "List", "lists", "stri", "", "list strip"]));
         }
         "upper-key" => lines[at] = lines[at].replacen(|c: char| c.is_ascii_lowercase(), "V", 1),
         "no-equals" => lines[at] = lines[at].replacen('=', r.pick(&[" ", ":", "", "=="]), 1),

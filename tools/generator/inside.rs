@@ -70,6 +70,11 @@ pub fn ends(grid: &Grid, r: &mut Random) -> ([f64; 3], [f64; 3]) {
 /// beyond it, as a tank's skirt below its floor: the layer is inside, −0.
 fn plane_inside(r: &mut Random, axis: usize) -> Job {
     let grid = roomy_grid(r);
+    plane_in(grid, axis, r)
+}
+
+/// The same in this grid.
+pub fn plane_in(grid: Grid, axis: usize, r: &mut Random) -> Job {
     let (mut low, mut high) = ends(&grid, r);
     let layer = f64::from(r.between(0, grid.count[axis] - 1));
     let mut mesh = if r.once_in(3) {
@@ -217,7 +222,7 @@ pub fn grazing_zeros(r: &mut Random) -> Job {
     loop {
         // The middle cell of three on each axis, or the second of four, has its centre at 0.
         let size = [0; 3].map(|_| r.pick(&[0.25, 0.5, 1.0, 2.0]));
-        let grid = Grid { first: size.map(|s: f32| -s), size, count: [0; 3].map(|_| r.between(3, 4)) };
+        let grid = Grid { first: size.map(|s: f32| -s), size, count: [0; 3].map(|_| r.between(3, 4)), upright: None };
         // In cells from there, across the axis; along it, anywhere in halves.
         let mut along = || f64::from(r.between(0, 4)) * 0.5;
         let mut corner = |at_y: i32, at_z: i32| {
@@ -258,37 +263,47 @@ fn long_tank(r: &mut Random, axis: usize) -> Job {
     let mut grid = grid(r);
     grid.count = [0; 3].map(|_| r.between(2, 4));
     grid.count[axis] = r.between(12, 30);
-    // Upright first, then turned: x, y, z go round until z is the axis.
+    let mesh = tank_along(&grid, axis, 0.9, r);
+    job(grid, &mesh, r)
+}
+
+/// A closed tank within the grid's box, with its own axis along this one and no wider than so many cells each way; its blanking plate on or off.
+pub fn tank_along(grid: &Grid, axis: usize, widest: f64, r: &mut Random) -> Mesh {
+    // Standing first, then turned: x, y, z go round until z is the axis.
     let turned = [(axis + 1) % 3, (axis + 2) % 3, axis];
-    let upright = Grid { count: turned.map(|a| grid.count[a]), ..grid.clone() };
-    let (middle, half) = body(&upright, r);
+    let standing = Grid { count: turned.map(|a| grid.count[a]), ..grid.clone() };
+    let (middle, half) = body(&standing, r);
     let plate = !r.once_in(3);
-    let mut mesh = shapes::tank(middle, half[0].min(half[1]).min(0.9), half[2], r.between(3, 12), plate);
+    let mut mesh = shapes::tank(middle, half[0].min(half[1]).min(widest), half[2], r.between(3, 12), plate);
     for v in &mut mesh.vertices {
         let mut at = [0.0; 3];
         for (from, to) in turned.into_iter().enumerate() {
             at[to] = v[from];
         }
-        *v = [0, 1, 2].map(|a| within(&grid, a, at[a]));
+        *v = [0, 1, 2].map(|a| within(grid, a, at[a]));
     }
-    job(grid, &mesh, r)
+    mesh
 }
 
 /// A closed tank or a box within the grid.
 pub fn hull(r: &mut Random) -> (Grid, Mesh) {
     let grid = roomy_grid(r);
-    let mesh = if r.once_in(2) {
-        let (low, high) = ends(&grid, r);
-        shapes::cuboid(low, high)
-    } else {
-        let (middle, half) = body(&grid, r);
-        let mut mesh = shapes::tank(middle, half[0].min(half[1]), half[2], r.between(3, 8), true);
-        for v in &mut mesh.vertices {
-            *v = [0, 1, 2].map(|axis| within(&grid, axis, v[axis]));
-        }
-        mesh
-    };
+    let mesh = hull_in(&grid, r);
     (grid, mesh)
+}
+
+/// The same in this grid.
+pub fn hull_in(grid: &Grid, r: &mut Random) -> Mesh {
+    if r.once_in(2) {
+        let (low, high) = ends(grid, r);
+        return shapes::cuboid(low, high);
+    }
+    let (middle, half) = body(grid, r);
+    let mut mesh = shapes::tank(middle, half[0].min(half[1]), half[2], r.between(3, 8), true);
+    for v in &mut mesh.vertices {
+        *v = [0, 1, 2].map(|axis| within(grid, axis, v[axis]));
+    }
+    mesh
 }
 
 /// Each facet with three corners of its own and no indices, as a scanner's file has them.
@@ -405,7 +420,7 @@ pub fn queue_order(r: &mut Random) -> Job {
         ),
     ]);
     Job {
-        grid: Grid { first: [0.0; 3], size: [f32::from_bits(size); 3], count },
+        grid: Grid { first: [0.0; 3], size: [f32::from_bits(size); 3], count, upright: None },
         topology: Topology::List,
         sign: SignMethod::Raycast,
         vertices: corners.map(|corner| corner.map(f32::from_bits)).to_vec(),

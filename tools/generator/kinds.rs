@@ -7,6 +7,7 @@ use crate::off_grid;
 use crate::old;
 use crate::random::Random;
 use crate::shapes::{self, Mesh};
+use crate::upright;
 use model::grid::Grid;
 use model::topology::Topology;
 use model::{bounds, convert, text, Job, SignMethod};
@@ -134,6 +135,7 @@ pub fn of_set(set: Option<&str>) -> Vec<&'static str> {
         Some("old") => names(&old::KINDS).collect(),
         Some("long") => names(&old::LONG).collect(),
         Some("normal") => names(&normal::KINDS).collect(),
+        Some("upright") => names(&upright::KINDS).collect(),
         _ => names(&BASE).chain(names(&inside::KINDS)).chain(names(&off_grid::KINDS)).collect(),
     }
 }
@@ -147,7 +149,7 @@ pub fn of_set(set: Option<&str>) -> Vec<&'static str> {
 pub fn make(kind: &str, r: &mut Random) -> Option<Vec<u8>> {
     let make = find(kind)?;
     let first = draw(kind, make, r);
-    let lists = [&OFF_GRID[..], &normal::OFF_GRID].concat();
+    let lists = [&OFF_GRID[..], &normal::OFF_GRID, &upright::OFF_GRID].concat();
     let by_design = lists.contains(&kind) || off_grid::KINDS.iter().any(|(name, _)| *name == kind);
     let limits = !kind.starts_with("large-");
     if by_design || !refused_by_10(&first, limits) || r.once_in(4) {
@@ -159,7 +161,7 @@ pub fn make(kind: &str, r: &mut Random) -> Option<Vec<u8>> {
 
 /// The kind of this name, of any set.
 pub fn find(kind: &str) -> Option<Make> {
-    let later = old::KINDS.iter().chain(&old::LONG).chain(&normal::KINDS).chain(&normal::ALONE);
+    let later = old::KINDS.iter().chain(&old::LONG).chain(&normal::KINDS).chain(&normal::ALONE).chain(&upright::KINDS).chain(&upright::ALONE);
     let mut all = BASE.iter().chain(&inside::KINDS).chain(&off_grid::KINDS).chain(&ALONE).chain(later);
     all.find(|(name, _)| *name == kind).map(|(_, make)| *make)
 }
@@ -180,8 +182,9 @@ fn draw(kind: &str, make: Make, r: &mut Random) -> Vec<u8> {
     let text = text::write(&make(r));
     match kind {
         // Each pair begins at different ways, so that together they show all of them sooner.
-        "damaged" | "damaged-strip" | "damaged-normal" => damage::damage(r.turn(&damage::WAYS), &text, r),
-        "damaged-sign" | "damaged-strip-sign" => damage::damage_sign(r.turn(&damage::SIGNS), &text),
+        "damaged" | "damaged-strip" | "damaged-normal" | "damaged-upright" => damage::damage(r.turn(&damage::WAYS), &text, r),
+        "damaged-sign" | "damaged-strip-sign" => damage::damage_line("sign=", r.turn(&damage::SIGNS), &text),
+        "damaged-upright-line" | "damaged-strip-upright-line" => damage::damage_line("upright=", r.turn(&damage::UPRIGHTS), &text),
         "damaged-small" | "damaged-strip-no-indices" => {
             let mut ways = damage::WAYS;
             ways.rotate_left(damage::WAYS.len() / 2);
@@ -218,7 +221,7 @@ pub fn grid(r: &mut Random) -> Grid {
         4 => ([0; 3].map(|_| r.unit() * 100.0), [0; 3].map(|_| 0.05 + r.unit().abs() * 3.0)),
         _ => ([0; 3].map(|_| r.unit() * 1000.0), [0; 3].map(|_| r.unit().abs() * 20.0 + 0.01)),
     };
-    Grid { first, size, count }
+    Grid { first, size, count, upright: None }
 }
 
 fn span(grid: &Grid) -> [f64; 3] {
@@ -674,7 +677,7 @@ fn underflow_in_spreading(r: &mut Random) -> Job {
     let mut job = one_triangle(r);
     let plane = r.pick(&[[0, 1, 2], [1, 2, 0], [2, 0, 1]]);
     let [x, y, z] = plane;
-    job.grid = Grid { first: [0.0; 3], size: [1.0; 3], count: [1; 3] };
+    job.grid = Grid { first: [0.0; 3], size: [1.0; 3], count: [1; 3], upright: None };
     job.grid.count[x] = r.between(2, 9);
     job.grid.count[y] = r.between(2, 5);
     job.grid.count[z] = r.between(1, 3);
@@ -1026,7 +1029,7 @@ fn large_numbers(r: &mut Random) -> Job {
 /// The listing, and the jobs of "Points on each side".
 fn document_01(r: &mut Random) -> Job {
     let mut job = Job {
-        grid: Grid { first: [1.0; 3], size: [1.0, 1.0, 2.0], count: [1; 3] },
+        grid: Grid { first: [1.0; 3], size: [1.0, 1.0, 2.0], count: [1; 3], upright: None },
         topology: Topology::List,
         sign: SignMethod::Raycast,
         vertices: vec![[0.0; 3], [4.0, 0.0, 0.0], [0.0, 4.0, 0.0]],

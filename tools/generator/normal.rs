@@ -96,7 +96,7 @@ fn counts(r: &mut Random) -> [u32; 3] {
 }
 
 /// A job with room for all entries.
-fn roomy(grid: Grid, mesh: &Mesh, r: &mut Random) -> Job {
+pub fn roomy(grid: Grid, mesh: &Mesh, r: &mut Random) -> Job {
     normal(Job { queue: 2_048, ..job(grid, mesh, r) })
 }
 
@@ -107,7 +107,7 @@ fn turn_round(triangle: &mut [u32; 3]) {
 // Open decks.
 
 /// How high a deck lies at a place of the unit square, in cells.
-type Height = fn(f64, &mut Random) -> Box<dyn Fn([f64; 2]) -> f64>;
+pub type Height = fn(f64, &mut Random) -> Box<dyn Fn([f64; 2]) -> f64>;
 
 /// A level within so many cells: that of a layer of centres, halfway between two, or any.
 fn level(cells: f64, r: &mut Random) -> f64 {
@@ -119,13 +119,13 @@ fn level(cells: f64, r: &mut Random) -> f64 {
     }
 }
 
-fn flat(cells: f64, r: &mut Random) -> Box<dyn Fn([f64; 2]) -> f64> {
+pub fn flat(cells: f64, r: &mut Random) -> Box<dyn Fn([f64; 2]) -> f64> {
     let level = level(cells, r);
     Box::new(move |_| level)
 }
 
 /// Up along one side of the square and down along the other.
-fn wavy(cells: f64, r: &mut Random) -> Box<dyn Fn([f64; 2]) -> f64> {
+pub fn wavy(cells: f64, r: &mut Random) -> Box<dyn Fn([f64; 2]) -> f64> {
     let (level, swell) = (level(cells, r), f64::from(r.pick(&[0.05, 0.2, 0.6_f32])));
     Box::new(move |[s, t]| level + 4.0 * swell * (s * (1.0 - s) - t * (1.0 - t)))
 }
@@ -149,7 +149,7 @@ fn up(r: &mut Random) -> usize {
 
 /// A sheet across the axis, of panels of two facets each that look up along it. With a rim there are walls along its edge, so many cells up or
 /// down, that look outwards. Once in four all of it looks the other way, and once in four a single facet does.
-fn sheet(grid: &Grid, axis: usize, height: Height, rim: Option<f64>, r: &mut Random) -> Mesh {
+pub fn sheet(grid: &Grid, axis: usize, height: Height, rim: Option<f64>, r: &mut Random) -> Mesh {
     let (u, v) = ((axis + 1) % 3, (axis + 2) % 3);
     let (low, high) = plan(grid, r);
     let height = height(f64::from(grid.count[axis]), r);
@@ -248,7 +248,7 @@ fn layer_at_zero(axis: usize, size: f32, r: &mut Random) -> Grid {
     count[axis] = 1;
     let mut first = [0; 3].map(|_| r.between(0, 4) as f32 * 0.5 * size);
     first[axis] = 0.0;
-    Grid { first, size: [size; 3], count }
+    Grid { first, size: [size; 3], count, upright: None }
 }
 
 /// Plates right across the grid at these places along the axis, each of two facets that look up along it, or down.
@@ -476,22 +476,28 @@ fn refused(r: &mut Random) -> Job {
     let mut job = deck(r, flat, None);
     let axis = r.below(3) as usize;
     for number in numbers {
-        match number {
-            1 => job.grid.size[axis] = r.pick(&[0.0, -1.0, f32::NAN, 1_024.5]),
-            2 => job.vertices[1][axis] = f32::from_bits(r.pick(&BEYOND)),
-            13 => job.topology = Topology::Strip,
-            4 => indices_of(&mut job)[2] = u32::MAX,
-            10 => {
-                let out = ladder(&job.grid, axis, r);
-                let n = job.vertices.len() as u32;
-                job.vertices.extend(out);
-                indices_of(&mut job).extend([n, n + 1, n + 2]);
-            }
-            7 => job.queue = 0,
-            _ => job.pops = 0,
-        }
+        refuse_by(number, &mut job, axis, r);
     }
     job
+}
+
+/// Makes a list with indices one that is refused by this number, 1, 2, 13, 4, 10, 7 or 8, unless it is by another that comes before. What has a
+/// place on an axis has it on this one.
+pub fn refuse_by(number: u32, job: &mut Job, axis: usize, r: &mut Random) {
+    match number {
+        1 => job.grid.size[axis] = r.pick(&[0.0, -1.0, f32::NAN, 1_024.5]),
+        2 => job.vertices[1][axis] = f32::from_bits(r.pick(&BEYOND)),
+        13 => job.topology = Topology::Strip,
+        4 => indices_of(job)[2] = u32::MAX,
+        10 => {
+            let out = ladder(&job.grid, axis, r);
+            let n = job.vertices.len() as u32;
+            job.vertices.extend(out);
+            indices_of(job).extend([n, n + 1, n + 2]);
+        }
+        7 => job.queue = 0,
+        _ => job.pops = 0,
+    }
 }
 
 /// A facet a cell beyond the grid's box along the axis.

@@ -39,6 +39,11 @@ impl Random {
         choices[(self.number % choices.len() as u64) as usize]
     }
 
+    /// How many jobs of the kind came before.
+    pub fn number(&self) -> u64 {
+        self.number
+    }
+
     /// True once in n times.
     pub fn once_in(&mut self, n: u64) -> bool {
         self.below(n) == 0

@@ -1,8 +1,10 @@
-//! bench [ROUNDS [EDGE [WORD]]]: the library and the Rust on the same jobs in one run, turn by turn, on one thread each, with Raycast signs and
+//! bench [ROUNDS [EDGE [WORD [UPRIGHT]]]]: the library and the Rust on the same jobs in one run, turn by turn, on one thread each, with Raycast signs and
 //! with Normal ones; for these the Rust has the queue's order of document 02, §8, put in. Prints for each workload and size the least time of
 //! each part over the rounds (5; at most three for the largest size), in milliseconds of the processor's time, the ratios, and how many
 //! entries were taken and waited. Sizes above EDGE (100) are left out, and with WORD all workloads that have it neither in their name nor
-//! in their counts, as 1024; `raycast` and `normal` are the workloads with these signs.
+//! in their counts, as 1024; `raycast` and `normal` are the workloads with these signs. z is upright, or with UPRIGHT `x` or `y` that axis:
+//! the rows run along it (document 02, §9), and nothing else depends on it. With `rows` as the WORD the rows alone are timed, with x, y and z
+//! upright in turn.
 //!
 //! The Rust's parts are what its own log lines say. The library has one call for a whole job. Its crossings are timed from
 //! when their counts are cleared (clock.c) to the end of the call, so the signs and the rows stand in them. Seeding and
@@ -13,6 +15,8 @@
 //! The crossings are timed by both passes, in turn. `adding` is what each spends beyond one store for each hit. The quick pass
 //! sums back, which takes as long whatever the counts hold: that is its time less the plain one's on the same grid with no
 //! triangle. The plain pass takes this and what it takes longer for the job's crossings.
+//!
+//! The rows come last, and are timed as the crossings are, from when they are cleared to the end of the call. The Rust has none.
 //!
 //! With Normal signs neither has crossings. What the library still does there, clearing their counts and counting the rows, stands in the whole
 //! alone.
@@ -29,6 +33,8 @@ mod rust;
 mod shapes;
 mod workloads;
 
+use clock::Times;
+use model::grid::Grid;
 use model::topology::triangles;
 use model::{Job, SignMethod};
 use port::{ask, ask_with_room, Answer, By, Lent};
@@ -43,7 +49,7 @@ const PASSES: [By; 2] = [By { records: false, quick: false }, TAKEN];
 const TAKEN: By = By { records: false, quick: true };
 
 /// Milliseconds of the three parts and the whole.
-type Times = [f64; 4];
+type Parts = [f64; 4];
 
 /// The milliseconds of a call that ends before the crossings.
 fn cut_short(job: &Job, lent: &mut Lent, limit: u32) -> f64 {
@@ -54,10 +60,10 @@ fn cut_short(job: &Job, lent: &mut Lent, limit: u32) -> f64 {
     time
 }
 
-/// The milliseconds of the crossings and of the whole.
-fn whole(job: &Job, lent: &mut Lent, by: By) -> [f64; 2] {
+/// The milliseconds of a call that comes to its end.
+fn whole(job: &Job, lent: &mut Lent, by: By) -> Times {
     let mut answer = Answer::default();
-    let times = clock::timed(lent.crossings.as_ptr(), || answer = ask(job, lent, u32::MAX, by));
+    let times = clock::timed(lent.crossings.as_ptr(), lent.rows.as_ptr(), || answer = ask(job, lent, u32::MAX, by));
     assert_eq!(answer.number, 0, "the answer by {by:?}");
     times
 }
@@ -70,7 +76,7 @@ fn whole_without_rays(job: &Job, lent: &mut Lent, by: By) -> f64 {
     time
 }
 
-fn theirs(job: &Job) -> Times {
+fn theirs(job: &Job) -> Parts {
     let begin = Instant::now();
     let answer = rust::run(job).expect("the Rust runs through");
     let whole = begin.elapsed().as_secs_f64() * 1e3;
@@ -81,13 +87,15 @@ fn main() {
     let number = |at: usize| std::env::args().nth(at).and_then(|a| a.parse().ok());
     let (rounds, largest) = (number(1).unwrap_or(5), number(2).unwrap_or(100));
     let word = std::env::args().nth(3).unwrap_or_default();
-    // Which signs are asked for, and what is left of the word.
+    let upright = workloads::upright(std::env::args().nth(4).as_deref());
+    // What is asked for, and what is left of the word.
     let (with_raycast, with_normal, word) = match word.as_str() {
         "raycast" => (true, false, ""),
         "normal" => (false, true, ""),
+        "rows" => (false, false, ""),
         word => (true, true, word),
     };
-    let chosen = || workloads::all(largest).filter(|w| w.name.contains(word) || w.counts().contains(word));
+    let chosen = || workloads::all(largest).filter(|w| w.name.contains(word) || w.counts().contains(word)).map(|w| w.standing(upright));
     mesh_oracle::begin();
     println!("load before: {}", load());
     if with_raycast {
@@ -95,6 +103,9 @@ fn main() {
     }
     if with_normal {
         normal(chosen(), rounds);
+    }
+    if !with_raycast && !with_normal {
+        rows(chosen(), rounds);
     }
     println!("load after: {}", load());
 }
@@ -150,18 +161,19 @@ fn raycast(workloads: impl Iterator<Item = Workload>, rounds: u32) {
         for round in 0..rounds_of(&workload, rounds) {
             least(&mut seeded, cut_short(job, &mut lent, 0));
             least(&mut spread, cut_short(job, &mut lent, answer.pops - 1));
-            leasts(&mut taken, whole(job, &mut lent, TAKEN));
+            let times = whole(job, &mut lent, TAKEN);
+            leasts(&mut taken, [times.crossings, times.whole]);
             // More turns where a call is short. Each pass goes first half the time.
             for turn in 0..2 * (20_000 / workload.edge.pow(2)) {
                 let pass = ((round + turn / 2 + turn) % 2) as usize;
-                least(&mut passes[pass], whole(job, &mut lent, PASSES[pass])[0]);
+                least(&mut passes[pass], whole(job, &mut lent, PASSES[pass]).crossings);
                 for _ in 0..3 {
-                    least(&mut bares[pass], whole(&bare, &mut lent, PASSES[pass])[0]);
+                    least(&mut bares[pass], whole(&bare, &mut lent, PASSES[pass]).crossings);
                 }
             }
             leasts(&mut b, theirs(job));
             // What makes the row of the three lists, and back, is counted too.
-            least(&mut records, whole(job, &mut lent, By { records: true, ..TAKEN })[1]);
+            least(&mut records, whole(job, &mut lent, By { records: true, ..TAKEN }).whole);
         }
         let a = [seeded, spread - seeded, taken[0], taken[1]];
         tell(&workload, "", answer);
@@ -220,6 +232,29 @@ fn normal(workloads: impl Iterator<Item = Workload>, rounds: u32) {
     println!("whole over a row of records, Normal signs: at least {slowest_records:.2} times as fast");
     for (part, ratio) in [PARTS[0], PARTS[1], PARTS[3]].into_iter().zip(slowest) {
         println!("{part}, Normal signs: at least {ratio:.2} times as fast");
+    }
+}
+
+/// The rows with each axis upright. With Normal signs, which have no rays, a call comes to them sooner.
+fn rows(workloads: impl Iterator<Item = Workload>, rounds: u32) {
+    println!("{:<16}{:>18}{:>12}{:>12}{:>12}{:>8}{:>8}", "rows, ms", "cells", "x upright", "y", "z", "x by z", "y by z");
+    for mut workload in workloads {
+        workload.job.sign = SignMethod::Normal;
+        let mut of = [0, 1, 2].map(|upright| {
+            let job = workload.job.clone();
+            let job = Job { grid: Grid { upright: Some(upright), ..job.grid.clone() }, ..job };
+            let mut lent = Lent::fitting(&job.grid, 2 * job.grid.cells() as usize);
+            ask_with_room(&job, &mut lent, TAKEN);
+            (job, lent, f64::MAX)
+        });
+        // More turns where a call is short.
+        for _ in 0..rounds_of(&workload, rounds) * (10_000 / workload.edge.pow(2)).max(1) {
+            for (job, lent, time) in &mut of {
+                least(time, whole(job, lent, TAKEN).rows);
+            }
+        }
+        let [x, y, z] = of.map(|(_, _, time)| time);
+        println!("{:<16}{:>18}{x:>12.4}{y:>12.4}{z:>12.4}{:>8.2}{:>8.2}", workload.name, workload.counts(), x / z, y / z);
     }
 }
 

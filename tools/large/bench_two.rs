@@ -1,17 +1,17 @@
-//! bench-two [ROUNDS [EDGE [PASS [QUEUE [SIGN]]]]]: the libraries of two checkouts on the same jobs in one run, call by call in turn, on one
+//! bench-two [ROUNDS [EDGE [PASS [QUEUE [SIGN [UPRIGHT]]]]]]: the libraries of two checkouts on the same jobs in one run, call by call in turn, on one
 //! thread. Prints for each workload and size of tools/bench, and for as many facets as a job may have, the least time of the checks
-//! before the run, of the spreading, of the crossings and of the whole over the rounds (5; more where a call is short), in
+//! before the run, of the spreading, of the crossings, of the rows and of the whole over the rounds (5; more where a call is short), in
 //! milliseconds of the processor's time, before and after, and after by before. Sizes above EDGE (100) are left out. PASS is `plain`,
 //! or `quick` (the default) where a library has it. QUEUE is `flat` (the default), the queue in three slices, or `row`, a row of
 //! records. SIGN is `raycast` (the default) or `normal`, which both libraries must know (document 02, §8); then there are no crossings to time.
-//! Ends with 1 if the two leave another field, other names or crossings, or count other pops or peak.
+//! UPRIGHT is `z` (the default), or `x` or `y`, which both must know (§9). Ends with 1 if the two leave another field, other names or crossings, or count other pops or peak.
 //!
 //! The checks are a call that is lent a row too few: it is refused by 5, which is looked at last. The spreading is what is left of a
 //! call before its crossings, less a call whose pop limit is 0: that one is refused by 8 when the cells are seeded and queued. It is a
 //! difference of two calls, so the least times of both are taken before it is.
 //!
 //! The crossings are timed from when their counts are cleared (clock.c) to the end of the call, so the signs and the
-//! rows stand in them, a few thousandths. As the difference of two calls, one of which ends before them, they were uncertain by a
+//! rows stand in them, a few thousandths; the rows, which come last, from when they are. As the difference of two calls, one of which ends before them, they were uncertain by a
 //! hundredth of the whole, which is more than a tenth of some. The last column is after by before of the middle times: where it is
 //! far from that of the least, something else was running.
 
@@ -25,6 +25,7 @@ mod random;
 mod shapes;
 mod workloads;
 
+use clock::Times;
 use model::{Job, SignMethod};
 use workloads::Workload;
 
@@ -51,15 +52,15 @@ struct Lent {
     room: usize,
 }
 
-type Call = unsafe extern "C" fn(lent: *const Lent, limit: u32, pass: u32, sign: u32, number: *mut u32, pops: *mut u32, peak: *mut usize);
+type Call = unsafe extern "C" fn(*const Lent, limit: u32, pass: u32, sign: u32, upright: u32, number: *mut u32, pops: *mut u32, peak: *mut usize);
 
 extern "C" {
-    fn job_before(lent: *const Lent, limit: u32, pass: u32, sign: u32, number: *mut u32, pops: *mut u32, peak: *mut usize);
-    fn job_after(lent: *const Lent, limit: u32, pass: u32, sign: u32, number: *mut u32, pops: *mut u32, peak: *mut usize);
+    fn job_before(lent: *const Lent, limit: u32, pass: u32, sign: u32, upright: u32, number: *mut u32, pops: *mut u32, peak: *mut usize);
+    fn job_after(lent: *const Lent, limit: u32, pass: u32, sign: u32, upright: u32, number: *mut u32, pops: *mut u32, peak: *mut usize);
 }
 
 const SIDES: [Call; 2] = [job_before, job_after];
-const PARTS: [&str; 4] = ["checks", "spreading", "crossings", "whole"];
+const PARTS: [&str; 5] = ["checks", "spreading", "crossings", "rows", "whole"];
 
 /// How far a call comes: to the last of its checks, to its first pop, or to its end.
 #[derive(Clone, Copy, PartialEq)]
@@ -94,14 +95,14 @@ impl Buffers {
             field: vec![0.0; n],
             names: vec![0; n],
             crossings: vec![0; 3 * n],
-            rows: vec![0; job.grid.count[2] as usize],
+            rows: vec![0; job.grid.layers() as usize],
             queue: [0; 3].map(|_| vec![0; if in_row { 0 } else { room }]),
             row: vec![0; if in_row { 3 * room } else { 0 }],
         }
     }
 
-    /// The answer, and the milliseconds of the crossings and of the whole call. There are crossings in a call that comes to its end.
-    fn ask(&mut self, side: Call, job: &Job, pass: u32, to: To) -> (Answer, [f64; 2]) {
+    /// The answer, and the times of the call. There are crossings and rows in one that comes to its end.
+    fn ask(&mut self, side: Call, job: &Job, pass: u32, to: To) -> (Answer, Times) {
         let (limit, number) = match to {
             To::Checks => (u32::MAX, 5),
             To::FirstPop => (0, 8),
@@ -130,13 +131,15 @@ impl Buffers {
             queued: queued.as_mut_ptr(),
             triangles: triangles.as_mut_ptr(),
         };
-        let (mut answer, sign) = (Answer::default(), u32::from(job.sign == SignMethod::Normal));
+        let (mut answer, sign, upright) = (Answer::default(), u32::from(job.sign == SignMethod::Normal), job.grid.upright());
         // SAFETY: every pointer is that of a slice or a number, with at most the slice's own length; none are shared.
-        let call = || unsafe { side(&lent, limit, pass, sign, &mut answer.number, &mut answer.pops, &mut answer.peak) };
-        let rays = to != To::Checks && job.sign == SignMethod::Raycast;
-        let times = if rays { clock::timed(lent.crossings, call) } else { [0.0, clock::whole(call)] };
+        let call = || unsafe { side(&lent, limit, pass, sign, upright, &mut answer.number, &mut answer.pops, &mut answer.peak) };
+        let times = match to {
+            To::Checks => Times { crossings: 0.0, rows: 0.0, whole: clock::whole(call) },
+            _ => clock::timed(lent.crossings, lent.rows, call),
+        };
         if answer.number == u32::MAX {
-            eprintln!("bench-two: a library that knows no Normal signs");
+            eprintln!("bench-two: a library that knows no such signs, or no upright axis but z");
             std::process::exit(2);
         }
         assert_eq!(answer.number, number, "the job is done, or refused where it should be");
@@ -176,13 +179,14 @@ fn main() {
             std::process::exit(2);
         }
     };
+    let upright = workloads::upright(std::env::args().nth(6).as_deref());
     println!("load before: {}", load());
     let words = ["workload", "cells", "part", "before, ms", "after, ms", "ratio", "of middles"];
     println!("{:<15}{:>15}  {:<10}{:>12}{:>12}{:>8}{:>12}", words[0], words[1], words[2], words[3], words[4], words[5], words[6]);
-    let (mut ratios, mut differences) = ([const { Vec::new() }; 4], 0);
+    let (mut ratios, mut differences) = ([const { Vec::new() }; 5], 0);
     for workload in workloads::all(largest).chain(workloads::most_facets(largest)) {
         let counts = workload.counts();
-        let Workload { name: workload, edge, job } = workload;
+        let Workload { name: workload, edge, job } = workload.standing(upright);
         let job = Job { sign, ..job };
         // Twice as many entries as cells are enough for these jobs.
         let mut buffers = Buffers::fitting(&job, 2 * job.grid.cells() as usize, in_row);
@@ -191,26 +195,26 @@ fn main() {
             differences += 1;
             println!("{workload} {counts}: DIFFERENT, {:?} before and {:?} after", before.0, after.0);
         }
-        // The times of the checks, up to the first pop, up to the crossings, of the crossings and of the whole, of each side.
-        let mut times = [const { [const { Vec::new() }; 5] }; 2];
+        // The times of the checks, up to the first pop, up to the crossings, of the crossings, of the rows and of the whole, of each side.
+        let mut times = [const { [const { Vec::new() }; 6] }; 2];
         for round in 0..rounds * (10_000 / (edge * edge)) {
             for turn in 0..2 {
                 // Each goes first half the time.
                 let side = (round as usize + turn) % 2;
-                let [_, checks] = buffers.ask(SIDES[side], &job, pass, To::Checks).1;
-                let [_, first] = buffers.ask(SIDES[side], &job, pass, To::FirstPop).1;
-                let [crossings, whole] = buffers.ask(SIDES[side], &job, pass, To::End).1;
-                for (times, time) in times[side].iter_mut().zip([checks, first, whole - crossings, crossings, whole]) {
+                let checks = buffers.ask(SIDES[side], &job, pass, To::Checks).1.whole;
+                let first = buffers.ask(SIDES[side], &job, pass, To::FirstPop).1.whole;
+                let Times { crossings, rows, whole } = buffers.ask(SIDES[side], &job, pass, To::End).1;
+                for (times, time) in times[side].iter_mut().zip([checks, first, whole - crossings, crossings, rows, whole]) {
                     times.push(time);
                 }
             }
         }
         let of = times.map(|parts| {
-            let [checks, first, before, crossings, whole] = parts.map(|times| {
+            let [checks, first, before, crossings, rows, whole] = parts.map(|times| {
                 let times = sorted(times);
                 [times[0], middle(&times)]
             });
-            [checks, [before[0] - first[0], before[1] - first[1]], crossings, whole]
+            [checks, [before[0] - first[0], before[1] - first[1]], crossings, rows, whole]
         });
         for (part, name) in PARTS.into_iter().enumerate() {
             if sign == SignMethod::Normal && name == "crossings" {

@@ -1,12 +1,12 @@
-/* When the crossings of a call begin. The library fills by memset, and clears the crossing counts just before it counts; so the last
- * time that they are cleared is when the pass begins, and what is left of the call are the crossings, the signs and the rows. A
- * library that is timed calls told_memset in the place of memset. */
+/* When the crossings of a call begin, and its rows. The library fills by memset, and clears the crossing counts just before it counts; so the
+ * last time that they are cleared is when the pass begins, and what is left of the call are the crossings, the signs and the rows. The same holds
+ * of the rows, which come last. A library that is timed calls told_memset in the place of memset. */
 #include <stddef.h>
 #include <string.h>
 #include <time.h>
 
-static const void *crossings;
-static double begun;
+static const void *watched[2];
+static double begun[2];
 
 /* Milliseconds of the process's own time. */
 double time_now(void) {
@@ -15,19 +15,21 @@ double time_now(void) {
     return 1e3 * (double)t.tv_sec + 1e-6 * (double)t.tv_nsec;
 }
 
-/* Watches a buffer from now on. */
-void watch(const void *buffer) {
-    crossings = buffer;
-    begun = -1;
+/* Watches two buffers from now on. */
+void watch(const void *crossings, const void *rows) {
+    watched[0] = crossings;
+    watched[1] = rows;
+    begun[0] = begun[1] = -1;
 }
 
-/* When it was last cleared; below 0 if it was not. */
-double last_cleared(void) {
-    return begun;
+/* When the first, or the second, was last cleared; below 0 if it was not. */
+double last_cleared(size_t which) {
+    return begun[which];
 }
 
 void *told_memset(void *to, int byte, size_t length) {
-    if (to == crossings)
-        begun = time_now();
+    for (size_t which = 0; which < 2; which++)
+        if (to == watched[which])
+            begun[which] = time_now();
     return memset(to, byte, length);
 }

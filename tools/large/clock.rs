@@ -1,22 +1,32 @@
-//! When the crossings of a call begin and end (clock.c). A library must call `told_memset` in the place of memset.
+//! When the crossings of a call, and its rows, begin and end (clock.c). A library must call `told_memset` in the place of memset.
 
 extern "C" {
     fn time_now() -> f64;
-    fn watch(buffer: *const u32);
-    fn last_cleared() -> f64;
+    fn watch(crossings: *const u32, rows: *const u32);
+    fn last_cleared(which: usize) -> f64;
 }
 
-/// The milliseconds of the crossings and of the whole of a call that clears these counts just before it counts.
-pub fn timed(crossings: *const u32, call: impl FnOnce()) -> [f64; 2] {
-    // SAFETY: the clock compares the pointer, and never reads through it.
+/// What a call took, in milliseconds.
+#[derive(Clone, Copy)]
+pub struct Times {
+    /// From when it last cleared the crossing counts, and the rows; it clears each just before it counts.
+    pub crossings: f64,
+    pub rows: f64,
+    pub whole: f64,
+}
+
+/// The times of a call that counts these.
+pub fn timed(crossings: *const u32, rows: *const u32, call: impl FnOnce()) -> Times {
+    // SAFETY: the clock compares the pointers, and never reads through them.
     let (begin, cleared, end) = unsafe {
-        watch(crossings);
+        watch(crossings, rows);
         let begin = time_now();
         call();
-        (begin, last_cleared(), time_now())
+        let end = time_now();
+        (begin, [last_cleared(0), last_cleared(1)], end)
     };
-    assert!(begin <= cleared && cleared <= end, "the crossings were seen to begin");
-    [end - cleared, end - begin]
+    assert!(cleared.iter().all(|&time| begin <= time && time <= end), "crossings and rows were seen to be cleared");
+    Times { crossings: end - cleared[0], rows: end - cleared[1], whole: end - begin }
 }
 
 /// The milliseconds of a call that changes nothing, and so clears no counts.

@@ -17,6 +17,11 @@
 //! that request put in: `normal-small`, the kinds of the set `normal` of tools/jobs; `normal-middle` and `normal-large`, the sizes and the kinds of
 //! mesh of those two, and open decks; `normal-bounds`. There are no rays then: no crossings, none that graze, and all four ways give the same.
 //!
+//! Each job has an axis upright by chance (document 02, §9), or the one that its text says: the rows are held to those that the oracle counts off
+//! the Rust's field along it. The other form of the queue and the other pass are asked for with the next axis upright: all but the rows is the
+//! same then; in `bounds` the third axis too. Buffers of a wrong length have, for the rows, the count of another axis among others: 5. An axis that
+//! is none of the three is refused by 1, before all else.
+//!
 //! In `middle` and `large` every job is accepted. One in twelve is asked for with a ladder off the grid too (document 02, §6): that
 //! is refused by 10, in all four ways, and over buffers of a wrong length as well (where the queue's lists differ, in two), and each
 //! buffer stays as it was lent.
@@ -48,6 +53,8 @@ mod random;
 mod rust;
 #[path = "../generator/shapes.rs"]
 mod shapes;
+#[path = "../generator/upright.rs"]
+mod upright;
 
 use model::convert::as_list;
 use model::geometry::{ray, Reply};
@@ -58,6 +65,11 @@ use port::{Answer, By, Lent};
 use random::Random;
 use rust::Held;
 use std::collections::BTreeMap;
+
+/// Where the rows stand among the lent buffers.
+const ROWS: usize = 3;
+/// Numbers that are no axis.
+const NO_AXES: [u32; 5] = [3, u32::MAX, 4, 256, 1 << 31];
 
 /// What a run has seen.
 #[derive(Default)]
@@ -72,6 +84,10 @@ struct Seen {
     strips: u64,
     /// Jobs that were asked for in each of the four ways.
     asked: [u64; 4],
+    /// Jobs that left the rows of each axis.
+    upright: [u64; 3],
+    /// Jobs with an axis that is none.
+    no_axis: u64,
     /// Jobs whose rays that graze were counted here; those with any, how many in all, the most.
     counted: u64,
     with_grazed: u64,
@@ -109,11 +125,22 @@ impl Seen {
         Ok(held)
     }
 
-    /// A job that was asked for over new buffers gives the same over the other form of the queue and by the other pass.
+    /// A job that was asked for over new buffers gives the same over the other form of the queue and by the other pass with the next axis upright;
+    /// but for the rows, which count the same field along that one.
     fn hold_other(&mut self, job: &Job, by: By, held: &Held, left: &Lent) -> Result<(), String> {
         self.tell(by);
+        self.upright[job.grid.upright() as usize] += 1;
+        self.hold_standing(job, 1, by.other(), held, left)
+    }
+
+    /// The same with the axis so many further on.
+    fn hold_standing(&mut self, job: &Job, step: u32, by: By, held: &Held, left: &Lent) -> Result<(), String> {
+        let upright = (job.grid.upright() + step) % 3;
+        let job = &Job { grid: Grid { upright: Some(upright), ..job.grid.clone() }, ..job.clone() };
+        let left = &Lent { rows: rust::rows(job, &left.field), ..left.clone() };
         let before = Lent::fitting(&job.grid, left.distances.len());
-        self.hold_again(job, job.vertices.as_flattened(), before, u32::MAX, by.other(), held.answer, left)
+        self.upright[upright as usize] += 1;
+        self.hold_again(job, job.vertices.as_flattened(), before, u32::MAX, by, held.answer, left)
     }
 
     /// The job asked for in another way gives the same answer and leaves the same buffers.
@@ -137,8 +164,8 @@ impl Seen {
     /// they are as they were lent. (Three queue lists of different lengths are no row: there in two ways.)
     fn hold_unchanged(&mut self, job: &Job, number: u32, grid: &Grid, r: &mut Random) -> Result<(), String> {
         let (cells, room) = (grid.cells() as usize, 4_096);
-        let lengths = [cells, cells, 3 * cells, grid.count[2] as usize, room, room, room];
-        for wrong in [None, Some((r.below(7) as usize, r.once_in(2)))] {
+        let lengths = [cells, cells, 3 * cells, grid.layers() as usize, room, room, room];
+        for wrong in [None, Some(wrong_length(lengths, grid, r))] {
             let before = noise(lengths, wrong, r).lent;
             for by in By::ALL {
                 self.hold_again(job, job.vertices.as_flattened(), before.clone(), u32::MAX, by, refused(number), &before)?;
@@ -153,7 +180,14 @@ impl Seen {
         self.unchanged.entry(number).or_default()[usize::from(wrong)] += 1;
     }
 
-    /// A strip is refused by 13, with an index beyond the vertices too; with a vertex out of bounds by 2, and with a grid by 1.
+    /// A job whose upright axis is none of the three is refused by 1, over buffers of right and of wrong lengths for the one that it has.
+    fn hold_no_axis(&mut self, job: &Job, r: &mut Random) -> Result<(), String> {
+        let upright = Some(r.pick(&NO_AXES));
+        self.no_axis += 1;
+        self.hold_unchanged(&Job { grid: Grid { upright, ..job.grid.clone() }, ..job.clone() }, 1, &job.grid, r)
+    }
+
+    /// A strip is refused by 13, with an index beyond the vertices too; with a vertex out of bounds by 2, and with a grid, or its upright axis, by 1.
     fn hold_strip(&mut self, strip: &Job, r: &mut Random) -> Result<(), String> {
         self.hold_unchanged(strip, 13, &strip.grid, r)?;
         let mut job = strip.clone();
@@ -164,6 +198,7 @@ impl Seen {
         let vertex = r.below(job.vertices.len() as u64) as usize;
         job.vertices[vertex][r.below(3) as usize] = [f32::NAN, 1_048_576.125, f32::NEG_INFINITY][r.below(3) as usize];
         self.hold_unchanged(&job, 2, &strip.grid, r)?;
+        self.hold_no_axis(&job, r)?;
         job.grid.size[r.below(3) as usize] = [0.0, -1.0, f32::NAN][r.below(3) as usize];
         self.hold_unchanged(&job, 1, &strip.grid, r)
     }
@@ -202,6 +237,8 @@ impl Seen {
             "rays that graze, counted one by one: {} jobs, {} of them with any, {} in all, the most {}",
             self.counted, self.with_grazed, self.grazed, self.most_grazed
         );
+        let [x, y, z] = self.upright;
+        println!("rows along x, y and z: {x}, {y} and {z} jobs; with an axis that is none, refused by 1: {}", self.no_axis);
         println!("lists of a strip's triangles that were held to what the Rust gives the strip: {}", self.strips);
         for (number, [right, wrong]) in &self.unchanged {
             println!(
@@ -240,10 +277,12 @@ fn main() {
             // Two numbers of one generator seed another: seeds and jobs do not run into each other.
             let start = Random::new(seed, 0).next().wrapping_add(index);
             let mut r = Random::new(Random::new(start, 0).next(), index);
+            // The axis has random numbers of its own, so that the meshes stay as they were without it.
+            let mut standing = Random::new(Random::new(!start, 0).next(), index);
             let (kind, verdict) = match set {
-                "small" => small(index, sign, &mut r, &mut seen),
-                "middle" => large(index, sign, sizes_to_64, true, &mut r, &mut seen),
-                "large" => large(index, sign, sizes_to_100, index % 2 == 0, &mut r, &mut seen),
+                "small" => small(index, sign, &mut standing, &mut r, &mut seen),
+                "middle" => large(index, sign, sizes_to_64, true, &mut standing, &mut r, &mut seen),
+                "large" => large(index, sign, sizes_to_100, index % 2 == 0, &mut standing, &mut r, &mut seen),
                 _ => panic!("no such set: {word}"),
             };
             seen.jobs += 1;
@@ -286,10 +325,10 @@ fn in_turn(index: u64) -> By {
 
 /// One job over buffers that hold noise, some of them of a wrong length: answer and buffers are the model's. Then the
 /// same with room and pops lifted, against the Rust.
-fn small(index: u64, sign: SignMethod, r: &mut Random, seen: &mut Seen) -> (String, Result<(), String>) {
+fn small(index: u64, sign: SignMethod, standing: &mut Random, r: &mut Random, seen: &mut Seen) -> (String, Result<(), String>) {
     let all = match sign {
-        SignMethod::Raycast => [None, Some("old"), Some("long")].map(kinds::of_set).concat(),
-        SignMethod::Normal => kinds::of_set(Some("normal")),
+        SignMethod::Raycast => [None, Some("old"), Some("long"), Some("upright")].map(kinds::of_set).concat(),
+        SignMethod::Normal => ["normal", "upright"].map(|set| kinds::of_set(Some(set))).concat(),
     };
     let turns = all.len() as u64;
     let kind = match index % 100 {
@@ -304,9 +343,16 @@ fn small(index: u64, sign: SignMethod, r: &mut Random, seen: &mut Seen) -> (Stri
     let mut of_kind = Random::new(r.next(), index / turns);
     let made = kinds::make(kind, &mut of_kind).expect("a kind of the table");
     let read = text::read(&made).filter(|job| text::within_limits(job) || bounds::check(job).is_err());
-    let Some(job) = read.map(|job| Job { sign, ..job }) else {
+    let Some(mut job) = read.map(|job| Job { sign, ..job }) else {
         return ("unreadable, or beyond the program's limits".to_string(), Ok(()));
     };
+    // What its text says, or else by chance; once in thirty no axis at all.
+    if standing.once_in(30) {
+        job.grid.upright = Some(standing.pick(&NO_AXES));
+        seen.no_axis += 1;
+    } else if job.grid.upright.is_none() {
+        job.grid.upright = Some(standing.below(3) as u32);
+    }
     let verdict = hold_to_model(&job, r, seen).and_then(|number| {
         if matches!(number, 0 | 6 | 7 | 8) || number == 13 && bounds::check(&as_list(&job)).is_ok() {
             seen.hold(&job, &mut Lent::fitting(&job.grid, 4_096), in_turn(index), true)?;
@@ -319,8 +365,10 @@ fn small(index: u64, sign: SignMethod, r: &mut Random, seen: &mut Seen) -> (Stri
 fn hold_to_model(job: &Job, r: &mut Random, seen: &mut Seen) -> Result<u32, String> {
     let cells = bounds::cells(job.grid.count).min(512) as usize;
     let room = job.queue.min(2_048) as usize;
-    let lengths = [cells, cells, 3 * cells, job.grid.count[2].min(512) as usize, room, room, room];
-    let wrong = r.once_in(10).then(|| (r.below(7) as usize, r.once_in(2)));
+    // An axis that is none is refused by 1, whatever is lent.
+    let layers = job.grid.count[job.grid.upright().min(2) as usize].min(512) as usize;
+    let lengths = [cells, cells, 3 * cells, layers, room, room, room];
+    let wrong = r.once_in(10).then(|| wrong_length(lengths, &job.grid, r));
     let uneven = r.once_in(40) && !job.vertices.is_empty();
     let before = noise(lengths, wrong, r);
     let owed = owed(job, uneven, before.lengths != lengths);
@@ -384,10 +432,21 @@ struct Noise {
     lengths: [usize; 7],
 }
 
-/// Buffers of these lengths, one of them perhaps one more or one less, that hold anything.
-fn noise(mut lengths: [usize; 7], wrong: Option<(usize, bool)>, r: &mut Random) -> Noise {
-    if let Some((which, more)) = wrong {
-        lengths[which] = if more { lengths[which] + 1 } else { lengths[which].saturating_sub(1) };
+/// One of the buffers, and another length for it: one more or one less, or for the rows the count of another axis, where that is another.
+fn wrong_length(lengths: [usize; 7], grid: &Grid, r: &mut Random) -> (usize, usize) {
+    let (which, more) = (r.below(7) as usize, r.once_in(2));
+    let of_an_axis = grid.count[r.below(3) as usize].min(1_024) as usize;
+    match lengths[which] {
+        length if which == ROWS && of_an_axis != length => (which, of_an_axis),
+        length if more => (which, length + 1),
+        length => (which, length.saturating_sub(1)),
+    }
+}
+
+/// Buffers of these lengths, one of them perhaps of another, that hold anything.
+fn noise(mut lengths: [usize; 7], wrong: Option<(usize, usize)>, r: &mut Random) -> Noise {
+    if let Some((which, length)) = wrong {
+        lengths[which] = length;
     }
     let mut lent = Lent::default();
     lent.field = (0..lengths[0]).map(|_| f32::from_bits(r.next() as u32)).collect();
@@ -439,6 +498,7 @@ fn large(
     sign: SignMethod,
     sizes: fn(u64, &mut Random) -> ([u32; 3], u32),
     with_crossings: bool,
+    standing: &mut Random,
     r: &mut Random,
     seen: &mut Seen,
 ) -> (String, Result<(), String>) {
@@ -446,7 +506,7 @@ fn large(
     // The kinds turn at another pace than the sizes, so that each meets each.
     let kinds = meshes::kinds(sign);
     let kind = kinds[((index + index / 32) % kinds.len() as u64) as usize];
-    let grid = meshes::grid(count, r);
+    let grid = Grid { upright: Some(standing.below(3) as u32), ..meshes::grid(count, r) };
     let mut lent = Lent::fitting(&grid, 2 * grid.cells() as usize + 4_096);
     let job = meshes::make(kind, sign, grid, triangles, r);
     let mut verdict = || {
@@ -456,6 +516,9 @@ fn large(
         let strip = job.topology == Topology::Strip;
         if strip {
             seen.hold_strip(&job, r)?;
+        }
+        if index % 12 == 5 {
+            seen.hold_no_axis(&job, r)?;
         }
         if index % 12 == 11 {
             let ladder = meshes::with_ladder(&job, r);
@@ -474,19 +537,19 @@ fn large(
 fn at_bounds(sign: SignMethod, with_rust: bool, seen: &mut Seen) {
     // Soups with as many corners as there may be vertices; with 131,072 triangles these are 393,216.
     // The last has facets of no extent, every one of which every ray grazes: 1,050,624 rays and 4,096 facets pass 32 bits. With Normal signs
-    // there are no rays.
-    let jobs: [([u32; 3], u32, f64); 6] = [
-        ([1_024, 1_024, 1], 2_000, 1.0),
-        ([1, 1_024, 1_024], 2_000, 1.0),
-        ([102, 102, 100], 20_000, 1.0),
-        ([32, 32, 32], 131_072, 1.0),
-        ([102, 102, 100], 131_072, 1.0),
-        ([1_024, 1_024, 1], 4_096, 0.0),
+    // there are no rays. Each has all three axes upright, this one first: 1,024 rows along x, along y and along z, and one.
+    let jobs: [([u32; 3], u32, u32, f64); 6] = [
+        ([1_024, 1_024, 1], 0, 2_000, 1.0),
+        ([1, 1_024, 1_024], 2, 2_000, 1.0),
+        ([102, 102, 100], 1, 20_000, 1.0),
+        ([32, 32, 32], 0, 131_072, 1.0),
+        ([102, 102, 100], 2, 131_072, 1.0),
+        ([1_024, 1_024, 1], 1, 4_096, 0.0),
     ];
     println!("counts | triangles | answer | pops | peak | grazed | seconds, the library | the Rust | lent MB, room for the peak");
-    for (count, triangles, reach) in jobs {
+    for (count, upright, triangles, reach) in jobs {
         let mut r = Random::new(1, 0);
-        let grid = meshes::grid(count, &mut r);
+        let grid = Grid { upright: Some(upright), ..meshes::grid(count, &mut r) };
         let mut lent = Lent::fitting(&grid, 2 * grid.cells() as usize);
         let mesh = meshes::soup_of(&grid, triangles, reach, &mut r);
         let job = Job { sign, ..meshes::plain(grid, mesh) };
@@ -510,13 +573,19 @@ fn hold_at_bound(original: &Job, lent: &mut Lent, by: By, with_rust: bool, seen:
     let job = &as_list(original);
     accepted(job)?;
     if with_rust {
-        return seen.hold(original, lent, by, false);
+        let held = seen.hold(original, lent, by, false)?;
+        seen.hold_standing(job, 2, by, &held, lent)?;
+        return Ok(held);
     }
     let held = rust::alone(job, lent, by);
     if job.sign == SignMethod::Normal && lent.crossings.iter().any(|&n| n != 0) {
         return Err("crossings with Normal signs".to_string());
     }
+    if lent.rows != rust::rows(job, &lent.field) {
+        return Err(format!("rows that do not count the field along axis {}", job.grid.upright()));
+    }
     seen.hold_other(job, by, &held, lent)?;
+    seen.hold_standing(job, 2, by, &held, lent)?;
     Ok(held)
 }
 
@@ -550,7 +619,7 @@ fn tell_at_bound(job: &Job, lent: &Lent, verdict: Result<Held, String>, seen: &m
 fn last_off_grid(sign: SignMethod, with_rust: bool, seen: &mut Seen) {
     for (axis, high) in AXES.into_iter().flat_map(|axis| [(axis, false), (axis, true)]) {
         let mut r = Random::new(2 + axis as u64, u64::from(high));
-        let grid = meshes::grid([6, 5, 4], &mut r);
+        let grid = Grid { upright: Some(axis as u32), ..meshes::grid([6, 5, 4], &mut r) };
         let mesh = meshes::soup_of(&grid, 131_072, 0.3, &mut r);
         let (low, up) = (grid.box_minimum()[axis], grid.box_maximum()[axis]);
         let (side, out) = if high { (up, inside::next_up(up)) } else { (low, -inside::next_up(-low)) };

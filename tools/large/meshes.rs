@@ -150,7 +150,7 @@ pub fn grid(count: [u32; 3], r: &mut Random) -> Grid {
         3 => ([0; 3].map(|_| r.unit() * 100.0), [0; 3].map(|_| 0.05 + r.unit().abs() * 0.1)),
         _ => ([0; 3].map(|_| r.unit() * 1000.0), [0; 3].map(|_| 0.5 + r.unit().abs() * 3.0)),
     };
-    Grid { first, size, count }
+    Grid { first, size, count, upright: None }
 }
 
 /// A place in cell units as a point.

@@ -6,7 +6,10 @@ use model::{Job, SignMethod};
 
 extern "C" {
     fn port_job(
-        grid: *const u32,
+        first: *const f32,
+        size: *const f32,
+        count: *const u32,
+        upright: u32,
         vertices: *const f32,
         coordinate_count: usize,
         topology: u32,
@@ -67,7 +70,7 @@ impl Lent {
             field: vec![0.0; n],
             names: vec![0; n],
             crossings: vec![0; 3 * n],
-            rows: vec![0; grid.count[2] as usize],
+            rows: vec![0; grid.layers() as usize],
             distances: vec![0; room],
             cells: vec![0; room],
             triangles: vec![0; room],
@@ -150,18 +153,16 @@ fn call(
     row: Option<&mut [[u32; 3]]>,
     [limit, pass, sign]: [u32; 3],
 ) -> Answer {
-    let Grid { first, size, count } = job.grid;
-    let mut grid = [0; 9];
-    for axis in 0..3 {
-        (grid[axis], grid[3 + axis], grid[6 + axis]) = (first[axis].to_bits(), size[axis].to_bits(), count[axis]);
-    }
     let (row, row_length) = row.map_or((std::ptr::null_mut(), 0), |row| (row.as_mut_ptr(), row.len()));
     let indices = job.indices.as_deref().unwrap_or(&[]);
     let mut answer = Answer::default();
     // SAFETY: every pointer is that of a slice or a number, with the slice's own length; none are shared.
     unsafe {
         port_job(
-            grid.as_ptr(),
+            job.grid.first.as_ptr(),
+            job.grid.size.as_ptr(),
+            job.grid.count.as_ptr(),
+            job.grid.upright(),
             coordinates.as_ptr(),
             coordinates.len(),
             u32::from(job.topology == Topology::Strip),

@@ -3,6 +3,7 @@
 use crate::port::{ask_with_room, Answer, By, Lent};
 use mesh_oracle::Sign;
 use model::geometry::{distance, point_triangle_signed_distance};
+use model::grid::Grid;
 use model::topology::{triangles, Topology};
 use model::{Job, SignMethod, NONE};
 use web_time::Instant;
@@ -13,7 +14,13 @@ fn lent(job: &Job) -> mesh_oracle::Lent<'_> {
         SignMethod::Normal => Sign::Normal,
     };
     let (strip, indices) = (job.topology == Topology::Strip, job.indices.as_deref());
-    mesh_oracle::Lent { count: job.grid.count, first: job.grid.first, size: job.grid.size, strip, sign, vertices: &job.vertices, indices }
+    let Grid { first, size, count, .. } = job.grid;
+    mesh_oracle::Lent { count, first, size, upright: job.grid.upright(), strip, sign, vertices: &job.vertices, indices }
+}
+
+/// The rows that are counted off a field along the job's upright axis.
+pub fn rows(job: &Job, field: &[f32]) -> Vec<u32> {
+    mesh_oracle::rows(lent(job), field).expect("x, y or z")
 }
 
 /// The field, the steps and the times of seeding, spreading and crossings, or the words of the panic.
@@ -43,10 +50,10 @@ pub fn alone(job: &Job, lent: &mut Lent, by: By) -> Held {
     Held { answer, ours: begin.elapsed().as_secs_f64(), theirs: 0.0 }
 }
 
-/// The job with no bound on room and pops, the port's against the Rust's: every cell's bits, the pops and, if asked
-/// for, the crossing counts, which the Rust works out again for it; with Normal signs in any case. What the Rust has no word for is held to the
-/// field: the names, the rows and the queue. The Rust is given the original: the job itself, or the strip whose triangles the
-/// job lists.
+/// The job with no bound on room and pops, the port's against the Rust's: every cell's bits, the rows that the oracle counts off the Rust's
+/// field along the upright axis, the pops and, if asked for, the crossing counts, which the Rust works out again for it; with Normal signs in
+/// any case. What the Rust has no word for is held to the field: the names and the queue. The Rust is given the original: the job itself, or
+/// the strip whose triangles the job lists.
 pub fn hold(job: &Job, original: &Job, lent: &mut Lent, by: By, with_crossings: bool) -> Result<Held, String> {
     let mut held = alone(job, lent, by);
     let answer = held.answer;
@@ -67,6 +74,9 @@ pub fn hold(job: &Job, original: &Job, lent: &mut Lent, by: By, with_crossings: 
             return Err(format!("cell {cell}: {:08x}, and the Rust's is {:08x}", ours.to_bits(), theirs.to_bits()));
         }
     }
+    if lent.rows != rows(job, &rust.field) {
+        return Err(format!("rows that do not count the Rust's field along axis {}", job.grid.upright()));
+    }
     if with_crossings || job.sign == SignMethod::Normal {
         let counts = crossings(original)?;
         if let Some(at) = (0..lent.crossings.len()).find(|&i| lent.crossings[i] != counts.as_flattened()[i]) {
@@ -78,14 +88,11 @@ pub fn hold(job: &Job, original: &Job, lent: &mut Lent, by: By, with_crossings: 
     Ok(held)
 }
 
-/// Each name's distance is the field's magnitude, or with Normal signs its signed distance is the field's value; each row counts its layer, and
-/// the queue is zero.
+/// Each name's distance is the field's magnitude, or with Normal signs its signed distance is the field's value; and the queue is zero.
 fn hold_to_field(job: &Job, lent: &Lent) -> Result<(), String> {
     let all = triangles(job);
-    let mut rows = vec![0; lent.rows.len()];
     for (cell, (&value, &name)) in lent.field.iter().zip(&lent.names).enumerate() {
         let at = job.grid.coordinates(cell as u32);
-        rows[at[2] as usize] += u32::from(value.is_sign_negative());
         let owed = match name {
             NONE => f32::MAX,
             name => {
@@ -101,9 +108,6 @@ fn hold_to_field(job: &Job, lent: &Lent) -> Result<(), String> {
         if owed.to_bits() != held.to_bits() {
             return Err(format!("cell {cell} names {name}, whose distance is {owed}, and holds {value}"));
         }
-    }
-    if rows != lent.rows {
-        return Err("rows that do not count the field".to_string());
     }
     if [&lent.distances, &lent.cells, &lent.triangles].iter().any(|list| list.iter().any(|&x| x != 0)) {
         return Err("a queue that is not zero".to_string());

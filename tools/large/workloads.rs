@@ -77,9 +77,15 @@ pub struct Workload {
 
 impl Workload {
     fn new((name, make): (&'static str, Make), edge: u32, count: [u32; 3], triangles: u32) -> Workload {
-        let grid = Grid { first: [0.05; 3], size: [0.1; 3], count };
+        let grid = Grid { first: [0.05; 3], size: [0.1; 3], count, upright: None };
         let mesh = make(&grid, triangles, &mut Random::new(7, 0));
         Workload { name, edge, job: meshes::plain(grid, mesh) }
+    }
+
+    /// With this axis upright.
+    pub fn standing(mut self, upright: u32) -> Workload {
+        self.job.grid.upright = Some(upright);
+        self
     }
 
     /// The counts of its grid, as words.
@@ -92,6 +98,19 @@ impl Workload {
     pub fn is_long(&self) -> bool {
         let count = self.job.grid.count;
         count.iter().max() > count.iter().min().map(|n| n * 8).as_ref()
+    }
+}
+
+/// The upright axis that a word asks for; z without one. Ends the program at another word.
+pub fn upright(word: Option<&str>) -> u32 {
+    match word {
+        None | Some("z") => 2,
+        Some("y") => 1,
+        Some("x") => 0,
+        Some(word) => {
+            eprintln!("no such upright axis: {word}");
+            std::process::exit(2);
+        }
     }
 }
 

@@ -11,6 +11,7 @@ const MOST_CELLS: u128 = 1_048_576;
 const LARGEST_COORDINATE: f32 = 1_048_576.0;
 const SMALLEST_SIZE: f32 = 1.0 / 1_024.0;
 const LARGEST_SIZE: f32 = 1_024.0;
+const LAST_AXIS: u32 = 2;
 const MOST_VERTICES: usize = 393_216;
 const MOST_TRIANGLES: usize = 131_072;
 
@@ -56,6 +57,8 @@ fn grid_in_bounds(job: &Job) -> bool {
         && cells(grid.count) <= MOST_CELLS
         && grid.first.iter().all(|&x| coordinate_in_bounds(x))
         && grid.size.iter().all(|&s| (SMALLEST_SIZE..=LARGEST_SIZE).contains(&s))
+        // Document 02, §9: x, y or z. A text has no other.
+        && grid.upright() <= LAST_AXIS
 }
 
 /// The product of the counts, whatever they are.

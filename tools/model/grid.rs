@@ -8,6 +8,9 @@ pub struct Grid {
     pub first: Point,
     pub size: Point,
     pub count: [u32; 3],
+    /// The number of the upright axis, 0 x, 1 y, 2 z, where it is said (document 02, §9). Where it is not it is z: a text may do either, and
+    /// one that is printed again keeps what it says.
+    pub upright: Option<u32>,
 }
 
 pub const AXES: [usize; 3] = [0, 1, 2];
@@ -15,6 +18,21 @@ pub const AXES: [usize; 3] = [0, 1, 2];
 impl Grid {
     pub fn cells(&self) -> u32 {
         self.count[0] * self.count[1] * self.count[2]
+    }
+
+    /// The upright axis, said or not.
+    pub fn upright(&self) -> u32 {
+        self.upright.unwrap_or(2)
+    }
+
+    /// How many layers there are, one above the other: the count of the upright axis.
+    pub fn layers(&self) -> u32 {
+        self.count[self.upright() as usize]
+    }
+
+    /// The layer that a cell is of: its number on the upright axis.
+    pub fn layer(&self, index: u32) -> u32 {
+        self.coordinates(index)[self.upright() as usize]
     }
 
     /// Index of (x, y, z): z + y·nz + x·ny·nz.
@@ -53,11 +71,11 @@ impl Grid {
         AXES.map(|axis| self.first[axis] + self.count[axis] as f32 * self.size[axis])
     }
 
-    /// `from_bounding_box`, before its bounds are looked at.
+    /// `from_bounding_box`, before its bounds are looked at. Its upright axis is z.
     pub fn from_bounding_box(min: Point, max: Point, count: [u32; 3]) -> Grid {
         let size = AXES.map(|axis| (max[axis] - min[axis]) / count[axis] as f32);
         let first = AXES.map(|axis| min[axis] + size[axis] * 0.5);
-        Grid { first, size, count }
+        Grid { first, size, count, upright: Some(2) }
     }
 
     /// Snap: the nearest cell, and whether the point is Inside (no axis was clamped).

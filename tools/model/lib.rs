@@ -4,7 +4,7 @@
 //!   text.rs       One job, one listing
 //!   convert.rs    The converter of old jobs, of document 02, §7
 //!   bounds.rs     Bounds on a job; Reply numbers 1 to 4, and 13 and 10 of document 02
-//!   grid.rs       Grid
+//!   grid.rs       Grid, with the upright axis of document 02, §9
 //!   geometry.rs   Geometry, and the steps on points of "What is carried over"
 //!   order.rs      Order of two distances
 //!   topology.rs   Topology
@@ -64,7 +64,7 @@ pub struct Done {
     pub names: Vec<u32>,
     /// Crossing counts along x, y, z of each cell; with Normal signs all are zero.
     pub crossings: Vec<[u32; 3]>,
-    /// Cells with their sign bit set, for each layer z.
+    /// Cells with their sign bit set, for each layer along the upright axis.
     pub rows: Vec<u32>,
 }
 

@@ -233,12 +233,12 @@ impl<'a> Run<'a> {
         }
     }
 
-    /// Row z: how many cells of layer z have their sign bit set, -0 too (document 02, §2).
+    /// Row n: how many cells of layer n, along the upright axis, have their sign bit set, -0 too (document 02, §2 and §9).
     fn rows(&self) -> Vec<u32> {
-        let mut rows = vec![0; self.grid.count[2] as usize];
+        let mut rows = vec![0; self.grid.layers() as usize];
         for index in 0..self.grid.cells() {
             if self.field[index as usize].is_sign_negative() {
-                rows[self.grid.coordinates(index)[2] as usize] += 1;
+                rows[self.grid.layer(index) as usize] += 1;
             }
         }
         rows

@@ -50,6 +50,9 @@ pub fn within(job: &Job, most_indices: usize) -> bool {
         && job.queue <= 2_048
 }
 
+/// What the line `upright=` says (document 02, §9), in the order of the axes' numbers.
+const AXIS_NAMES: [&str; 3] = ["x", "y", "z"];
+
 /// Floats are eight lower-case hex digits of their bits.
 pub fn bits(number: f32) -> String {
     format!("{:08x}", number.to_bits())
@@ -61,6 +64,10 @@ pub fn write(job: &Job) -> String {
     let mut out = format!("count={}\n", job.grid.count.map(|n| n.to_string()).join(" "));
     writeln!(out, "first={}", point(job.grid.first)).unwrap();
     writeln!(out, "size={}", point(job.grid.size)).unwrap();
+    // What is said of the upright axis, or nothing: `upright=z` and no line are two texts of the same meaning.
+    if let Some(axis) = job.grid.upright {
+        writeln!(out, "upright={}", AXIS_NAMES[axis as usize]).unwrap();
+    }
     writeln!(out, "topology={}", if job.topology == Topology::List { "list" } else { "strip" }).unwrap();
     // Document 02, §8: without the line it is Raycast, and there is no other spelling of either.
     if job.sign == SignMethod::Normal {
@@ -90,9 +97,14 @@ pub fn read(text: &[u8]) -> Option<Job> {
 }
 
 fn understand(text: &str) -> Option<Job> {
-    // The one line that need not be there is looked for anywhere.
+    // The two lines that need not be there are looked for anywhere.
     let (signs, others): (Vec<&str>, Vec<&str>) = text.lines().partition(|line| line.starts_with("sign="));
     let sign = if signs.is_empty() { SignMethod::Raycast } else { SignMethod::Normal };
+    let (uprights, others): (Vec<&str>, Vec<&str>) = others.into_iter().partition(|line| line.starts_with("upright="));
+    let upright = match uprights.first() {
+        None => None,
+        Some(line) => Some(AXIS_NAMES.iter().position(|name| line.ends_with(name))? as u32),
+    };
     let mut lines = others.into_iter();
     let mut value = || lines.next()?.split_once('=').map(|(_, value)| value);
     let count = three(value()?, |word| word.parse().ok())?;
@@ -115,7 +127,7 @@ fn understand(text: &str) -> Option<Job> {
     };
     let queue = value()?.parse().ok()?;
     let pops = value()?.parse().ok()?;
-    Some(Job { grid: Grid { first, size, count }, topology, sign, vertices, indices, queue, pops })
+    Some(Job { grid: Grid { first, size, count, upright }, topology, sign, vertices, indices, queue, pops })
 }
 
 fn three<T>(value: &str, one: impl Fn(&str) -> Option<T>) -> Option<[T; 3]> {

@@ -16,8 +16,9 @@ int main(void) {
     const float t[9] = {0, 0, 0, 4, 0, 0, 0, 4, 0}, *a = t, *b = t + 3, *c = t + 6;
     const float at[3] = {1, 1, 1}, under[3] = {1, 1, -1}, edge[3] = {0, 1, -1}, on[3] = {1, 1, 0};
     const uint32_t numbers[3] = {0, 1, 2}, round[3] = {0, 2, 1};
-    const oracle_grid grid = {{1, 1, 1}, {1, 1, 2}, {2, 1, 1}};
-    const oracle_mesh mesh = {t, 3, numbers, 3, 0}, turned = {t, 3, round, 3, 0};
+    const oracle_grid grid = {.first = {1, 1, 1}, .size = {1, 1, 2}, .count = {2, 1, 1}};
+    const oracle_mesh mesh = {.coordinates = t, .vertices = 3, .indices = numbers, .index_count = 3, .strip = 0};
+    const oracle_mesh turned = {.coordinates = t, .vertices = 3, .indices = round, .index_count = 3, .strip = 0};
     float field[2], d, near[3], low[3], high[3];
     uint32_t steps, hit, counts[6], triples[6], inside, cell[3];
     uint64_t index;
@@ -52,7 +53,7 @@ int main(void) {
     expect("compare(+1, -1) is less", oracle_compare_distances(1, -1, &order) == 0 && order < 0);
     expect("compare(-1, +1) is greater", oracle_compare_distances(-1, 1, &order) == 0 && order > 0);
 
-    const oracle_grid four = {{0.5, 0.5, 0.5}, {1, 1, 1}, {4, 4, 4}};
+    const oracle_grid four = {.first = {0.5, 0.5, 0.5}, .size = {1, 1, 1}, .count = {4, 4, 4}};
     const float zero[3] = {0, 0, 0}, end[3] = {4, 0, 0}, below[3] = {-0.25, 0, 0};
     const uint32_t some[3] = {1, 2, 3};
     expect("0.0 is Inside 0", oracle_snap_point_to_grid(&four, zero, &inside, cell) == 0 && inside == 1 && cell[0] == 0);
@@ -65,6 +66,18 @@ int main(void) {
     expect("the last cell, one too far", oracle_get_last_cell(&four, near) == 0 && near[0] == 4.5f);
     expect("the grid from its box", oracle_from_bounding_box(low, high, four.count, &made) == 0 &&
                                         memcmp(&made, &four, sizeof four) == 0);
+
+    /* Cell (x, y, z) of 2 x 3 x 4 has index 12 x + 4 y + z: the signs stand at (0, 0, 1), (0, 2, 3), (1, 2, 3) and, as -0, at (1, 0, 3). */
+    const oracle_grid uneven = {.first = {0, 0, 0}, .size = {1, 1, 1}, .count = {2, 3, 4}};
+    const float signs[24] = {[1] = -1, [11] = -2, [23] = -3, [15] = -0.0f};
+    const uint32_t along[3][4] = {{2, 2}, {2, 0, 2}, {0, 1, 0, 3}};
+    for (uint32_t axis = 0; axis < 3; axis++) {
+        uint32_t rows[4] = {0, 0, 0, 0}, untouched[4] = {7, 7, 7, 7};
+        expect("rows along the upright axis, as many as its count",
+               oracle_rows(&uneven, axis, signs, rows, uneven.count[axis]) == 0 && memcmp(rows, along[axis], sizeof rows) == 0);
+        expect("as many as another's: 5", oracle_rows(&uneven, axis, signs, untouched, uneven.count[(axis + 1) % 3]) == 5 && untouched[0] == 7);
+    }
+    expect("no axis 3: 1", oracle_rows(&uneven, 3, signs, counts, 4) == 1 && oracle_rows(&uneven, UINT32_MAX, signs, counts, 4) == 1);
 
     char words[100];
     expect("a NaN panics", oracle_compare_distances(NAN, 1, &order) == 1);

@@ -1,8 +1,8 @@
 /* The Rust, for C: what tools/oracle/build leaves as build/oracle/libmesh_oracle.a. It is the unmodified one, but for
  * ORACLE_NORMAL.
  *
- * Each function answers 0, or 1 where the Rust panics; then nothing is written, and oracle_panic_words gives
- * the words. Points are three floats in a row. Nothing is checked: the Rust's own answers are wanted, outside
+ * Each function but oracle_rows answers 0, or 1 where the Rust panics; then nothing is written, and oracle_panic_words
+ * gives the words. Points are three floats in a row. Nothing is checked: the Rust's own answers are wanted, outside
  * document 01's bounds too. Calls are meant for one thread.
  * Link with -lpthread -ldl -lm. */
 #ifndef MESH_ORACLE_H
@@ -43,6 +43,10 @@ int32_t oracle_seeding(const oracle_grid *grid, const oracle_mesh *mesh, uint32_
                        uint32_t *triples);
 /* The crossing counts by Raycast: x, y, z of each cell in turn. */
 int32_t oracle_crossings(const oracle_grid *grid, const oracle_mesh *mesh, uint32_t *counts);
+/* The rows of a field, which the Rust has not (document 02, §9): how many cells with number n on the upright axis (0 x, 1 y, 2 z) have their
+ * sign bit set, counted off the field by the Rust's own numbers of a cell. Answers the documents' number: 0; 1 where `upright` is no axis; 5
+ * where `length` is not that axis's count. Nothing is written then. */
+uint32_t oracle_rows(const oracle_grid *grid, uint32_t upright, const float *field, uint32_t *rows, size_t length);
 /* The triangles in order, three vertex numbers each; at most room triples are written. */
 int32_t oracle_get_triangles(const oracle_mesh *mesh, uint32_t *triples, size_t room, size_t *triangles);
 

@@ -7,8 +7,6 @@ use lib.IntN.{ℤ, pos, negsuc}
 use lib.Ieee.{Float, isNan}
 use Rattle.float.specs.Arith.{f0, if_then_else_}
 use Rattle.point.specs.declared.Point.{Point}
-use Rattle.point.specs.declared.Axis.{Axis}
-use Rattle.point.specs.declared.Axis.the-variants.{X, Y, Z}
 use Rattle.point.specs.Point.{vec}
 use Rattle.float_order.specs.Compare.{order}
 use Rattle.float_order.specs.declared.Order.{Order}
@@ -74,6 +72,7 @@ gridIn g = record {
   «count_x» = g .count .x;
   «count_y» = g .count .y;
   «count_z» = g .count .z;
+  upright = g .upright;
 }
 
 abbrev pub gridOut : Grid → SdfGrid
@@ -81,6 +80,7 @@ gridOut g = record {
   first = pointOut (g .«first_cell»);
   size = pointOut (g .«cell_size»);
   count = record { x = g .«count_x»; y = g .«count_y»; z = g .«count_z» };
+  upright = g .upright;
 }
 
 -- 0 is the plain pass, and any other number the quick one
@@ -94,13 +94,6 @@ signIn n = if eqb n 0 then Raycast else Normal
 abbrev pub termsIn : SdfTerms → Terms
 termsIn t = record { limit = t .limit; pass = passIn (t .pass); sign = signIn (t .sign) }
 
--- 0 is x, 1 is y, and any other number z
-abbrev pub axisIn : ℕ → Axis
-axisIn n =
-    if eqb n 0 then X
-    else if eqb n 1 then Y
-    else Z
-
 -- ---- the zeros that a refusal has for a value
 
 abbrev pub noPoint : SdfPoint
@@ -110,7 +103,7 @@ abbrev pub noCell : SdfCell
 noCell = record { x = 0; y = 0; z = 0 }
 
 abbrev pub noGrid : SdfGrid
-noGrid = record { first = noPoint; size = noPoint; count = noCell }
+noGrid = record { first = noPoint; size = noPoint; count = noCell; upright = 0 }
 
 -- ---- the answers of the grid's questions
 

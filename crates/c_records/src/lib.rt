@@ -4,7 +4,6 @@
 use grid::Cell;
 use grid::Counts;
 use grid::Grid;
-use point::Axis;
 use point::Point;
 use terms::Pass;
 use terms::SignMethod;
@@ -27,11 +26,14 @@ pub struct SdfCell {
     pub z: u32,
 }
 
+// `upright` is 0 for x, 1 for y, 2 for z; any other number is out of bounds. Behind the others, so that a record which C
+// initialises by position and leaves short has 0 there.
 #[repr(C)]
 pub struct SdfGrid {
     pub first: SdfPoint,
     pub size: SdfPoint,
     pub count: SdfCell,
+    pub upright: u32,
 }
 
 // What a job is asked for by value, beside the grid and the mesh. `pass` is 0 for the plain pass, `sign` 0 for Raycast.
@@ -160,6 +162,7 @@ impl SdfGrid {
             count_x: count.x,
             count_y: count.y,
             count_z: count.z,
+            upright: self.upright,
         }
     }
 }
@@ -192,18 +195,6 @@ pub fn sign_in(sign: u32) -> SignMethod
         return SignMethod::Raycast;
     }
     SignMethod::Normal
-}
-
-pub fn axis_in(axis: u32) -> Axis
-    ensures { λ r. ⌜ r ≡ C.axisIn axis ⌝ }
-{
-    if axis == 0 {
-        return Axis::X;
-    }
-    if axis == 1 {
-        return Axis::Y;
-    }
-    Axis::Z
 }
 
 // ---- handed out
@@ -249,6 +240,7 @@ pub fn grid_out(g: Grid) -> SdfGrid
             y: g.count_y,
             z: g.count_z,
         },
+        upright: g.upright,
     }
 }
 
@@ -275,5 +267,6 @@ pub fn no_grid() -> SdfGrid
         first: no_point(),
         size: no_point(),
         count: no_cell(),
+        upright: 0,
     }
 }

@@ -26,7 +26,7 @@ use Rattle.text.specs.Words.{space, decimal, decimalLong, hex8, spaced, line}
 use Rattle.lists.specs.Joined.{joined}
 use Rattle.float_bits.specs.Patterns.{floatsOf}
 use Rattle.text.specs.Answering.{answerLine}
-use Rattle.text.specs.TextJob.{TextJob, Readable, jobText, indexList, givenOf, flat}
+use Rattle.text.specs.TextJob.{TextJob, Readable, jobText, uprightMeant, indexList, givenOf, flat}
 
 -- ---- the job that a text asks for
 
@@ -41,6 +41,7 @@ gridOf h =
       «count_x» = h .count .x;
       «count_y» = h .count .y;
       «count_z» = h .count .z;
+      upright = uprightMeant (h .upright);
     }
 
 -- a text says the pop limit and the method of the signs, and no pass, which the program picks
@@ -82,7 +83,7 @@ cellLine b i = line "cell=" (spaced (decimal i) (hex8 (toBits binary32 (getD (b 
 
 -- "`row`: layer, count."
 abbrev pub rowLine : Lent → ℕ → List ℕ
-rowLine b z = line "row=" (decimal z ++ space ∷ decimal (getD (b .rows) z 0))
+rowLine b n = line "row=" (decimal n ++ space ∷ decimal (getD (b .rows) n 0))
 
 -- a job that is done: its counts, of which the grazed rays are "printed as `grazed=` after `peak=`" (document 02, §3), and a line for
 -- each cell and for each layer; a refusal: "Other refusals print one line too."

@@ -8,11 +8,12 @@ use text::Head;
 use text::MOST_CELLS;
 use text::Tail;
 use text::Three;
+use text::Upright;
 ghost use Prim.Native.Nat.{_≤_};
 ghost use mathlib.Core.Path.{_≡_};
 ghost use Rattle.grid.specs.Layers.{layers};
 ghost use Rattle.text.specs.Limits.{mostCells};
-ghost use Rattle.text.specs.TextJob.{cellsOf};
+ghost use Rattle.text.specs.TextJob.{uprightMeant, cellsOf};
 ghost use Rattle.listing.specs.Listing.{pointOf, gridOf, termsOf};
 
 fn point_of(t: Three) -> Point
@@ -24,20 +25,35 @@ fn point_of(t: Three) -> Point
     Point { x, y, z }
 }
 
+// The number of the upright axis, which is z where nothing is said.
+fn upright_of(said: Upright) -> u32
+    ensures { λ r. ⌜ r ≡ uprightMeant said ⌝ }
+{
+    match said {
+        Upright::Unsaid => 2,
+        Upright::X => 0,
+        Upright::Y => 1,
+        Upright::Z => 2,
+    }
+}
+
 pub fn grid_of(head: Head) -> Grid
     ensures { λ r. ⌜ r ≡ gridOf head ⌝ }
 {
     let count = head.count;
     let first = head.first;
     let size = head.size;
+    let said = head.upright;
     let first_cell = point_of(first);
     let cell_size = point_of(size);
+    let upright = upright_of(said);
     Grid {
         first_cell,
         cell_size,
         count_x: count.x,
         count_y: count.y,
         count_z: count.z,
+        upright,
     }
 }
 

@@ -63,11 +63,11 @@ pub fn put_rows(out: &mut [u8], at: usize, rows: &[u32]) -> usize
         ⌜ Put (now (out .entry)) at (joined row (length (now (rows .entry)))) (now (out .exit)) r ⌝ }
     ensures { λ r. ⌜ r ≤ at + 26 * length (now (rows .entry)) ⌝ }
 {
-    let mut z = 0;
+    let mut layer = 0;
     let mut next = at;
-    while z < rows.len() {
-        next = put_row(out, next, z as u32, rows[z]);
-        z += 1;
+    while layer < rows.len() {
+        next = put_row(out, next, layer as u32, rows[layer]);
+        layer += 1;
     }
     next
 }

@@ -1,21 +1,24 @@
 -- What is listed of a job depends on the lengths of the lent buffers alone; and of a job that is done the peak keeps to the queue's
 -- room. Assumes nothing.
 use Prim.Native.Nat.{ℕ, zero, suc, _*_, _≤_, _<_}
-use native.Mathlib.Nat.{zero-mul, suc-mul}
+use native.Mathlib.Nat.{zero-mul, suc-mul, mul-assoc, mul-comm, mul-right-comm}
 use native.Mathlib.Decide.{decLt}
 use native.Mathlib.Omega.{arith}
-use mathlib.Core.Path.{_≡_, refl, sym, ap, _∙_}
-use mathlib.Core.Bool.{Bool, true, false, not, _&&_}
+use mathlib.Core.Path.{_≡_, refl, sym, ap, _∙_, subst}
+use mathlib.Core.Bool.{Bool, true, false, not, and-false}
 use mathlib.Core.List.{List, _++_}
 use lib.ListN.{length, take, replicate, length-replicate, length-map}
 use lib.Seq.{length-take-le, take-at}
 use lib.Ieee.{Float, binary32, ofBits}
 use Rattle.float.specs.Arith.{f0}
 use Rattle.lists.specs.Turns.{Turn, goes, refuses}
+use Rattle.point.specs.declared.Axis.{Axis}
+use Rattle.point.specs.declared.Axis.the-variants.{X, Y, Z}
 use Rattle.grid.specs.declared.Grid.{Grid}
-use Rattle.grid.specs.Axes.{onEvery}
+use Rattle.grid.specs.Axes.{countOn, onEvery}
 use Rattle.grid.specs.Index.{total}
-use Rattle.grid.specs.Bounds.{isAxis, inBounds}
+use Rattle.grid.specs.Layers.{uprightOf, layers}
+use Rattle.grid.specs.Bounds.{isAxis, isUpright, inBounds}
 use Rattle.grid.proofs.Facts.{bounds-of, on-axis}
 use Rattle.run.specs.Run.{State}
 use Rattle.run.specs.Input.{runInput}
@@ -161,30 +164,38 @@ module _ {field : List Float} {names crossings rows : List ℕ} (w : Whole field
 
 -- ---- a grid with no cells
 
-never-both : (t : Bool) → not (t && false) ≡ true
-never-both true = refl
-never-both false = refl
-
 no-cells : (g : Grid) → total g ≡ 0 → wrongGrid g ≡ true
 unfolding inBounds
-no-cells g e = rw e (never-both (onEvery (isAxis g)))
+no-cells g e = rw (e, and-false (isUpright (g .upright)), and-false (onEvery (isAxis g)))
 
 pub refused-first : (j : Job) (b c : Lent) → total (j .grid) ≡ 0 → listedOf j b ≡ listedOf j c
 unfolding listedOf outcome unlessRefused listed refusalBy
 refused-first j b c e = rw (no-cells (j .grid) e)
 
--- with few cells, more layers are those of a grid with no cells
-wide : (m z : ℕ) → m * z ≤ mostCells → mostCells < z → m * z ≡ 0
-wide zero z h k = zero-mul z
-wide (suc m) z h k = absurd (omega (arith, suc-mul m z))
+-- with few cells, more layers are those of a grid with no cells, whichever axis is upright
+wide : (m n : ℕ) → m * n ≤ mostCells → mostCells < n → m * n ≡ 0
+wide zero n h k = zero-mul n
+wide (suc m) n h k = absurd (omega (arith, suc-mul m n))
 
-pub same-layers : (j : Job) (m z layers room : ℕ) → total (j .grid) ≡ m * z → m * z ≤ mostCells → (z ≤ mostCells → layers ≡ z)
-    → listedOf j (lentBy (m * z) layers room) ≡ listedOf j (lentBy (m * z) z room)
-same-layers j m z layers room t h e = by (decLt mostCells z)
+-- the cells of a layer, by how many layers there are
+by-layers : (a : Axis) (g : Grid) → (m : ℕ) × (total g ≡ m * countOn a g)
+by-layers X g = (countOn Y g * countOn Z g, mul-assoc (countOn X g) (countOn Y g) (countOn Z g) ∙ mul-comm (countOn X g) (countOn Y g * countOn Z g))
+by-layers Y g = (countOn X g * countOn Z g, mul-right-comm (countOn X g) (countOn Y g) (countOn Z g))
+by-layers Z g = (countOn X g * countOn Y g, refl)
+
+pub same-layers : (j : Job) (n room : ℕ) → total (j .grid) ≤ mostCells → (layers (j .grid) ≤ mostCells → n ≡ layers (j .grid))
+    → listedOf j (lentBy (total (j .grid)) n room) ≡ listedOf j (lentBy (total (j .grid)) (layers (j .grid)) room)
+same-layers j n room h e = by (decLt mostCells (layers g))
   where
-    by : Dec (mostCells < z) → listedOf j (lentBy (m * z) layers room) ≡ listedOf j (lentBy (m * z) z room)
-    by (yes w) = refused-first j (lentBy (m * z) layers room) (lentBy (m * z) z room) (t ∙ wide m z h w)
-    by (no w) = ap (λ (k : ℕ). listedOf j (lentBy (m * z) k room)) (e (omega arith))
+    g : Grid
+    g = j .grid
+
+    none : mostCells < layers g → total g ≡ 0
+    none w = let (m, t) = by-layers (uprightOf g) g in t ∙ wide m (layers g) (subst (λ (k : ℕ). k ≤ mostCells) t h) w
+
+    by : Dec (mostCells < layers g) → listedOf j (lentBy (total g) n room) ≡ listedOf j (lentBy (total g) (layers g) room)
+    by (yes w) = refused-first j (lentBy (total g) n room) (lentBy (total g) (layers g) room) (none w)
+    by (no w) = ap (λ (k : ℕ). listedOf j (lentBy (total g) k room)) (e (omega arith))
 
 -- ---- the floats of a job, at the front of their buffer
 

@@ -18,7 +18,7 @@ use Rattle.grid.specs.Axes.{pointBy}
 use Rattle.grid.specs.Index.{index, indexOf}
 use Rattle.grid.specs.Place.{snapCell, clamped, snap}
 
--- so many cells along each axis, first 0.5, size 1
+-- so many cells along each axis, first 0.5, size 1; z is upright, as in document 01
 abbrev cells : ℕ → ℕ → ℕ → Grid
 cells nx ny nz = record {
   «first_cell» = pointBy (λ a. f½);
@@ -26,6 +26,7 @@ cells nx ny nz = record {
   «count_x» = nx;
   «count_y» = ny;
   «count_z» = nz;
+  upright = 2;
 }
 
 abbrev four : Axis → Grid

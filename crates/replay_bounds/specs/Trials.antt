@@ -8,15 +8,16 @@ use Rattle.terms.specs.declared.SignMethod.the-variants.{Raycast}
 use Rattle.terms.specs.declared.Terms.{Terms}
 use Rattle.job_checks.specs.Job.{Lent, lentOf}
 
--- cells of size 1, the first at the origin
-abbrev pub unitGrid : ℕ → ℕ → ℕ → Grid
-unitGrid x y z =
+-- cells of size 1, the first at the origin, and the number of the upright axis
+abbrev pub unitGrid : ℕ → ℕ → ℕ → ℕ → Grid
+unitGrid x y z upright =
     record {
       «first_cell» = record { x = f0; y = f0; z = f0 };
       «cell_size» = record { x = f1; y = f1; z = f1 };
       «count_x» = x;
       «count_y» = y;
       «count_z» = z;
+      upright = upright;
     }
 
 -- zeros of these lengths, off what a trial has of each

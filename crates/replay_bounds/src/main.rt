@@ -87,6 +87,7 @@ fn try_cell(name: &[u8], first: Point, size: Point) {
         count_x: 1,
         count_y: 1,
         count_z: 1,
+        upright: 2,
     };
     try_grid(name, grid);
 }
@@ -150,6 +151,19 @@ fn sizes() {
     try_size(b"size -1 1 1", -1.0, 1.0, 1.0);
     try_size(b"size 1 0 1", 1.0, 0.0, 1.0);
     try_size(b"size 1 1 NaN", 1.0, 1.0, 0.0 / 0.0);
+}
+
+// The upright axis (document 02, §9), of one cell.
+fn try_upright(name: &[u8], upright: u32) {
+    try_grid(name, trial::standing_on(1, 1, 1, upright));
+}
+
+fn uprights() {
+    try_upright(b"upright 0", 0);
+    try_upright(b"upright 1", 1);
+    try_upright(b"upright 2", 2);
+    try_upright(b"upright 3", 3);
+    try_upright(b"upright 4294967295", 4294967295);
 }
 
 // ---- 2, 3 and 4: the vertices, how many triangles, and their indices. One cell, with room for one entry.
@@ -431,6 +445,7 @@ fn try_rounded(name: &[u8], centre: f32, x: f32) {
         count_x: 1,
         count_y: 1,
         count_z: 1,
+        upright: 2,
     };
     let off = centre + 0.01;
     try_triangle(
@@ -657,6 +672,41 @@ fn length_bounds() {
     try_lengths(b"queue 4 4 5", 6, 6, 18, 3, 4, 4, 5);
 }
 
+// The same grid with another axis upright: as many rows are right as that axis has cells, 2 along x and 1 along y.
+fn try_rows(name: &[u8], upright: u32, rows: usize)
+    requires { ⌜ rows ≤ 4 ⌝ }
+{
+    let vertices = [0.0f32; 3];
+    let indices = [0u32; 1];
+    let number = trial::asked(
+        trial::standing_on(2, 1, 3, upright),
+        &vertices,
+        Topology::TriangleList,
+        Indices::Given,
+        &indices,
+        6,
+        6,
+        18,
+        rows,
+        4,
+        4,
+        4,
+    );
+    tell(name, number);
+}
+
+fn row_bounds() {
+    try_rows(b"upright 0, rows 1", 0, 1);
+    try_rows(b"upright 0, rows 2", 0, 2);
+    try_rows(b"upright 0, rows 3", 0, 3);
+    try_rows(b"upright 1, rows 1", 1, 1);
+    try_rows(b"upright 1, rows 2", 1, 2);
+    try_rows(b"upright 1, rows 3", 1, 3);
+    try_rows(b"upright 2, rows 2", 2, 2);
+    try_rows(b"upright 2, rows 3", 2, 3);
+    try_rows(b"upright 3, rows 3", 3, 3);
+}
+
 // ---- 6: a NaN distance. The corners (0,0,0), (0,0,0), (x,0,0) and a cell at (0,0,0): where the squared
 // length underflows to 0 the distance is 0/0.
 
@@ -682,11 +732,13 @@ fn main() {
     counts();
     first_cells();
     sizes();
+    uprights();
     vertex_bounds();
     triangle_bounds();
     index_bounds();
     off_grid();
     strips();
     length_bounds();
+    row_bounds();
     not_a_number();
 }

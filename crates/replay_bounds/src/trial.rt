@@ -14,9 +14,16 @@ ghost use Rattle.job_checks.specs.Job.{jobOf};
 ghost use Rattle.job_outcome.specs.Outcome.{outcome, numberOf};
 ghost use Rattle.replay_bounds.specs.Trials.{unitGrid, lentLong, onePop};
 
-// A grid of cells of size 1, the first at the origin.
+// A grid of cells of size 1, the first at the origin, with z upright.
 pub fn grid_of(x: u32, y: u32, z: u32) -> Grid
-    ensures { λ r. ⌜ r ≡ unitGrid x y z ⌝ }
+    ensures { λ r. ⌜ r ≡ unitGrid x y z 2 ⌝ }
+{
+    standing_on(x, y, z, 2)
+}
+
+// The same with the upright axis of this number.
+pub fn standing_on(x: u32, y: u32, z: u32, upright: u32) -> Grid
+    ensures { λ r. ⌜ r ≡ unitGrid x y z upright ⌝ }
 {
     Grid {
         first_cell: Point {
@@ -32,6 +39,7 @@ pub fn grid_of(x: u32, y: u32, z: u32) -> Grid
         count_x: x,
         count_y: y,
         count_z: z,
+        upright: upright,
     }
 }
 

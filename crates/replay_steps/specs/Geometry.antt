@@ -5,9 +5,10 @@ use mathlib.Core.List.{List}
 use Prim.Native.Nat.{ℕ, zero, suc, _+_}
 use lib.IntN.{ℤ, pos, negsuc}
 use Rattle.float.specs.RootOf.{rootOf, rootBits}
+use Rattle.point.specs.Point.{axisNumbered}
 use Rattle.ask_geo.specs.Asked.{askedBox, askedSegment, askedTriangle, askedDistance, askedSignedDistance, askedRay}
 use Rattle.c_records.specs.C as C
-use Rattle.c_records.specs.C.{pointIn, axisIn}
+use Rattle.c_records.specs.C.{pointIn}
 use Rattle.c_records.specs.declared.SdfPointAnswer.{SdfPointAnswer}
 use Rattle.c_records.specs.declared.SdfBoxAnswer.{SdfBoxAnswer}
 use Rattle.c_records.specs.declared.SdfDistanceAnswer.{SdfDistanceAnswer}
@@ -86,4 +87,4 @@ abbrev pub storedRay : List ℕ → ℕ → Bool
 storedRay text base =
     isRayAnswer text base 14
     (C.rayForC
-    (askedRay (pointIn (samplePoint text base 1)) (pointIn (samplePoint text base 4)) (pointIn (samplePoint text base 7)) (pointIn (samplePoint text base 10)) (axisIn (sampleWord text base 13))))
+    (askedRay (pointIn (samplePoint text base 1)) (pointIn (samplePoint text base 4)) (pointIn (samplePoint text base 7)) (pointIn (samplePoint text base 10)) (axisNumbered (sampleWord text base 13))))

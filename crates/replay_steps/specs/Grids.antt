@@ -35,6 +35,7 @@ isGridAnswer text base k r =
     && isSamplePoint text base (k + 1) (r .grid .first)
     && isSamplePoint text base (k + 4) (r .grid .size)
     && isSampleCell text base (k + 7) (r .grid .count)
+    && isSampleWord text base (k + 10) (r .grid .upright)
 
 -- ---- the steps
 
@@ -43,45 +44,45 @@ abbrev pub sampleAsked : List ℕ → ℕ → Grid
 sampleAsked text base = gridIn (sampleGrid text base)
 
 abbrev pub storedFirst : List ℕ → ℕ → Bool
-storedFirst text base = let g = sampleAsked text base in isPointAnswer text base 10 (C.pointForC (ofGrid g (g .«first_cell»)))
+storedFirst text base = let g = sampleAsked text base in isPointAnswer text base 11 (C.pointForC (ofGrid g (g .«first_cell»)))
 
 abbrev pub storedLast : List ℕ → ℕ → Bool
-storedLast text base = let g = sampleAsked text base in isPointAnswer text base 10 (C.pointForC (ofGrid g (Place.lastCell g)))
+storedLast text base = let g = sampleAsked text base in isPointAnswer text base 11 (C.pointForC (ofGrid g (Place.lastCell g)))
 
 abbrev pub storedSize : List ℕ → ℕ → Bool
-storedSize text base = let g = sampleAsked text base in isPointAnswer text base 10 (C.pointForC (ofGrid g (g .«cell_size»)))
+storedSize text base = let g = sampleAsked text base in isPointAnswer text base 11 (C.pointForC (ofGrid g (g .«cell_size»)))
 
 abbrev pub storedCounts : List ℕ → ℕ → Bool
-storedCounts text base = let g = sampleAsked text base in isCellAnswer text base 10 (C.countsForC (ofGrid g (countsOf g)))
+storedCounts text base = let g = sampleAsked text base in isCellAnswer text base 11 (C.countsForC (ofGrid g (countsOf g)))
 
 abbrev pub storedTotal : List ℕ → ℕ → Bool
-storedTotal text base = let g = sampleAsked text base in isNumberAnswer text base 10 (C.numberForC (ofGrid g (Index.total g)))
+storedTotal text base = let g = sampleAsked text base in isNumberAnswer text base 11 (C.numberForC (ofGrid g (Index.total g)))
 
 abbrev pub storedBox : List ℕ → ℕ → Bool
-storedBox text base = let g = sampleAsked text base in isBoxAnswer text base 10 (C.boxForC (ofGrid g (Place.gridBox g)))
+storedBox text base = let g = sampleAsked text base in isBoxAnswer text base 11 (C.boxForC (ofGrid g (Place.gridBox g)))
 
 abbrev pub storedIndex : List ℕ → ℕ → Bool
 storedIndex text base =
     let g = sampleAsked text base in
-    let c = cellIn (sampleCell text base 10) in
-    isNumberAnswer text base 13 (C.numberForC (ofCell g c (Index.indexOf g c)))
+    let c = cellIn (sampleCell text base 11) in
+    isNumberAnswer text base 14 (C.numberForC (ofCell g c (Index.indexOf g c)))
 
 abbrev pub storedCoordinates : List ℕ → ℕ → Bool
 storedCoordinates text base =
     let g = sampleAsked text base in
-    let i = sampleWord text base 10 in
-    isCellAnswer text base 11 (C.cellForC (ofIndex g i (Index.cellAt g i)))
+    let i = sampleWord text base 11 in
+    isCellAnswer text base 12 (C.cellForC (ofIndex g i (Index.cellAt g i)))
 
 abbrev pub storedCentre : List ℕ → ℕ → Bool
 storedCentre text base =
     let g = sampleAsked text base in
-    let c = cellIn (sampleCell text base 10) in
-    isPointAnswer text base 13 (C.pointForC (ofCell g c (Place.centreOf g c)))
+    let c = cellIn (sampleCell text base 11) in
+    isPointAnswer text base 14 (C.pointForC (ofCell g c (Place.centreOf g c)))
 
 abbrev pub storedSnap : List ℕ → ℕ → Bool
 storedSnap text base =
     let g = sampleAsked text base in
-    isSnapAnswer text base 13 (C.snapForC (ofGrid g (Place.snap g (pointIn (samplePoint text base 10)))))
+    isSnapAnswer text base 14 (C.snapForC (ofGrid g (Place.snap g (pointIn (samplePoint text base 11)))))
 
 abbrev pub storedFromBox : List ℕ → ℕ → Bool
 storedFromBox text base =

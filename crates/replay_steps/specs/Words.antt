@@ -44,7 +44,8 @@ sampleCell text base k = record { x = sampleWord text base k; y = sampleWord tex
 
 -- a grid is the first that goes into a step
 abbrev pub sampleGrid : List ℕ → ℕ → SdfGrid
-sampleGrid text base = record { first = samplePoint text base 1; size = samplePoint text base 4; count = sampleCell text base 7 }
+sampleGrid text base =
+    record { first = samplePoint text base 1; size = samplePoint text base 4; count = sampleCell text base 7; upright = sampleWord text base 10 }
 
 -- whether the value that begins at word k of a case is the given one, bit for bit. The NaN is written as 7fc00000.
 abbrev pub isSampleWord : List ℕ → ℕ → ℕ → ℕ → Bool

@@ -15,74 +15,74 @@ pub fn first(text: &[u8], base: usize) -> bool
     ensures { λ r. ⌜ r ≡ Grids.storedFirst (now (text .entry)) base ⌝ }
 {
     let r = c_grids::sdf_grid_first(grid(text, base));
-    is_word(text, base, 10, r.number) & is_point(text, base, 11, r.point)
+    is_word(text, base, 11, r.number) & is_point(text, base, 12, r.point)
 }
 
 pub fn last(text: &[u8], base: usize) -> bool
     ensures { λ r. ⌜ r ≡ Grids.storedLast (now (text .entry)) base ⌝ }
 {
     let r = c_grids::sdf_grid_last(grid(text, base));
-    is_word(text, base, 10, r.number) & is_point(text, base, 11, r.point)
+    is_word(text, base, 11, r.number) & is_point(text, base, 12, r.point)
 }
 
 pub fn size(text: &[u8], base: usize) -> bool
     ensures { λ r. ⌜ r ≡ Grids.storedSize (now (text .entry)) base ⌝ }
 {
     let r = c_grids::sdf_grid_size(grid(text, base));
-    is_word(text, base, 10, r.number) & is_point(text, base, 11, r.point)
+    is_word(text, base, 11, r.number) & is_point(text, base, 12, r.point)
 }
 
 pub fn counts(text: &[u8], base: usize) -> bool
     ensures { λ r. ⌜ r ≡ Grids.storedCounts (now (text .entry)) base ⌝ }
 {
     let r = c_grids::sdf_grid_counts(grid(text, base));
-    is_word(text, base, 10, r.number) & is_cell(text, base, 11, r.cell)
+    is_word(text, base, 11, r.number) & is_cell(text, base, 12, r.cell)
 }
 
 pub fn total(text: &[u8], base: usize) -> bool
     ensures { λ r. ⌜ r ≡ Grids.storedTotal (now (text .entry)) base ⌝ }
 {
     let r = c_grids::sdf_grid_total(grid(text, base));
-    is_word(text, base, 10, r.number) & is_word(text, base, 11, r.value)
+    is_word(text, base, 11, r.number) & is_word(text, base, 12, r.value)
 }
 
 pub fn bounding_box(text: &[u8], base: usize) -> bool
     ensures { λ r. ⌜ r ≡ Grids.storedBox (now (text .entry)) base ⌝ }
 {
     let r = c_grids::sdf_grid_box(grid(text, base));
-    is_word(text, base, 10, r.number)
-        & is_point(text, base, 11, r.min)
-        & is_point(text, base, 14, r.max)
+    is_word(text, base, 11, r.number)
+        & is_point(text, base, 12, r.min)
+        & is_point(text, base, 15, r.max)
 }
 
 pub fn index(text: &[u8], base: usize) -> bool
     ensures { λ r. ⌜ r ≡ Grids.storedIndex (now (text .entry)) base ⌝ }
 {
-    let r = c_grids::sdf_grid_index(grid(text, base), cell(text, base, 10));
-    is_word(text, base, 13, r.number) & is_word(text, base, 14, r.value)
+    let r = c_grids::sdf_grid_index(grid(text, base), cell(text, base, 11));
+    is_word(text, base, 14, r.number) & is_word(text, base, 15, r.value)
 }
 
 pub fn coordinates(text: &[u8], base: usize) -> bool
     ensures { λ r. ⌜ r ≡ Grids.storedCoordinates (now (text .entry)) base ⌝ }
 {
-    let r = c_grids::sdf_grid_coordinates(grid(text, base), word(text, base, 10));
-    is_word(text, base, 11, r.number) & is_cell(text, base, 12, r.cell)
+    let r = c_grids::sdf_grid_coordinates(grid(text, base), word(text, base, 11));
+    is_word(text, base, 12, r.number) & is_cell(text, base, 13, r.cell)
 }
 
 pub fn centre(text: &[u8], base: usize) -> bool
     ensures { λ r. ⌜ r ≡ Grids.storedCentre (now (text .entry)) base ⌝ }
 {
-    let r = c_grids::sdf_grid_centre(grid(text, base), cell(text, base, 10));
-    is_word(text, base, 13, r.number) & is_point(text, base, 14, r.point)
+    let r = c_grids::sdf_grid_centre(grid(text, base), cell(text, base, 11));
+    is_word(text, base, 14, r.number) & is_point(text, base, 15, r.point)
 }
 
 pub fn snap(text: &[u8], base: usize) -> bool
     ensures { λ r. ⌜ r ≡ Grids.storedSnap (now (text .entry)) base ⌝ }
 {
-    let r = c_grids::sdf_grid_snap(grid(text, base), point(text, base, 10));
-    is_word(text, base, 13, r.number)
-        & is_word(text, base, 14, r.inside)
-        & is_cell(text, base, 15, r.cell)
+    let r = c_grids::sdf_grid_snap(grid(text, base), point(text, base, 11));
+    is_word(text, base, 14, r.number)
+        & is_word(text, base, 15, r.inside)
+        & is_cell(text, base, 16, r.cell)
 }
 
 pub fn from_box(text: &[u8], base: usize) -> bool
@@ -96,4 +96,5 @@ pub fn from_box(text: &[u8], base: usize) -> bool
         & is_point(text, base, 11, made.first)
         & is_point(text, base, 14, made.size)
         & is_cell(text, base, 17, made.count)
+        & is_word(text, base, 20, made.upright)
 }

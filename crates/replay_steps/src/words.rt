@@ -97,6 +97,7 @@ pub fn grid(text: &[u8], base: usize) -> SdfGrid
         first: point(text, base, 1),
         size: point(text, base, 4),
         count: cell(text, base, 7),
+        upright: word(text, base, 10),
     }
 }
 

@@ -7,9 +7,10 @@ use c_records::SdfPointAnswer;
 use c_records::SdfRayAnswer;
 ghost use mathlib.Core.Path.{_≡_};
 ghost use Rattle.float.specs.RootOf.{IsRoot, rootBits};
+ghost use Rattle.point.specs.Point.{axisNumbered};
 ghost use Rattle.ask_geo.specs.Asked.{askedBox, askedSegment, askedTriangle, askedDistance, askedSignedDistance, askedRay};
 ghost use Rattle.c_records.specs.C as C;
-ghost use Rattle.c_records.specs.C.{pointIn, axisIn};
+ghost use Rattle.c_records.specs.C.{pointIn};
 
 #[no_mangle]
 pub extern "C" fn sdf_sqrt(x: f32) -> f32
@@ -96,13 +97,13 @@ pub extern "C" fn sdf_ray_triangle_intersection_aligned(
     v2: SdfPoint,
     axis: u32,
 ) -> SdfRayAnswer
-    ensures { λ r. ⌜ r ≡ C.rayForC (askedRay (pointIn o) (pointIn v0) (pointIn v1) (pointIn v2) (axisIn axis)) ⌝ }
+    ensures { λ r. ⌜ r ≡ C.rayForC (askedRay (pointIn o) (pointIn v0) (pointIn v1) (pointIn v2) (axisNumbered axis)) ⌝ }
 {
     c_geo::ray_answer(sdf::ray_triangle_intersection_aligned(
         o.point(),
         v0.point(),
         v1.point(),
         v2.point(),
-        c_records::axis_in(axis),
+        point::axis_numbered(axis),
     ))
 }

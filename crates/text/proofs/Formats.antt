@@ -5,11 +5,14 @@
 use Prim.Native.Nat.{ℕ}
 use native.Mathlib.Omega.{arith}
 use mathlib.Core.Path.{_≡_, refl, sym, ap, _∙_, subst}
-use mathlib.Core.Bool.{Bool, true, false, cond}
+use mathlib.Core.Bool.{Bool, true, false, cond, _&&_, and-eq-true-iff, false≢true}
 use mathlib.Core.Logic.{_⊎_, inl, inr, ⊎-elim}
-use mathlib.Core.List.{List, [], _∷_, _++_, append-assoc, append-nil}
+use mathlib.Core.List.{List, [], _∷_, _++_, append-assoc, append-nil, List·Memᴰ, List·Memᴰ·head, List·Memᴰ·tail, List·Memᴰ·cases-cons, List·Memᴰ·not-nil}
+use lib.Dec.{eqb}
 use borrow.Author.Tests.{eqb-true, eq-eqb}
-use Rattle.text.specs.Reader.{Got, took, nothing, follow, kept, orTry, optional, wordAt, atEnd}
+use Rattle.lists.specs.Every.{every}
+use Rattle.lists.proofs.Every.{every-member}
+use Rattle.text.specs.Reader.{Got, took, nothing, follow, kept, orTry, optional, wordAt, oneOf, atEnd}
 
 -- of the values that are `In`, before the rests that are `Rest`
 pub record ReadsBefore {A : Type 0} (Rest : List ℕ → Type 0) (In : A → Type 0) (f : A → List ℕ) (p : List ℕ → Got A) : Type 0 where
@@ -263,3 +266,39 @@ pub constant-reads : {A : Type 0} {f : A → List ℕ} (word : List ℕ) (c : A)
     → Reads (λ a. a ≡ c) f (λ s. follow (wordAt word s) (λ u s. took c s))
 constant-reads {f = f} word c e =
     reshaped (keyed-reads word (finished c refl (λ j h. h))) (λ a h. h) (λ a h. h) (λ a h. append-nil word ∙ e ∙ ap f (sym h))
+
+-- ---- one of some values, each by its word
+
+-- the words differ at a place that both have: the first does not stand where the second does, whatever follows
+unfoldable pub differ : List ℕ → List ℕ → Bool
+differ [] v = false
+differ (b ∷ w) [] = false
+differ (b ∷ w) (c ∷ v) = cond (eqb c b) (differ w v) true
+
+differ-not : (w v r : List ℕ) → differ w v ≡ true → wordAt w (v ++ r) ≡ nothing
+unfolding wordAt differ
+differ-not [] v r h = absurd (false≢true h)
+differ-not (b ∷ w) [] r h = absurd (false≢true h)
+differ-not (b ∷ w) (c ∷ v) r h = by (eqb c b) h (differ-not w v r)
+  where
+    by : (t : Bool) → cond t (differ w v) true ≡ true → (differ w v ≡ true → wordAt w (v ++ r) ≡ nothing) → cond t (wordAt w (v ++ r)) nothing ≡ nothing
+    by true h later = later h
+    by false h later = refl
+
+module _ {A : Type 0} (f : A → List ℕ) where
+  -- each word differs from those behind it
+  unfoldable pub allDiffer : List A → Bool
+  allDiffer [] = true
+  allDiffer (c ∷ l) = every (λ d. differ (f c) (f d)) l && allDiffer l
+
+  pub one-reads : (l : List A) → allDiffer l ≡ true → Reads (λ a. List·Memᴰ a l) f (oneOf f l)
+  unfolding oneOf allDiffer
+  one-reads [] h = record { sound = λ s a r e. never refl e; complete = λ a r i b. absurd (List·Memᴰ·not-nil i) }
+  one-reads (c ∷ l) h =
+      let both = and-eq-true-iff (every (λ d. differ (f c) (f d)) l) (allDiffer l) .0 h in
+      reshaped
+      (either-reads (constant-reads (f c) c refl) (one-reads l (both .1))
+      (λ a r i b. follows-not _ (differ-not (f c) (f a) r (every-member (λ d. differ (f c) (f d)) a l (both .0) i))))
+      (λ a i. ⊎-elim List·Memᴰ·head List·Memᴰ·tail i)
+      (λ a i. List·Memᴰ·cases-cons i)
+      (λ a i. refl)

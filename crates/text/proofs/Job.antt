@@ -4,16 +4,19 @@ use Prim.Native.Nat.{ℕ, _+_, _^_, _≤_, _<_}
 use native.Mathlib.Omega.{arith}
 use mathlib.Core.Path.{_≡_, refl, sym, ap, _∙_, subst}
 use mathlib.Core.Logic.{_⊎_, inl, inr}
-use mathlib.Core.List.{List, [], _∷_, _++_, append-assoc, append-nil}
+use mathlib.Core.List.{List, [], _∷_, _++_, append-assoc, append-nil, List·Memᴰ, List·Memᴰ·head, List·Memᴰ·tail}
 use Prim.Native.String.{String}
 use lib.Dec.{leb}
 use lib.ListN.{length}
 use borrow.Author.Tests.{leb-true, le-leb, ne-eqb}
+use Rattle.lists.specs.Every.{every}
 use Rattle.mesh_topology.specs.declared.Topology.{Topology}
 use Rattle.mesh_topology.specs.declared.Topology.the-variants.{TriangleList, TriangleStrip}
 use Rattle.terms.specs.declared.SignMethod.{SignMethod}
 use Rattle.terms.specs.declared.SignMethod.the-variants.{Raycast, Normal}
 use Rattle.text.specs.declared.Three.{Three}
+use Rattle.text.specs.declared.Upright.{Upright}
+use Rattle.text.specs.declared.Upright.the-variants.{Unsaid, X, Y, Z}
 use Rattle.text.specs.declared.Head.{Head}
 use Rattle.text.specs.declared.Tail.{Tail}
 use Rattle.text.specs.Words.{bytes, space, lf, decimal, hex8, spaced, line, lines}
@@ -25,6 +28,7 @@ use Rattle.text.specs.TextJob.{
   these,
   numbers,
   floats,
+  uprightText,
   topologyText,
   signText,
   headText,
@@ -50,7 +54,9 @@ use Rattle.text.specs.Reader.{
   took,
   nothing,
   follow,
+  orTry,
   wordAt,
+  oneOf,
   numberAt,
   bitsAt,
   three,
@@ -59,6 +65,7 @@ use Rattle.text.specs.Reader.{
   floatsLine,
   fewCells,
   countLine,
+  uprightLine,
   topologyLine,
   normalLine,
   signAt,
@@ -87,10 +94,14 @@ use Rattle.text.proofs.Formats.{
   finished,
   either-reads,
   option-reads,
+  option-then,
   whole-sound,
   whole-complete,
   keyed-reads,
   constant-reads,
+  differ,
+  allDiffer,
+  one-reads,
   follows-not,
   never,
 }
@@ -146,36 +157,40 @@ count-line =
     (λ c i. (i .0, le-leb _ mostCells (i .1)))
     (λ c i. refl)
 
-topology-line : Reads (λ t. Unit) (λ t. line "topology=" (topologyText t)) topologyLine
-unfolding topologyLine line wordAt follow
-topology-line =
-    reshaped
-    (either-reads (constant-reads (bytes "topology=list\n") TriangleList refl) (constant-reads (bytes "topology=strip\n") TriangleStrip refl)
-    (λ t r i b. apart t r i))
-    (λ t h. tt)
-    (λ t h. one t)
-    (λ t h. refl)
-  where
-    apart : (t : Topology) (r : List ℕ)
-        → t ≡ TriangleStrip
-        → follow (wordAt (bytes "topology=list\n") (line "topology=" (topologyText t) ++ r)) (λ u s. took TriangleList s) ≡ nothing
-    apart t r i = rw i
+-- where the line is said
+upright-line : Reads (λ u. List·Memᴰ u (X ∷ Y ∷ Z ∷ [])) uprightText uprightLine
+unfolding uprightLine line differ allDiffer every
+upright-line = one-reads uprightText _ refl
 
-    one : (t : Topology) → (t ≡ TriangleList) ⊎ (t ≡ TriangleStrip)
-    one TriangleList = inl refl
-    one TriangleStrip = inr refl
+said-or-not : (u : Upright) → List·Memᴰ u (X ∷ Y ∷ Z ∷ []) ⊎ (u ≡ Unsaid)
+said-or-not Unsaid = inr refl
+said-or-not X = inl (List·Memᴰ·head refl)
+said-or-not Y = inl (List·Memᴰ·tail (List·Memᴰ·head refl))
+said-or-not Z = inl (List·Memᴰ·tail (List·Memᴰ·tail (List·Memᴰ·head refl)))
+
+topology-line : Reads (λ t. Unit) (λ t. line "topology=" (topologyText t)) topologyLine
+unfolding topologyLine line differ allDiffer every
+topology-line = reshaped (one-reads _ (TriangleList ∷ TriangleStrip ∷ []) refl) (λ t h. tt) (λ t h. one t) (λ t h. refl)
+  where
+    one : (t : Topology) → List·Memᴰ t (TriangleList ∷ TriangleStrip ∷ [])
+    one TriangleList = List·Memᴰ·head refl
+    one TriangleStrip = List·Memᴰ·tail (List·Memᴰ·head refl)
+
+-- the line of the topology does not begin as that of the upright axis does
+before-topology : (t : Topology) (others r : List ℕ) → uprightLine ((line "topology=" (topologyText t) ++ others) ++ r) ≡ nothing
+unfolding uprightLine oneOf wordAt follow orTry line
+before-topology t others r = refl
 
 -- what does not begin with the line of the method
 abbrev NoSign : List ℕ → Type 0
 NoSign r = normalLine r ≡ nothing
 
 sign-line : ReadsBefore NoSign (λ m. Unit) signText signAt
-unfolding normalLine line
-sign-line =
-    reshaped (option-reads Raycast (constant-reads (bytes "sign=normal\n") Normal refl) refl) (λ m h. tt) (λ m h. one m) (λ m h. refl)
+unfolding normalLine allDiffer every
+sign-line = reshaped (option-reads Raycast (one-reads signText (Normal ∷ []) refl) refl) (λ m h. tt) (λ m h. one m) (λ m h. refl)
   where
-    one : (m : SignMethod) → (m ≡ Normal) ⊎ (m ≡ Raycast)
-    one Normal = inl refl
+    one : (m : SignMethod) → List·Memᴰ m (Normal ∷ []) ⊎ (m ≡ Raycast)
+    one Normal = inl (List·Memᴰ·head refl)
     one Raycast = inr refl
 
 -- ---- the parts of a job
@@ -275,27 +290,30 @@ module _ (t : Topology) where
       one none h = inl refl
       one (these is) h = inr h
 
--- the line that may be left out is its last: it is read before the vertices
+-- a line that may be left out is read before the line that must follow it; the last of the head is one, which is read before the vertices
 head-read : ReadsBefore NoSign HeadFits headText headAt
 unfolding headAt headText
 head-read =
     reshaped
-    (chain {g = λ h. line "first=" (floats (h .first)) ++ (line "size=" (floats (h .size)) ++ (line "topology=" (topologyText (h .topology)) ++ (signText (h .sign) ++ [])))}
+    (chain {g = λ h. line "first=" (floats (h .first)) ++ (line "size=" (floats (h .size)) ++ (uprightText (h .upright) ++ (line "topology=" (topologyText (h .topology)) ++ (signText (h .sign) ++ []))))}
     (λ (h : Head). h .count) _ count-line (λ h i. (i .counts-fit, i .cells-few))
     (λ count ic.
-    chain {g = λ h. line "size=" (floats (h .size)) ++ (line "topology=" (topologyText (h .topology)) ++ (signText (h .sign) ++ []))}
+    chain {g = λ h. line "size=" (floats (h .size)) ++ (uprightText (h .upright) ++ (line "topology=" (topologyText (h .topology)) ++ (signText (h .sign) ++ [])))}
     (λ (h : Head). h .first) _ (floats-line "first=") (λ h i. i .0 .first-fits)
     (λ first if.
-    chain {g = λ h. line "topology=" (topologyText (h .topology)) ++ (signText (h .sign) ++ [])}
+    chain {g = λ h. uprightText (h .upright) ++ (line "topology=" (topologyText (h .topology)) ++ (signText (h .sign) ++ []))}
     (λ (h : Head). h .size) _ (floats-line "size=") (λ h i. i .0 .0 .size-fits)
     (λ size is.
+    option-then Unsaid upright-line refl {g = λ h. line "topology=" (topologyText (h .topology)) ++ (signText (h .sign) ++ [])}
+    (λ (h : Head). h .upright) _ (λ h r i b. before-topology (h .topology) _ r) (λ h i. said-or-not (h .upright))
+    (λ upright iu.
     chain {g = λ h. signText (h .sign) ++ []} (λ (h : Head). h .topology) _ topology-line (λ h i. tt)
     (λ topology it.
     chain-before (λ (h : Head). h .sign) _ sign-line (λ h r i b. b) (λ h i. tt)
     (λ sign ig.
-    finished (head count first size topology sign)
-    (((((record { counts-fit = ic .0; cells-few = ic .1; first-fits = if; size-fits = is }, refl), refl), refl), refl), refl)
-    (λ h i. rw (← i .0 .0 .0 .0 .1, ← i .0 .0 .0 .1, ← i .0 .0 .1, ← i .0 .1, ← i .1))))))))
+    finished (head count first size upright topology sign)
+    ((((((record { counts-fit = ic .0; cells-few = ic .1; first-fits = if; size-fits = is }, refl), refl), refl), refl), refl), refl)
+    (λ h i. rw (← i .0 .0 .0 .0 .0 .1, ← i .0 .0 .0 .0 .1, ← i .0 .0 .0 .1, ← i .0 .0 .1, ← i .0 .1, ← i .1)))))))))
     (λ h i. i)
     (λ h i. i)
     (λ h i. simp (append-assoc, append-nil))
@@ -318,7 +336,7 @@ tail-read =
 
 -- the vertices do not begin as the line that may be left out does
 before-vertices : (vs : List Three) (others r : List ℕ) → NoSign ((verticesText vs ++ others) ++ r)
-unfolding normalLine wordAt follow verticesText line
+unfolding normalLine oneOf wordAt follow orTry verticesText line
 before-vertices vs others r = refl
 
 pub job-reads : Reads Readable jobText jobAt

@@ -3,6 +3,7 @@ pub mod Digits
 pub mod Numbers
 pub mod Lines
 pub mod Job
+pub mod Said
 pub mod Example
 pub mod Places
 pub mod Calls

@@ -11,11 +11,13 @@ use Rattle.terms.specs.declared.SignMethod.the-variants.{Raycast, Normal}
 use Rattle.text.specs.declared.Form.{Form}
 use Rattle.text.specs.declared.Form.the-variants.{Decimal, Hex8}
 use Rattle.text.specs.declared.Three.{Three}
+use Rattle.text.specs.declared.Upright.{Upright}
+use Rattle.text.specs.declared.Upright.the-variants.{Unsaid, X, Y, Z}
 use Rattle.text.specs.declared.Head.{Head}
 use Rattle.text.specs.declared.Tail.{Tail}
-use Rattle.text.specs.Words.{bytes, space, lf}
+use Rattle.text.specs.Words.{bytes, space, lf, line}
 use Rattle.text.specs.Limits.{mostVertices, mostIndices, mostCells, mostEntries}
-use Rattle.text.specs.TextJob.{TextJob, TextIndices, none, these, cellsOf}
+use Rattle.text.specs.TextJob.{TextJob, TextIndices, none, these, uprightText, topologyText, signText, cellsOf}
 
 -- what stands at the front of a text: a value, and what follows it; or no such value
 pub data Got (A : Type 0) : Type 0 where
@@ -46,6 +48,11 @@ unfoldable pub wordAt : List ℕ → List ℕ → Got Unit
 wordAt [] s = took tt s
 wordAt (w ∷ ws) [] = nothing
 wordAt (w ∷ ws) (b ∷ s) = cond (eqb b w) (wordAt ws s) nothing
+
+-- the first of some values whose word stands there; f has the words
+unfoldable pub oneOf : {A : Type 0} → (A → List ℕ) → List A → List ℕ → Got A
+oneOf f [] s = nothing
+oneOf f (a ∷ rest) s = orTry (follow (wordAt (f a) s) (λ _ s. took a s)) (oneOf f rest s)
 
 -- the value of a lower-case hex digit, and 16 of any other byte
 unfoldable pub hexValue : ℕ → ℕ
@@ -111,14 +118,19 @@ fewCells c = leb (cellsOf c) mostCells
 unfoldable pub countLine : List ℕ → Got Three
 countLine s = kept fewCells (follow (wordAt (bytes "count=") s) (λ _ s. threeNumbers numberAt s))
 
+-- the line of the upright axis
+unfoldable pub uprightLine : List ℕ → Got Upright
+uprightLine s = oneOf uprightText (X ∷ Y ∷ Z ∷ []) s
+
+abbrev pub uprightAt : List ℕ → Got Upright
+uprightAt s = optional Unsaid uprightLine s
+
 unfoldable pub topologyLine : List ℕ → Got Topology
-topologyLine s =
-    orTry (follow (wordAt (bytes "topology=list\n") s) (λ _ s. took TriangleList s))
-    (follow (wordAt (bytes "topology=strip\n") s) (λ _ s. took TriangleStrip s))
+topologyLine s = oneOf (λ t. line "topology=" (topologyText t)) (TriangleList ∷ TriangleStrip ∷ []) s
 
 -- the line that asks for Normal
 unfoldable pub normalLine : List ℕ → Got SignMethod
-normalLine s = follow (wordAt (bytes "sign=normal\n") s) (λ _ s. took Normal s)
+normalLine s = oneOf signText (Normal ∷ []) s
 
 abbrev pub signAt : List ℕ → Got SignMethod
 signAt s = optional Raycast normalLine s
@@ -130,8 +142,9 @@ linesAt (suc n) p s = follow (p s) (λ a s. follow (linesAt n p s) (λ rest s. t
 
 -- ---- the parts of a job
 
-abbrev pub head : Three → Three → Three → Topology → SignMethod → Head
-head count first size topology sign = record { count = count; first = first; size = size; topology = topology; sign = sign }
+abbrev pub head : Three → Three → Three → Upright → Topology → SignMethod → Head
+head count first size upright topology sign =
+    record { count = count; first = first; size = size; upright = upright; topology = topology; sign = sign }
 
 unfoldable pub headAt : List ℕ → Got Head
 headAt s =
@@ -141,8 +154,10 @@ headAt s =
     (λ first s.
     follow (floatsLine (bytes "size=") s)
     (λ size s.
+    follow (uprightAt s)
+    (λ upright s.
     follow (topologyLine s)
-    (λ topology s. follow (signAt s) (λ sign s. took (head count first size topology sign) s)))))
+    (λ topology s. follow (signAt s) (λ sign s. took (head count first size upright topology sign) s))))))
 
 abbrev pub vertexLineAt : List ℕ → Got Three
 vertexLineAt s = floatsLine (bytes "v=") s

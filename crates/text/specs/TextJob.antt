@@ -12,6 +12,8 @@ use Rattle.terms.specs.declared.SignMethod.the-variants.{Raycast, Normal}
 use Rattle.text.specs.declared.Form.{Form}
 use Rattle.text.specs.declared.Form.the-variants.{Decimal, Hex8}
 use Rattle.text.specs.declared.Three.{Three}
+use Rattle.text.specs.declared.Upright.{Upright}
+use Rattle.text.specs.declared.Upright.the-variants.{Unsaid, X, Y, Z}
 use Rattle.text.specs.declared.Head.{Head}
 use Rattle.text.specs.declared.Tail.{Tail}
 use Rattle.text.specs.Words.{bytes, decimal, hex8, spaced, line, lines}
@@ -23,7 +25,8 @@ pub data TextIndices : Type 0 where
   these : List ℕ → TextIndices
 
 pub record TextJob : Type 0 where
-  -- the counts, the bits of the first cell's centre and of the cell size, the topology, and the method of the signs
+  -- the counts, the bits of the first cell's centre and of the cell size, what is said of the upright axis, the topology, and the method of
+  -- the signs
   pub head : Head
   -- the bits of each vertex
   pub vertices : List Three
@@ -45,6 +48,14 @@ numbers t = threeText Decimal t
 abbrev pub floats : Three → List ℕ
 floats t = threeText Hex8 t
 
+-- "A job may have `upright=x`, `y` or `z` after `size=`; without the line it is z." (document 02, §9): no other spelling. A text with the line
+-- `upright=z` is not that without a line, so that nothing was said is a value of its own.
+abbrev pub uprightText : Upright → List ℕ
+uprightText Unsaid = []
+uprightText X = line "upright=" (bytes "x")
+uprightText Y = line "upright=" (bytes "y")
+uprightText Z = line "upright=" (bytes "z")
+
 -- "The topology is `list` or `strip`."
 abbrev pub topologyText : Topology → List ℕ
 topologyText TriangleList = bytes "list"
@@ -61,6 +72,7 @@ headText h =
     line "count=" (numbers (h .count))
     ++ line "first=" (floats (h .first))
     ++ line "size=" (floats (h .size))
+    ++ uprightText (h .upright)
     ++ line "topology=" (topologyText (h .topology))
     ++ signText (h .sign)
 
@@ -86,6 +98,13 @@ unfoldable pub jobText : TextJob → List ℕ
 jobText j = headText (j .head) ++ verticesText (j .vertices) ++ indicesText (j .indices) ++ tailText (j .tail)
 
 -- ---- what it stands for
+
+-- the number of the upright axis: 0 x, 1 y, 2 z; "without the line it is z"
+abbrev pub uprightMeant : Upright → ℕ
+uprightMeant Unsaid = 2
+uprightMeant X = 0
+uprightMeant Y = 1
+uprightMeant Z = 2
 
 -- the indices of a text, which are none without them
 abbrev pub indexList : TextIndices → List ℕ

@@ -55,11 +55,22 @@ pub struct Three {
     pub z: u32,
 }
 
-// The lines before the vertices. The line of the signs' method may be left out, which is how Raycast is said.
+// What a text says of the upright axis: one of the three, or nothing, which means z. That nothing was said is
+// kept, since a text with the line `upright=z` is another text of the same job.
+pub enum Upright {
+    Unsaid,
+    X,
+    Y,
+    Z,
+}
+
+// The lines before the vertices. The lines of the upright axis and of the signs' method may be left out; the second
+// is how Raycast is said.
 pub struct Head {
     pub count: Three,
     pub first: Three,
     pub size: Three,
+    pub upright: Upright,
     pub topology: Topology,
     pub sign: SignMethod,
 }

@@ -1,4 +1,5 @@
--- A job that was read, by its parts, is listed as its text asks; and a text has one answer. Assumes nothing.
+-- A job that was read, by its parts, is listed as its text asks; and a text has one answer, which is the same with the line `upright=z` as
+-- without it. Assumes nothing.
 use Prim.Native.Nat.{ℕ, _*_, _≤_}
 use native.Mathlib.Omega.{arith}
 use mathlib.Core.Path.{_≡_, refl, sym, ap, _∙_, subst}
@@ -7,16 +8,19 @@ use lib.ListN.{length, take}
 use lib.Seq.{length-take-le}
 use Rattle.text.specs.declared.Head.{Head}
 use Rattle.text.specs.declared.Tail.{Tail}
+use Rattle.text.specs.declared.Upright.the-variants.{Unsaid, Z}
 use Rattle.text.specs.Limits.{mostCells, mostEntries, coordinateRoom, listingRoom}
 use Rattle.text.specs.Answering.{Answered}
 use Rattle.text.specs.TextJob.{TextJob, cellsOf, Readable, jobText}
 use Rattle.text.proofs.Job.{one-job}
+use Rattle.text.proofs.Said.{saying, said-readable}
 use Rattle.text_read_job.specs.declared.Asked.{Asked}
 use Rattle.text_read_job.specs.Reading.{HoldsJob}
 use Rattle.lists.specs.Put.{Put}
 use Rattle.lists.proofs.Puts.{said}
 use Rattle.float_bits.specs.Patterns.{floatsOf}
 use Rattle.listing.specs.Listing.{jobBy, lentFor, listing, Prints, listing-of, unreadable}
+use Rattle.listing.proofs.AskedJob.{z-or-nothing-listed}
 use Rattle.listing_run.specs.Parts.{listedOf, heldJob, Small}
 
 module _ {j : TextJob} {a : Asked} {vertices indices : List ℕ} (h : HoldsJob j a vertices indices) where
@@ -50,3 +54,13 @@ one-output o p (listing-of j r e u) (listing-of k s f v) = u ∙ ap listing (one
 one-output o p (listing-of j r e u) (unreadable n v) = absurd (n j r e)
 one-output o p (unreadable n u) (listing-of k s f v) = absurd (n k s f)
 one-output o p (unreadable n u) (unreadable m v) = u ∙ sym v
+
+-- "without the line it is z": the line `upright=z` can be put in or left out (`said-between`, crates/text/proofs/Said.antt, has where)
+pub z-or-nothing-printed : (j : TextJob) → Readable j → (o p : List ℕ)
+    → Prints (jobText (saying Unsaid j)) o
+    → Prints (jobText (saying Z j)) p
+    → o ≡ p
+z-or-nothing-printed j r o p without with =
+    one-output o (listing (saying Unsaid j)) without (listing-of (saying Unsaid j) (said-readable Unsaid j r) refl refl)
+    ∙ z-or-nothing-listed j
+    ∙ one-output (listing (saying Z j)) p (listing-of (saying Z j) (said-readable Z j r) refl refl) with

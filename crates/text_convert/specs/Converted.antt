@@ -20,9 +20,10 @@ use Rattle.text.specs.Answering.{answerLine}
 abbrev pub trianglesNamed : TextJob → List Triangle
 trianglesNamed j = trianglesOf (j .head .topology) (givenOf (j .indices)) (indexList (j .indices)) (length (j .vertices))
 
--- the same lines before the vertices, that of the signs' method included, but for `topology=list`
+-- the same lines before the vertices, those that may be left out as they were said or not, but for `topology=list`
 abbrev pub listHead : Head → Head
-listHead h = record { count = h .count; first = h .first; size = h .size; topology = TriangleList; sign = h .sign }
+listHead h =
+    record { count = h .count; first = h .first; size = h .size; upright = h .upright; topology = TriangleList; sign = h .sign }
 
 -- "its triangles listed by explicit indices": all of them, where there is none `indices=0`; all else is the same
 abbrev pub asList : TextJob → TextJob

@@ -27,18 +27,20 @@ ghost use Rattle.text_convert.specs.Converted.{listHead, asList, convert
 // How many indices an old job may have, a list too.
 const OLD_MOST_INDICES: usize = 768;
 
-// The same lines before the vertices, that of the signs' method included, but for the topology.
+// The same lines before the vertices, those that may be left out included, but for the topology.
 fn list_head(head: Head) -> Head
     ensures { λ r. ⌜ r ≡ listHead head ⌝ }
 {
     let count = head.count;
     let first = head.first;
     let size = head.size;
+    let upright = head.upright;
     let sign = head.sign;
     Head {
         count,
         first,
         size,
+        upright,
         topology: Topology::TriangleList,
         sign,
     }

@@ -5,9 +5,11 @@ use lib.ListN.{drop}
 use Rattle.mesh_topology.specs.declared.Topology.{Topology}
 use Rattle.terms.specs.declared.SignMethod.{SignMethod}
 use Rattle.text.specs.declared.Three.{Three}
+use Rattle.text.specs.declared.Upright.{Upright}
 use Rattle.text.specs.Reader.{Got, took, nothing}
 use Rattle.text_read_lines.specs.declared.Triple.{Triple}
 use Rattle.text_read_lines.specs.declared.Triple.the-variants as Triple
+use Rattle.text_read_lines.specs.declared.Standing.{Standing}
 use Rattle.text_read_lines.specs.declared.Shape.{Shape}
 use Rattle.text_read_lines.specs.declared.Shape.the-variants as Shape
 use Rattle.text_read_lines.specs.declared.Method.{Method}
@@ -20,6 +22,9 @@ abbrev pub gotShape : List ℕ → Shape → Got Topology
 gotShape text (Shape.Is t k) = took t (drop k text)
 gotShape text Shape.Not = nothing
 
--- of a line that may be left out: there is always a value
+-- of a line that may be left out there is always a value
+abbrev pub gotUpright : List ℕ → Standing → Got Upright
+gotUpright text u = took (u .upright) (drop (u .next) text)
+
 abbrev pub gotMethod : List ℕ → Method → Got SignMethod
 gotMethod text m = took (m .sign) (drop (m .next) text)

@@ -5,18 +5,25 @@ use terms::SignMethod;
 use text::Form;
 use text::MOST_CELLS;
 use text::Three;
+use text::Upright;
 use text_read_words::Next;
 use text_read_words::Number;
 ghost use mathlib.Core.Path.{_≡_};
 ghost use lib.ListN.{drop};
-ghost use Rattle.text.specs.Reader.{valueAt, threeNumbers, numberLine, floatsLine, fewCells, countLine, topologyLine, signAt};
+ghost use Rattle.text.specs.Reader.{valueAt, threeNumbers, numberLine, floatsLine, fewCells, countLine, uprightAt, topologyLine, signAt};
 ghost use Rattle.text_read_words.specs.Told.{gotNumber};
-ghost use Rattle.text_read_lines.specs.Told.{gotTriple, gotShape, gotMethod};
+ghost use Rattle.text_read_lines.specs.Told.{gotTriple, gotUpright, gotShape, gotMethod};
 
 // Three numbers, and the place behind them.
 pub enum Triple {
     Are { three: Three, next: usize },
     Not,
+}
+
+// What is said of the upright axis, and the place behind its line, or behind nothing where there is no such line.
+pub struct Standing {
+    pub upright: Upright,
+    pub next: usize,
 }
 
 // A topology, and the place behind it.
@@ -112,6 +119,34 @@ pub fn count_line(text: &[u8], at: usize) -> Triple
         return Triple::Not;
     }
     Triple::Are { three, next }
+}
+
+// The line of the upright axis, which may be left out.
+pub fn upright_line(text: &[u8], at: usize) -> Standing
+    ensures { λ r. ⌜ gotUpright (now (text .entry)) r ≡ uprightAt (drop at (now (text .entry))) ⌝ }
+{
+    if let Next::At(next) = text_read_words::after(text, at, b"upright=x\n") {
+        return Standing {
+            upright: Upright::X,
+            next,
+        };
+    }
+    if let Next::At(next) = text_read_words::after(text, at, b"upright=y\n") {
+        return Standing {
+            upright: Upright::Y,
+            next,
+        };
+    }
+    if let Next::At(next) = text_read_words::after(text, at, b"upright=z\n") {
+        return Standing {
+            upright: Upright::Z,
+            next,
+        };
+    }
+    Standing {
+        upright: Upright::Unsaid,
+        next: at,
+    }
 }
 
 // The line of the topology.

@@ -66,10 +66,13 @@ pub fn head(text: &[u8], at: usize) -> Front
     else {
         return Front::Not;
     };
+    let standing = text_read_lines::upright_line(text, behind_size);
+    let upright = standing.upright;
+    let behind_upright = standing.next;
     let Shape::Is {
         topology,
         next: behind_topology,
-    } = text_read_lines::topology_line(text, behind_size)
+    } = text_read_lines::topology_line(text, behind_upright)
     else {
         return Front::Not;
     };
@@ -80,6 +83,7 @@ pub fn head(text: &[u8], at: usize) -> Front
             count,
             first,
             size,
+            upright,
             topology,
             sign,
         },

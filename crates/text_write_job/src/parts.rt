@@ -6,6 +6,7 @@ use text::Form;
 use text::Head;
 use text::Tail;
 use text::Three;
+use text::Upright;
 use text_write::put_all;
 use text_write::put_number;
 use text_write::put_three;
@@ -13,9 +14,23 @@ ghost use Prim.Native.Nat.{_+_, _*_, _≤_};
 ghost use lib.ListN.{length, take};
 ghost use Rattle.text.specs.Words.{line, lines};
 ghost use Rattle.text.specs.Limits.{mostVertices, indexRoom};
-ghost use Rattle.text.specs.TextJob.{topologyText, signText, headText, vertexLine, verticesText, indexLine, indicesText, tailText};
+ghost use Rattle.text.specs.TextJob.{uprightText, topologyText, signText, headText, vertexLine, verticesText, indexLine, indicesText, tailText};
 ghost use Rattle.text_read_parts.specs.Told.{threesIn, listedAs};
 ghost use Rattle.lists.specs.Put.{Put};
+
+// The line of the upright axis, where it was said.
+fn put_upright(out: &mut [u8], at: usize, upright: Upright) -> usize
+    requires { ⌜ at + 10 ≤ length (now out) ⌝ }
+    ensures { λ r. ⌜ Put (now (out .entry)) at (uprightText upright) (now (out .exit)) r ⌝ }
+    ensures { λ r. ⌜ r ≤ at + 10 ⌝ }
+{
+    match upright {
+        Upright::Unsaid => at,
+        Upright::X => put_all(out, at, b"upright=x\n"),
+        Upright::Y => put_all(out, at, b"upright=y\n"),
+        Upright::Z => put_all(out, at, b"upright=z\n"),
+    }
+}
 
 fn put_topology(out: &mut [u8], at: usize, topology: Topology) -> usize
     requires { ⌜ at + 15 ≤ length (now out) ⌝ }
@@ -42,20 +57,22 @@ fn put_sign(out: &mut [u8], at: usize, sign: SignMethod) -> usize
 
 // The lines before the vertices, at the first byte.
 pub fn put_head(out: &mut [u8], head: Head) -> usize
-    requires { ⌜ 131 ≤ length (now out) ⌝ }
+    requires { ⌜ 141 ≤ length (now out) ⌝ }
     ensures { λ r. ⌜ Put (now (out .entry)) 0 (headText head) (now (out .exit)) r ⌝ }
-    ensures { λ r. ⌜ r ≤ 131 ⌝ }
+    ensures { λ r. ⌜ r ≤ 141 ⌝ }
 {
     let count = head.count;
     let first = head.first;
     let size = head.size;
+    let upright = head.upright;
     let topology = head.topology;
     let sign = head.sign;
     let a = put_three(out, 0, b"count=", count, Form::Decimal);
     let b = put_three(out, a, b"first=", first, Form::Hex8);
     let c = put_three(out, b, b"size=", size, Form::Hex8);
-    let d = put_topology(out, c, topology);
-    put_sign(out, d, sign)
+    let d = put_upright(out, c, upright);
+    let e = put_topology(out, d, topology);
+    put_sign(out, e, sign)
 }
 
 // A line for each of the first n vertices.

@@ -1,4 +1,4 @@
--- `text_read_parts::head`: its four lines and the one that may be left out, as in the reader on lists. Assumes nothing.
+-- `text_read_parts::head`: its four lines and the two that may be left out, as in the reader on lists. Assumes nothing.
 use borrow.Author.Needs.{needs}
 use mathlib.Core.Path.{_≡_, _∙_}
 use lib.ListN.{drop}
@@ -54,7 +54,9 @@ returns-4 : tie.Need-returns-4
 unfolding headAt
 returns-4 c =
     let s : tie.After-size = search in
+    let u : tie.After-upright-line = search in
     stopped _ (rw (c .enum-told4 .given .1) at (c .before .before .topology-line .ensures))
+    ∙ onward _ (u .upright-line .ensures)
     ∙ onward _ (size-told s)
     ∙ onward _ (first-told (first s))
     ∙ onward _ (count-told (counted (first s)))
@@ -63,10 +65,12 @@ returns-5 : tie.Need-returns-5
 unfolding headAt
 returns-5 c =
     let s : tie.After-size = search in
+    let u : tie.After-upright-line = search in
     let t : tie.After-topology = search in
     let g : tie.After-sign-line = search in
     onward _ (g .sign-line .ensures)
     ∙ onward _ (rw (t .topology .given .1) at (t .before .before .topology-line .ensures))
+    ∙ onward _ (u .upright-line .ensures)
     ∙ onward _ (size-told s)
     ∙ onward _ (first-told (first s))
     ∙ onward _ (count-told (counted (first s)))
@@ -77,5 +81,5 @@ head-spec =
     (λ c κs. search needs) (λ c. search needs) (λ c. search needs) returns
     (λ c. search needs) (λ c κs. search needs) (λ c. search needs) (λ c. search needs) returns-2
     (λ c. search needs) (λ c κs. search needs) (λ c. search needs) (λ c. search needs) returns-3
-    (λ c κs. search needs) (λ c. search needs) (λ c. search needs) returns-4
+    (λ c κs. search needs) (λ c κs. search needs) (λ c. search needs) (λ c. search needs) returns-4
     (λ c κs. search needs) returns-5)

@@ -5,7 +5,7 @@
 
 #![allow(clippy::missing_safety_doc)]
 
-use crate::{begin, crossings, get_triangles, guarded, run_in, seeding, Lent, Order, Sign};
+use crate::{begin, crossings, get_triangles, guarded, rows, run_in, seeding, Lent, Order, Sign};
 use mesh_to_sdf::{probe, Grid, SnapResult};
 use std::slice::{from_raw_parts, from_raw_parts_mut};
 use std::sync::Mutex;
@@ -49,9 +49,13 @@ impl OracleMesh {
             1 => (Sign::Normal, Order::Document),
             _ => (Sign::Normal, Order::Source),
         };
-        (Lent { count, first, size, strip: self.strip != 0, sign, vertices, indices }, order)
+        let strip = self.strip != 0;
+        (Lent { count, first, size, upright: NO_AXIS, strip, sign, vertices, indices }, order)
     }
 }
+
+/// The Rust's grid has no upright axis: what asks for rows says it by itself.
+const NO_AXIS: u32 = 3;
 
 /// For what depends on the mesh alone.
 const NO_GRID: OracleGrid = OracleGrid { first: [0.0; 3], size: [1.0; 3], count: [1; 3] };
@@ -118,6 +122,22 @@ pub unsafe extern "C" fn oracle_crossings(grid: &OracleGrid, mesh: &OracleMesh, 
     reply(crossings(mesh.on(grid, 0).0), |cells| {
         from_raw_parts_mut(counts, cells.len()).copy_from_slice(&cells);
     })
+}
+
+/// Not the Rust's own: it answers a number of the documents, 0, 1 or 5.
+#[no_mangle]
+pub unsafe extern "C" fn oracle_rows(grid: &OracleGrid, upright: u32, field: *const f32, counts: *mut u32, length: usize) -> u32 {
+    let OracleGrid { first, size, count } = *grid;
+    let job = Lent { count, first, size, upright, strip: false, sign: Sign::Raycast, vertices: &[], indices: None };
+    let cells = count.iter().map(|&n| n as usize).product();
+    match rows(job, from_raw_parts(field, cells)) {
+        None => 1,
+        Some(rows) if rows.len() != length => 5,
+        Some(rows) => {
+            from_raw_parts_mut(counts, length).copy_from_slice(&rows);
+            0
+        }
+    }
 }
 
 #[no_mangle]

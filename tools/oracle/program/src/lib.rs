@@ -36,11 +36,12 @@ impl Sign {
     }
 }
 
-/// One job, without document 01's bounds: the Rust has none.
+/// One job, without document 01's bounds: the Rust has none. Nor has it an upright axis (document 02, §9: 0 x, 1 y, 2 z): only `rows` looks at it.
 pub struct Job {
     pub count: [u32; 3],
     pub first: [f32; 3],
     pub size: [f32; 3],
+    pub upright: u32,
     pub strip: bool,
     pub sign: Sign,
     pub vertices: Vec<[f32; 3]>,
@@ -49,8 +50,8 @@ pub struct Job {
 
 impl Job {
     pub fn lent(&self) -> Lent<'_> {
-        let Job { count, first, size, strip, sign, ref vertices, ref indices } = *self;
-        Lent { count, first, size, strip, sign, vertices, indices: indices.as_deref() }
+        let Job { count, first, size, upright, strip, sign, ref vertices, ref indices } = *self;
+        Lent { count, first, size, upright, strip, sign, vertices, indices: indices.as_deref() }
     }
 }
 
@@ -60,6 +61,7 @@ pub struct Lent<'a> {
     pub count: [u32; 3],
     pub first: [f32; 3],
     pub size: [f32; 3],
+    pub upright: u32,
     pub strip: bool,
     pub sign: Sign,
     pub vertices: &'a [[f32; 3]],
@@ -117,6 +119,18 @@ pub fn run_in(order: Order, job: Lent) -> Result<Answer, String> {
         Sign::Normal => 0.0,
     };
     Ok(Answer { field, steps, times: [seeding, spreading, crossings] })
+}
+
+/// The rows of a field, which the Rust has not: for each number on the upright axis, how many of the cells that have it have their sign bit set
+/// (document 02, §2 and §9). What number a cell has is the Rust's own answer. None where the axis is no axis, which is a case of refusal 1.
+pub fn rows(job: Lent, field: &[f32]) -> Option<Vec<u32>> {
+    let (_, grid, _) = in_types_of!(mesh_to_sdf, job);
+    let upright = job.upright as usize;
+    let mut rows = vec![0; *grid.get_cell_count().get(upright)?];
+    for (cell, distance) in field.iter().enumerate() {
+        rows[grid.get_cell_integer_coordinates(cell)[upright]] += distance.to_bits() >> 31;
+    }
+    Some(rows)
 }
 
 /// What seeding leaves: for each cell the vertex numbers of its triangle, and the distance. The queue has no part in it.

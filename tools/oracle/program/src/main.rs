@@ -2,6 +2,7 @@
 //!
 //!   cell=INDEX BITS     each cell, the distance's bits as eight hex digits
 //!   steps=N             propagation steps, as the source's log counts them
+//!   row=LAYER COUNT     how many cells of each layer along the upright axis have their sign bit set: counted off the field, the Rust has no rows
 //!   crossing=I X Y Z    with --crossings: the ray pass's counts of each cell; with Normal signs there are none
 //!
 //! or one line: `panic=WORDS` where the source panics, `unreadable` where the text is no job.
@@ -10,7 +11,7 @@
 //! A job is answered by the unmodified Rust, and one with Normal signs by the Rust with the queue's order of document 02, §8, put in. With
 //! --source-order all are answered by the unmodified one, and with --document-order all by the other.
 
-use mesh_oracle::{crossings, run_in, text, Job, Order};
+use mesh_oracle::{crossings, rows, run_in, text, Job, Order};
 use std::fmt::Write as _;
 use std::io::{BufRead, Read, Write};
 
@@ -55,6 +56,9 @@ fn listing(job: &Job, order: Order, with_crossings: bool) -> Result<String, Stri
         writeln!(out, "cell={cell} {:08x}", distance.to_bits()).unwrap();
     }
     writeln!(out, "steps={}", answer.steps).unwrap();
+    for (layer, count) in rows(job.lent(), &answer.field).expect("a text has one of three axes").iter().enumerate() {
+        writeln!(out, "row={layer} {count}").unwrap();
+    }
     if with_crossings {
         for (cell, [x, y, z]) in crossings(job.lent())?.iter().enumerate() {
             writeln!(out, "crossing={cell} {x} {y} {z}").unwrap();

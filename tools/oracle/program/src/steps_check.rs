@@ -136,7 +136,7 @@ fn grid_case(r: &mut Random, met: &mut Met) {
         _ => 2f32.powi(r.below(19) as i32 - 9) * (1.0 + r.unit().abs() * 0.9),
     });
     let first = point(style, r);
-    let ours = grid::Grid { first, size, count };
+    let ours = grid::Grid { first, size, count, upright: None };
     let theirs = Grid::new(first, size, count.map(|n| n as usize));
     let case = (first, size, count);
     // A cell of the grid, and a point at or near an edge of one.

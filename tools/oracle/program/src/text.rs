@@ -12,12 +12,21 @@ pub fn read(text: &[u8]) -> Option<Job> {
     let count = three(value(&mut lines, "count")?, decimal)?;
     let first = three(value(&mut lines, "first")?, float)?;
     let size = three(value(&mut lines, "size")?, float)?;
+    // One of the two lines that may be missing (document 02, §9): without it the axis is z, and none has another spelling.
+    let upright = match lines.clone().next()? {
+        "upright=x" => Some(0),
+        "upright=y" => Some(1),
+        "upright=z" => Some(2),
+        _ => None,
+    };
+    let mut lines = lines.skip(usize::from(upright.is_some()));
+    let upright = upright.unwrap_or(2);
     let strip = match value(&mut lines, "topology")? {
         "list" => false,
         "strip" => true,
         _ => return None,
     };
-    // The one line that may be missing (document 02, §8); it has one spelling.
+    // The other (§8); it has one spelling.
     let said = lines.clone().next()? == "sign=normal";
     let sign = if said { Sign::Normal } else { Sign::Raycast };
     let mut lines = lines.skip(usize::from(said));
@@ -30,7 +39,7 @@ pub fn read(text: &[u8]) -> Option<Job> {
     decimal(value(&mut lines, "queue")?)?;
     decimal(value(&mut lines, "pops")?)?;
     let cells = count.iter().fold(1u128, |cells, &n| cells * u128::from(n));
-    (lines.next().is_none() && cells <= MOST_CELLS).then_some(Job { count, first, size, strip, sign, vertices, indices })
+    (lines.next().is_none() && cells <= MOST_CELLS).then_some(Job { count, first, size, upright, strip, sign, vertices, indices })
 }
 
 fn value<'a>(lines: &mut impl Iterator<Item = &'a str>, key: &str) -> Option<&'a str> {

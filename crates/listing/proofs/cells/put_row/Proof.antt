@@ -11,10 +11,10 @@ returns : tie.Need-returns
 unfolding line
 returns c =
     let n = c .before .before in
-    let z = n .before .before .before .before in
-    let k = z .before .before .before .before in
+    let l = n .before .before .before .before in
+    let k = l .before .before .before .before in
     let a = k .before .before .before .before .args in
-    let put = andThen (andThen (k .put-all .ensures) (z .put-value-then .ensures .0)) (n .put-value-then2 .ensures .0) in
+    let put = andThen (andThen (k .put-all .ensures) (l .put-value-then .ensures .0)) (n .put-value-then2 .ensures .0) in
     (said (two-words (bytes "row=") (decimal (a .layer)) (decimal (a .count))) refl put, search needs)
 
 pub put-row-spec : {M : Type 1} → statement M

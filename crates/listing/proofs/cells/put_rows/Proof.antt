@@ -10,10 +10,10 @@ use Rattle.listing.proofs.cells.put_rows.Statement.{statement}
 use Rattle.listing.proofs.cells.put_rows.Tie as tie
 
 abbrev Inv-loop : tie.InvT-loop
-Inv-loop out₀ at rows z₀ next₀ out z next = Pieces (rowLine (shown [] [] rows)) 26 out₀ at (length rows) out z next
+Inv-loop out₀ at rows layer₀ next₀ out layer next = Pieces (rowLine (shown [] [] rows)) 26 out₀ at (length rows) out layer next
 
 abbrev μ-loop : tie.MeasureT-loop
-μ-loop out₀ at rows z₀ next₀ out z next = length rows - z
+μ-loop out₀ at rows layer₀ next₀ out layer next = length rows - layer
 
 put-row-requires : tie.Need-put-row-requires Inv-loop μ-loop
 put-row-requires c κs =

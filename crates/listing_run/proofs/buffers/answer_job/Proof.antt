@@ -47,14 +47,13 @@ returns c =
     let w = f .before .before in
     let z = w .before .before in
     let a = entry w .args in
-    let n = a .asked .head .count in
     let total = z .before .cells-of in
     let layers = z .rows-of in
     let job : List Float → Job = λ v. heldJob (a .asked) v (a .indices .now) in
     said
     (ap (λ (v : List Float). listedOf (job v) (lentBy (total .result) (layers .result) (a .asked .tail .room))) (front-of (a .bits .now) (behind w) (f .fill .ensures))
     ∙ ap (λ (k : ℕ). listedOf (job (floatsOf (a .bits .now))) (lentBy k (layers .result) (a .asked .tail .room))) (total .ensures)
-    ∙ same-layers (job (floatsOf (a .bits .now))) (n .x * n .y) (n .z) (layers .result) (a .asked .tail .room) refl (entry w .pre .cells-few) (layers .ensures .1))
+    ∙ same-layers (job (floatsOf (a .bits .now))) (layers .result) (a .asked .tail .room) (entry w .pre .cells-few) (layers .ensures .1))
     refl
     (l .list-run .ensures)
 

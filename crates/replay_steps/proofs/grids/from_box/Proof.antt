@@ -7,5 +7,5 @@ pub from-box-spec : {M : Type 1} → statement M
 from-box-spec =
     tie.close (tie.spec
     (λ c κs. search needs) (λ c κs. search needs) (λ c κs. search needs) (λ c κs. search needs)
-    (λ c κs. search needs) (λ c κs. search needs) (λ c κs. search needs) (λ c κs. search needs)
-    (λ c. rw (c .is-cell .ensures, c .before .is-point2 .ensures, c .before .before .is-point .ensures, c .before .before .before .is-word .ensures, c .before .before .before .before .before .sdf-grid-from-bounding-box .ensures, c .before .before .before .before .before .before .cell .ensures, c .before .before .before .before .before .before .before .point2 .ensures, c .before .before .before .before .before .before .before .before .point .ensures)))
+    (λ c κs. search needs) (λ c κs. search needs) (λ c κs. search needs) (λ c κs. search needs) (λ c κs. search needs)
+    (λ c. rw (c .is-word2 .ensures, c .before .is-cell .ensures, c .before .before .is-point2 .ensures, c .before .before .before .is-point .ensures, c .before .before .before .before .is-word .ensures, c .before .before .before .before .before .before .sdf-grid-from-bounding-box .ensures, c .before .before .before .before .before .before .before .cell .ensures, c .before .before .before .before .before .before .before .before .point2 .ensures, c .before .before .before .before .before .before .before .before .before .point .ensures)))

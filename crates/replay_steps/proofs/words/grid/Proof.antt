@@ -1,4 +1,4 @@
--- `words::grid`: two points and a cell. Assumes nothing.
+-- `words::grid`: two points, a cell and a word. Assumes nothing.
 use borrow.Author.Needs.{needs}
 use Rattle.replay_steps.proofs.words.grid.Statement.{statement}
 use Rattle.replay_steps.proofs.words.grid.Tie as tie
@@ -6,5 +6,5 @@ use Rattle.replay_steps.proofs.words.grid.Tie as tie
 pub grid-spec : {M : Type 1} → statement M
 grid-spec =
     tie.close (tie.spec
-    (λ c κs. search needs) (λ c κs. search needs) (λ c κs. search needs)
-    (λ c. rw (c .cell .ensures, c .before .point2 .ensures, c .before .before .point .ensures)))
+    (λ c κs. search needs) (λ c κs. search needs) (λ c κs. search needs) (λ c κs. search needs)
+    (λ c. rw (c .word .ensures, c .before .cell .ensures, c .before .before .point2 .ensures, c .before .before .before .point .ensures)))

@@ -1,0 +1,70 @@
+-- What is said of the upright axis is one line of a text, directly behind that of the cell size: jobs that differ in it alone have texts that
+-- differ in that line alone, and are readable together. No line means what `upright=z` means. By the definitions. Assumes nothing.
+use mathlib.Core.Path.{_≡_, refl}
+use mathlib.Core.List.{List, _++_, append-assoc}
+use Prim.Native.Nat.{ℕ}
+use Rattle.text.specs.declared.Upright.{Upright}
+use Rattle.text.specs.declared.Upright.the-variants.{Unsaid, Z}
+use Rattle.text.specs.Words.{line}
+use Rattle.text.specs.TextJob.{
+  TextJob,
+  numbers,
+  floats,
+  uprightText,
+  topologyText,
+  signText,
+  headText,
+  verticesText,
+  indicesText,
+  tailText,
+  jobText,
+  uprightMeant,
+  Readable,
+}
+use Rattle.text.specs.Reader.{head, assembled}
+
+-- the same job with this said of the axis
+abbrev pub saying : Upright → TextJob → TextJob
+saying u j = let h = j .head in assembled (head (h .count) (h .first) (h .size) u (h .topology) (h .sign)) (j .vertices) (j .indices) (j .tail)
+
+module _ (j : TextJob) where
+  -- the lines up to that of the cell size, and those from that of the topology on
+  abbrev pub upToSize : List ℕ
+  upToSize = line "count=" (numbers (j .head .count)) ++ line "first=" (floats (j .head .first)) ++ line "size=" (floats (j .head .size))
+
+  abbrev pub fromTopology : List ℕ
+  fromTopology =
+      line "topology=" (topologyText (j .head .topology))
+      ++ signText (j .head .sign)
+      ++ verticesText (j .vertices)
+      ++ indicesText (j .indices)
+      ++ tailText (j .tail)
+
+  pub said-between : (u : Upright) → jobText (saying u j) ≡ upToSize ++ uprightText u ++ fromTopology
+  unfolding jobText headText
+  said-between u =
+      regrouped (upToSize ++ uprightText u) (line "topology=" (topologyText (j .head .topology))) (signText (j .head .sign)) (verticesText (j .vertices))
+      (indicesText (j .indices))
+      (tailText (j .tail))
+    where
+      regrouped : (before topology sign vertices indices tail : List ℕ)
+          → before ++ topology ++ sign ++ vertices ++ indices ++ tail ≡ before ++ (topology ++ sign ++ vertices ++ indices ++ tail)
+      regrouped before topology sign vertices indices tail = simp append-assoc
+
+pub said-readable : (u : Upright) (j : TextJob) → Readable j → Readable (saying u j)
+said-readable u j r =
+    record {
+      head-fits = record {
+        counts-fit = r .head-fits .counts-fit;
+        cells-few = r .head-fits .cells-few;
+        first-fits = r .head-fits .first-fits;
+        size-fits = r .head-fits .size-fits;
+      };
+      vertices-fit = r .vertices-fit;
+      indices-fit = r .indices-fit;
+      tail-fits = r .tail-fits;
+    }
+
+-- "without the line it is z"
+pub unsaid-is-z : uprightMeant Unsaid ≡ uprightMeant Z
+unsaid-is-z = refl
