@@ -46,7 +46,7 @@ pub const ALONE: [(&str, Make); 3] = [
         Job { sign, ..of(r, &["document-01"]) }
     }),
     ("damaged-strip-upright-line", |r| of(r, &["strip-box"])),
-    ("large-upright", |r| of(r, &["large-sphere", "large-tank", "large-soup", "large-normal"])),
+    ("large-upright", |r| of(r, &["large-sphere", "large-normal", "large-tank", "large-normal", "large-soup"])),
 ];
 
 /// Kinds that lie off the grid by design.
@@ -94,12 +94,16 @@ fn tank(r: &mut Random) -> Job {
     said(upright, of_mesh(grid, &mesh, r))
 }
 
-/// A closed box with a plate across an axis on a layer of centres, which are at −0 or +0 there. Every second time the axis is the upright one, and
-/// so a row counts, or does not count, a whole layer of these; else it is another, and every row has some.
+/// What is said, and the axis across which something lies: the upright one four times, and then another four times.
+fn across(r: &Random) -> (Option<u32>, usize) {
+    let (upright, step) = (r.turn(&SAID), r.turn(&[0, 0, 0, 0, 1, 2, 1, 2]));
+    (upright, (upright.unwrap_or(2) as usize + step) % 3)
+}
+
+/// A closed box with a plate on a layer of centres, which are at −0 or +0 there. Across the upright axis a row counts, or does not count, a whole
+/// layer of these; across another every row has some.
 fn floor(r: &mut Random) -> Job {
-    let upright = r.turn(&SAID);
-    let step = r.turn(&[0, 0, 0, 0, 1, 2, 1, 2]);
-    let axis = (upright.unwrap_or(2) as usize + step) % 3;
+    let (upright, axis) = across(r);
     let grid = uneven_grid(r);
     said(upright, plane_in(grid, axis, r))
 }
@@ -130,15 +134,12 @@ fn long(r: &mut Random) -> Job {
     grid.count = count;
     let high = grid.count.map(|n| f64::from(n) - 0.75 - f64::from(n / 8) * f64::from(r.unit().abs()));
     let mesh = shapes::cuboid([-0.25; 3], high);
-    let job = of_mesh(grid, &mesh, r);
-    said(upright, job)
+    said(upright, of_mesh(grid, &mesh, r))
 }
 
-/// An open deck across the upright axis, or across another.
+/// An open deck.
 fn deck(r: &mut Random) -> Job {
-    let upright = r.turn(&SAID);
-    let step = r.turn(&[0, 0, 0, 0, 1, 2, 1, 2]);
-    let axis = (upright.unwrap_or(2) as usize + step) % 3;
+    let (upright, axis) = across(r);
     let grid = uneven_grid(r);
     let mesh = sheet(&grid, axis, r.turn(&[flat as Height, wavy, flat]), None, r);
     said(upright, roomy(grid, &mesh, r))

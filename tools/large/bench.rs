@@ -65,7 +65,7 @@ fn whole(job: &Job, lent: &mut Lent, by: By) -> Times {
     let mut answer = Answer::default();
     let times = clock::timed(lent.crossings.as_ptr(), lent.rows.as_ptr(), || answer = ask(job, lent, u32::MAX, by));
     assert_eq!(answer.number, 0, "the answer by {by:?}");
-    times
+    times.seen()
 }
 
 /// The milliseconds of a whole call with Normal signs.

@@ -1,9 +1,9 @@
 /* The whole job of one checkout's library, under the name JOB, on pointers and numbers alone. It is compiled against that
  * checkout's own sdf.h, and names what every edition of the header has: a record that got a member since is passed and
  * returned as its own library does it, and what stands outside need not know. A header before version 6 knows the plain pass
- * alone: its library runs that, whichever is asked for. One before version 9 knows Raycast signs alone, and one before version 10 z alone as the
- * upright axis: where Normal signs, or x or y, are asked for, the number is UINT32_MAX, and nothing is called. Where `row` is given, three words for each entry, it is the queue, and
- * else the three lists are. */
+ * alone: its library runs that, whichever is asked for. One before version 9 knows Raycast signs alone, and one before version 10
+ * z alone as the upright axis: where Normal signs, or x or y, are asked for, the number is UINT32_MAX, and nothing is called. Where
+ * `row` is given, three words for each entry, it is the queue, and else the three lists are. */
 #include "sdf.h"
 
 /* The fields of `Lent` in bench_two.rs, in their order. */

@@ -4,15 +4,16 @@
 //! milliseconds of the processor's time, before and after, and after by before. Sizes above EDGE (100) are left out. PASS is `plain`,
 //! or `quick` (the default) where a library has it. QUEUE is `flat` (the default), the queue in three slices, or `row`, a row of
 //! records. SIGN is `raycast` (the default) or `normal`, which both libraries must know (document 02, §8); then there are no crossings to time.
-//! UPRIGHT is `z` (the default), or `x` or `y`, which both must know (§9). Ends with 1 if the two leave another field, other names or crossings, or count other pops or peak.
+//! UPRIGHT is `z` (the default), or `x` or `y`, which both must know (§9). Ends with 1 if the two leave another field, other names or
+//! crossings, or count other pops or peak.
 //!
 //! The checks are a call that is lent a row too few: it is refused by 5, which is looked at last. The spreading is what is left of a
 //! call before its crossings, less a call whose pop limit is 0: that one is refused by 8 when the cells are seeded and queued. It is a
 //! difference of two calls, so the least times of both are taken before it is.
 //!
 //! The crossings are timed from when their counts are cleared (clock.c) to the end of the call, so the signs and the
-//! rows stand in them, a few thousandths; the rows, which come last, from when they are. As the difference of two calls, one of which ends before them, they were uncertain by a
-//! hundredth of the whole, which is more than a tenth of some. The last column is after by before of the middle times: where it is
+//! rows stand in them, a few thousandths. As the difference of two calls, one of which ends before them, they were uncertain by a
+//! hundredth of the whole, which is more than a tenth of some. The rows, which come last, are timed from when they are cleared. The last column is after by before of the middle times: where it is
 //! far from that of the least, something else was running.
 
 #![allow(dead_code)] // Each module serves others too.
@@ -143,7 +144,7 @@ impl Buffers {
             std::process::exit(2);
         }
         assert_eq!(answer.number, number, "the job is done, or refused where it should be");
-        (answer, times)
+        (answer, if to == To::Checks { times } else { times.seen() })
     }
 
     /// What must be the same of the two.

@@ -9,7 +9,7 @@ extern "C" {
 /// What a call took, in milliseconds.
 #[derive(Clone, Copy)]
 pub struct Times {
-    /// From when it last cleared the crossing counts, and the rows; it clears each just before it counts.
+    /// From when it last cleared the crossing counts, and the rows; it clears each just before it counts. Below 0 if it did not.
     pub crossings: f64,
     pub rows: f64,
     pub whole: f64,
@@ -25,8 +25,16 @@ pub fn timed(crossings: *const u32, rows: *const u32, call: impl FnOnce()) -> Ti
         let end = time_now();
         (begin, [last_cleared(0), last_cleared(1)], end)
     };
-    assert!(cleared.iter().all(|&time| begin <= time && time <= end), "crossings and rows were seen to be cleared");
-    Times { crossings: end - cleared[0], rows: end - cleared[1], whole: end - begin }
+    let [crossings, rows] = cleared.map(|time| if time < begin { -1.0 } else { end - time });
+    Times { crossings, rows, whole: end - begin }
+}
+
+impl Times {
+    /// The same, of a call that counted both.
+    pub fn seen(self) -> Times {
+        assert!(self.crossings >= 0.0 && self.rows >= 0.0, "crossings and rows were seen to be cleared");
+        self
+    }
 }
 
 /// The milliseconds of a call that changes nothing, and so clears no counts.
