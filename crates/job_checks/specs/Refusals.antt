@@ -24,7 +24,7 @@ use Rattle.job_checks.specs.Job.{Job, Lent}
 abbrev pub allCoordinates : List Float → Bool
 allCoordinates xs = every isCoordinate xs
 
--- 1: "grid out of bounds"
+-- 1: "grid out of bounds", an upright axis outside 0 to 2 too
 abbrev pub wrongGrid : Grid → Bool
 wrongGrid g = not (inBounds g)
 
@@ -49,7 +49,7 @@ abbrev pub wrongPlaces : Grid → Mesh → Bool
 wrongPlaces g m = not (allOnGrid g m)
 
 -- 5: "field, names, crossings or rows not exactly cells, cells, 3 × cells (x, y, z of each cell in turn), z count long; or queue
--- buffers of unequal length"
+-- buffers of unequal length"; the rows are "that axis's count, and refusal 5 measures the rows by it", the upright one (document 02, §9)
 abbrev pub wrongLengths : Grid → Lengths → Bool
 wrongLengths g l =
     not (eqb (l .field) (total g))

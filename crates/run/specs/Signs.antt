@@ -89,9 +89,9 @@ signed g m field c = if inside g m (cellAt g c) then neg (getD field c nan) else
 unfoldable pub signedField : Grid → Mesh → List Float → List Float
 signedField g m field = table (signed g m field) (total g)
 
--- ---- "Row z: how many cells of layer z" are inside: "a cell counts as inside when at least two of its crossing counts are odd, which is
--- when its sign bit is set" (document 01, "The run"; document 02, §2). So −0 counts, and +0 does not. That the one is when the other is, of
--- every job answered Done, is shown in crate `row_meaning`.
+-- ---- "Row z: how many cells of layer z" are inside, where the layers lie along the upright axis (document 02, §9): "a cell counts as inside
+-- when at least two of its crossing counts are odd, which is when its sign bit is set" (document 01, "The run"; document 02, §2). So −0
+-- counts, and +0 does not. That the one is when the other is, of every job answered Done, is shown in crate `row_meaning`.
 
 -- what counts in a row
 abbrev pub counted : Float → Bool

@@ -1,5 +1,4 @@
 -- `run_rows::add_block`: after k columns each row has what they add (`proofs/Columns.antt`). Assumes nothing.
-use borrow.Author.Needs.{needs}
 use Prim.Native.Nat.{ℕ, _+_, _*_, _-_, _≤_, _<_}
 use native.Mathlib.Nat.{mul-le-mul-right}
 use native.Mathlib.Omega.{arith}
