@@ -1,10 +1,11 @@
 /* A scanner's file to the rows of its tank, through the library:
  *
- *   stl FILE firstX firstY firstZ sizeX sizeY sizeZ countX countY countZ
+ *   stl FILE firstX firstY firstZ sizeX sizeY sizeZ countX countY countZ [x|y|z]
  *
  * FILE is a binary STL. The numbers are decimal: the centre of the grid's first cell, the size of a cell and how many cells
- * there are along each axis, all in the file's unit. Prints how many cells of each layer along z are inside. Ends with 1 if
- * the library refuses the file or the job, and says why and what to do; with 2 on a wrong use. README.md has the commands. */
+ * there are along each axis, all in the file's unit. The last word is the upright axis of a lying tank; without it that is z.
+ * Prints how many cells of each layer along that axis are inside. Ends with 1 if the library refuses the file or the job, and
+ * says why and what to do; with 2 on a wrong use. README.md has the commands. */
 #include "sdf.h"
 
 #include <stdio.h>
@@ -74,6 +75,12 @@ static uint32_t count_of(const char *word) {
     return (uint32_t)value;
 }
 
+static uint32_t axis_of(const char *word) {
+    if (!*word || word[1] || *word < 'x' || *word > 'z')
+        end(MISUSED, word, "this is no axis: x, y or z");
+    return SDF_X + (uint32_t)(*word - 'x');
+}
+
 /* The whole file in memory. It is read until it ends, so that a pipe will do. */
 static uint8_t *contents(const char *name, size_t *length) {
     FILE *file = fopen(name, "rb");
@@ -102,13 +109,13 @@ static uint8_t *contents(const char *name, size_t *length) {
 }
 
 int main(int words, char **word) {
-    if (words != 11)
-        end(MISUSED, "usage", "stl FILE firstX firstY firstZ sizeX sizeY sizeZ countX countY countZ");
+    if (words != 11 && words != 12)
+        end(MISUSED, "usage", "stl FILE firstX firstY firstZ sizeX sizeY sizeZ countX countY countZ [x|y|z]");
     const char *name = word[1];
     sdf_grid grid = {.first = {number_of(word[2]), number_of(word[3]), number_of(word[4])},
                      .size = {number_of(word[5]), number_of(word[6]), number_of(word[7])},
                      .count = {count_of(word[8]), count_of(word[9]), count_of(word[10])},
-                     .upright = SDF_Z};
+                     .upright = words == 12 ? axis_of(word[11]) : SDF_Z};
 
     /* The file says how many facets it has, and so how much is to be lent: nine numbers each. */
     size_t length;
@@ -127,7 +134,8 @@ int main(int words, char **word) {
     sdf_number_answer total = sdf_grid_total(grid);
     if (total.number != SDF_DONE)
         refuse(total.number, "grid");
-    size_t n = total.value, layers = grid.count.z; /* z is upright */
+    const uint32_t counts[] = {[SDF_X] = grid.count.x, [SDF_Y] = grid.count.y, [SDF_Z] = grid.count.z};
+    size_t n = total.value, layers = counts[grid.upright];
     float *field = lend(n, sizeof *field);
     uint32_t *names = lend(n, sizeof *names), *crossings = lend(3 * n, sizeof *crossings);
     uint32_t *rows = lend(layers, sizeof *rows);
@@ -150,9 +158,9 @@ int main(int words, char **word) {
     printf("answer=%u\nfacets=%u\n", (unsigned)answer.number, (unsigned)scan.facets);
     printf("pops=%u\npeak=%zu\ngrazed=%llu\n", (unsigned)answer.pops, answer.peak, (unsigned long long)answer.grazed);
     double inside = 0;
-    for (size_t z = 0; z < layers; z++) {
-        printf("row=%zu %u\n", z, (unsigned)rows[z]);
-        inside += rows[z];
+    for (size_t layer = 0; layer < layers; layer++) {
+        printf("row=%zu %u\n", layer, (unsigned)rows[layer]);
+        inside += rows[layer];
     }
     printf("volume=%.3f\n", inside * grid.size.x * grid.size.y * grid.size.z);
     free(vertices);

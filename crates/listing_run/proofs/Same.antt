@@ -5,7 +5,7 @@ use native.Mathlib.Nat.{zero-mul, suc-mul, mul-assoc, mul-comm, mul-right-comm}
 use native.Mathlib.Decide.{decLt}
 use native.Mathlib.Omega.{arith}
 use mathlib.Core.Path.{_≡_, refl, sym, ap, _∙_, subst}
-use mathlib.Core.Bool.{Bool, true, false, not, and-false}
+use mathlib.Core.Bool.{true, and-false}
 use mathlib.Core.List.{List, _++_}
 use lib.ListN.{length, take, replicate, length-replicate, length-map}
 use lib.Seq.{length-take-le, take-at}

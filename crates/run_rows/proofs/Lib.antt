@@ -1,1 +1,1 @@
-mod Columns
+mod Blocks

@@ -1,7 +1,7 @@
 -- A reader reads a format: what it takes is the format of the value that it gives, with the rest behind it, and it takes the format of every
 -- value that is meant. From these two a format has one value, and readers that follow each other need no more than each other's laws:
 -- so every line of the text is read by the same few laws. A line that may be left out is read before what does not begin as it does: the line
--- that must follow it, or the end of the text.
+-- that must follow it, or the end of the text. A line that says one of a few values is read by their words, which differ from each other.
 use Prim.Native.Nat.{ℕ}
 use native.Mathlib.Omega.{arith}
 use mathlib.Core.Path.{_≡_, refl, sym, ap, _∙_, subst}

@@ -65,6 +65,7 @@ use Rattle.text.specs.Reader.{
   floatsLine,
   fewCells,
   countLine,
+  axesSaid,
   uprightLine,
   topologyLine,
   normalLine,
@@ -158,11 +159,11 @@ count-line =
     (λ c i. refl)
 
 -- where the line is said
-upright-line : Reads (λ u. List·Memᴰ u (X ∷ Y ∷ Z ∷ [])) uprightText uprightLine
+upright-line : Reads (λ u. List·Memᴰ u axesSaid) uprightText uprightLine
 unfolding uprightLine line differ allDiffer every
-upright-line = one-reads uprightText _ refl
+upright-line = one-reads uprightText axesSaid refl
 
-said-or-not : (u : Upright) → List·Memᴰ u (X ∷ Y ∷ Z ∷ []) ⊎ (u ≡ Unsaid)
+said-or-not : (u : Upright) → List·Memᴰ u axesSaid ⊎ (u ≡ Unsaid)
 said-or-not Unsaid = inr refl
 said-or-not X = inl (List·Memᴰ·head refl)
 said-or-not Y = inl (List·Memᴰ·tail (List·Memᴰ·head refl))

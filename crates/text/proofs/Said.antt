@@ -3,6 +3,9 @@
 use mathlib.Core.Path.{_≡_, refl}
 use mathlib.Core.List.{List, _++_, append-assoc}
 use Prim.Native.Nat.{ℕ}
+use Rattle.mesh_topology.specs.declared.Topology.{Topology}
+use Rattle.terms.specs.declared.SignMethod.{SignMethod}
+use Rattle.text.specs.declared.Head.{Head}
 use Rattle.text.specs.declared.Upright.{Upright}
 use Rattle.text.specs.declared.Upright.the-variants.{Unsaid, Z}
 use Rattle.text.specs.Words.{line}
@@ -19,6 +22,7 @@ use Rattle.text.specs.TextJob.{
   tailText,
   jobText,
   uprightMeant,
+  HeadFits,
   Readable,
 }
 use Rattle.text.specs.Reader.{head, assembled}
@@ -51,15 +55,15 @@ module _ (j : TextJob) where
           → before ++ topology ++ sign ++ vertices ++ indices ++ tail ≡ before ++ (topology ++ sign ++ vertices ++ indices ++ tail)
       regrouped before topology sign vertices indices tail = simp append-assoc
 
+-- of a head the limits know the numbers alone
+pub numbers-fit : (h : Head) (u : Upright) (t : Topology) (s : SignMethod) → HeadFits h → HeadFits (head (h .count) (h .first) (h .size) u t s)
+numbers-fit h u t s f =
+    record { counts-fit = f .counts-fit; cells-few = f .cells-few; first-fits = f .first-fits; size-fits = f .size-fits }
+
 pub said-readable : (u : Upright) (j : TextJob) → Readable j → Readable (saying u j)
 said-readable u j r =
     record {
-      head-fits = record {
-        counts-fit = r .head-fits .counts-fit;
-        cells-few = r .head-fits .cells-few;
-        first-fits = r .head-fits .first-fits;
-        size-fits = r .head-fits .size-fits;
-      };
+      head-fits = numbers-fit (j .head) u (j .head .topology) (j .head .sign) (r .head-fits);
       vertices-fit = r .vertices-fit;
       indices-fit = r .indices-fit;
       tail-fits = r .tail-fits;

@@ -118,9 +118,12 @@ fewCells c = leb (cellsOf c) mostCells
 unfoldable pub countLine : List ℕ → Got Three
 countLine s = kept fewCells (follow (wordAt (bytes "count=") s) (λ _ s. threeNumbers numberAt s))
 
--- the line of the upright axis
+-- what the line of the upright axis may say
+abbrev pub axesSaid : List Upright
+axesSaid = X ∷ Y ∷ Z ∷ []
+
 unfoldable pub uprightLine : List ℕ → Got Upright
-uprightLine s = oneOf uprightText (X ∷ Y ∷ Z ∷ []) s
+uprightLine s = oneOf uprightText axesSaid s
 
 abbrev pub uprightAt : List ℕ → Got Upright
 uprightAt s = optional Unsaid uprightLine s

@@ -17,6 +17,7 @@ use Rattle.mesh_explicit.proofs.Laws.{explicit-names, explicit-long}
 use Rattle.text.specs.Limits.{mostVertices, mostIndices}
 use Rattle.text.specs.TextJob.{TextJob, TextIndices, none, these, Word, All, indexList, givenOf, IndicesFit, Readable, jobText}
 use Rattle.text.proofs.Job.{one-job}
+use Rattle.text.proofs.Said.{numbers-fit}
 use Rattle.text_convert.specs.Converted.{trianglesNamed, asList, convertedBy, converted, OldJob, Converts, conversion-of, no-old-job}
 
 pub list-stays : (j : TextJob) → j .head .topology ≡ TriangleList → converted j ≡ j
@@ -107,12 +108,7 @@ still-readable j r = by (j .head .topology) refl
     by TriangleList e = r
     by TriangleStrip e =
         record {
-          head-fits = record {
-            counts-fit = r .head-fits .counts-fit;
-            cells-few = r .head-fits .cells-few;
-            first-fits = r .head-fits .first-fits;
-            size-fits = r .head-fits .size-fits;
-          };
+          head-fits = numbers-fit (j .head) (j .head .upright) TriangleList (j .head .sign) (r .head-fits);
           vertices-fit = r .vertices-fit;
           indices-fit = strip-fits j r e;
           tail-fits = r .tail-fits;

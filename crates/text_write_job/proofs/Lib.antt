@@ -1,3 +1,4 @@
 -- Laws of the writer.
 pub mod Few
+pub mod Word
 pub mod RoundTrip

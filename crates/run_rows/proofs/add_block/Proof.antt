@@ -1,70 +1,44 @@
--- `run_rows::add_block`: after k columns each row has what they add (`proofs/Columns.antt`). Assumes nothing.
-use Prim.Native.Nat.{ℕ, _+_, _*_, _-_, _≤_, _<_}
-use native.Mathlib.Nat.{mul-le-mul-right}
+-- `run_rows::add_block`: a column is a block whose layers have one cell each. Assumes nothing.
+use borrow.Author.Needs.{needs}
+use Prim.Native.Nat.{ℕ, _+_, _*_, _≤_}
 use native.Mathlib.Omega.{arith}
-use mathlib.Core.Path.{_≡_}
+use mathlib.Core.Path.{_≡_, sym, subst}
+use mathlib.Core.List.{List}
 use lib.ListN.{length}
-use Rattle.slices.specs.Counts.{PlacesBelow}
-use Rattle.run_rows.specs.Column.{ColumnsAdded}
-use Rattle.run_rows.proofs.Columns.{one-more, columns-none, columns-more, columns-room}
+use lib.Ieee.{Float}
+use Rattle.slices.specs.Counts.{Room}
+use Rattle.run_rows.specs.Block.{BlockAdded}
 use Rattle.run_rows.proofs.add_block.Statement.{statement}
 use Rattle.run_rows.proofs.add_block.Tie as tie
 
-abbrev Inv-loop : tie.InvT-loop
-Inv-loop field start step rows₀ k₀ rows k = (k ≤ step) × ColumnsAdded field start step k rows₀ rows
+-- where a layer has one cell, a block is as long as there are layers
+column-long : (start size : ℕ) (rows : List ℕ) {step : ℕ} → step ≡ 1 → start + length rows * step ≤ size → start + length rows ≤ size
+column-long start size rows {step} e h = go (rw e at h)
+  where
+    go : start + length rows * 1 ≤ size → start + length rows ≤ size
+    go h = omega arith
 
-abbrev μ-loop : tie.MeasureT-loop
-μ-loop field start step rows₀ k₀ rows k = step - k
+column-room : (rows : List ℕ) {step : ℕ} → step ≡ 1 → Room step rows → Room 1 rows
+column-room rows e h = rw e at h
 
--- a column that begins among the first cells of a block ends in it
-column-within : (start step k height size : ℕ) → k < step → start + height * step ≤ size → PlacesBelow (start + k) step height size
-column-within start step k height size h room n l =
-    let more : n + 1 ≤ height = omega arith in
-    omega (arith, mul-le-mul-right step more, one-more n step)
+as-block : (field : List Float) (start : ℕ) (old new : List ℕ) {step : ℕ} → step ≡ 1 → BlockAdded field start 1 old new → BlockAdded field start step old new
+as-block field start old new e h = subst (λ (k : ℕ). BlockAdded field start k old new) (sym e) h
 
--- the function's entry, from the loop's head
-abbrev entry : tie.At-loop Inv-loop μ-loop → tie.Start Inv-loop μ-loop
-entry l = l .before .before .before
-
-loop-holds : tie.Need-loop-holds Inv-loop μ-loop
-loop-holds c =
-    let s : tie.Start Inv-loop μ-loop = search in
-    (omega arith, columns-none (s .args .field .now) (s .args .start) (s .args .step) (s .args .rows .now))
-
--- a column begins in the field
-begins : (c : tie.In-loop Inv-loop μ-loop) → entry (c .before) .args .start + c .before .loop .k < length (entry (c .before) .args .field .now)
-begins c =
-    let s = entry (c .before) in
-    let room = column-within (s .args .start) (s .args .step) (c .before .loop .k) (length (s .args .rows .now)) (length (s .args .field .now)) (omega arith) (s .pre .0 .1) 0 (s .pre .0 .0) in
-    omega arith
-
-add-column-requires : tie.Need-add-column-requires Inv-loop μ-loop
+add-column-requires : tie.Need-add-column-requires
 add-column-requires c κs =
-    let l : tie.At-loop Inv-loop μ-loop = search in
-    let s = entry l in
-    let a = s .args in (
-      rw (l .loop .inv .1 .long) (column-within (a .start) (a .step) (l .loop .k) (length (a .rows .now)) (length (a .field .now)) (omega arith) (s .pre .0 .1)),
-      columns-room (a .field .now) (a .start) (a .step) (l .loop .k) (omega arith) (s .pre .1) (l .loop .inv .1),
-    )
+    let s : tie.Start = search in
+    let column : tie.Then1 = search in
+    (column-long (s .args .start) (length (s .args .field .now)) (s .args .rows .now) (column .if1 .taken) (s .pre .0), column-room (s .args .rows .now) (column .if1 .taken) (s .pre .1))
 
-loop-again : tie.Need-loop-again Inv-loop μ-loop
-loop-again c =
-    let added : tie.After-add-column Inv-loop μ-loop = search in
-    let l : tie.At-loop Inv-loop μ-loop = search in
-    let a = entry l .args in
-    (omega arith, columns-more (a .field .now) (a .start) (a .step) (l .loop .k) (l .loop .inv .1) (added .add-column .ensures))
-
-returns : tie.Need-returns Inv-loop μ-loop
+returns : tie.Need-returns
 returns c =
-    let l : tie.At-loop Inv-loop μ-loop = search in
-    let a = entry l .args in
-    let all : l .loop .k ≡ a .step = omega arith in
-    rw all at (l .loop .inv .1)
+    let s : tie.Start = search in
+    let column : tie.Then1 = search in
+    let added : tie.After-add-column = search in
+    as-block (s .args .field .now) (s .args .start) (s .args .rows .now) (added .add-column .last .1 .1 .0) (column .if1 .taken) (added .add-column .ensures)
 
 pub add-block-spec : {M : Type 1} → statement M
 add-block-spec =
     tie.close (tie.spec
-    Inv-loop μ-loop loop-holds
-    (λ c. omega (arith, begins c)) add-column-requires
-    (λ c. omega arith) (λ c. omega arith) loop-again
-    (λ c. let l : tie.At-loop Inv-loop μ-loop = search in l .loop .inv .1 .long) returns)
+    add-column-requires (λ c. search needs) returns
+    (λ c κs. search needs) (λ c. search needs) (λ c. search needs))

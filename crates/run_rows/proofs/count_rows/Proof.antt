@@ -1,4 +1,4 @@
--- `run_rows::count_rows`: after each block every row has what is counted of the cells before (`proofs/Columns.antt`). Assumes nothing.
+-- `run_rows::count_rows`: after each block every row has what is counted of the cells before (`proofs/Blocks.antt`). Assumes nothing.
 use borrow.Author.Needs.{needs}
 use Prim.Native.Nat.{ℕ, _+_, _*_, _-_, _≤_, _<_}
 use native.Mathlib.Nat.{mul-pos, mul-le-mul-right}
@@ -10,7 +10,7 @@ use Rattle.grid.specs.declared.Grid.{Grid}
 use Rattle.grid.specs.Index.{total, strideOn}
 use Rattle.grid.specs.Layers.{uprightOf, layers}
 use Rattle.grid.proofs.Facts.{bounds-of, on-axis, stride-pos}
-use Rattle.run_rows.proofs.Columns.{Rowed, rowed-none, rowed-more, rowed-room, rowed-all, blocksOn, total-blocks, some-blocks, whole-block}
+use Rattle.run_rows.proofs.Blocks.{Rowed, rowed-none, rowed-more, rowed-room, rowed-all, blocksOn, total-blocks, some-blocks, whole-block}
 use Rattle.run_rows.proofs.count_rows.Statement.{statement}
 use Rattle.run_rows.proofs.count_rows.Tie as tie
 
@@ -89,7 +89,7 @@ add-block-requires c κs =
     let begin = turn .before .before in
     let long = l .inv .1 .long in
     let cells : step begin ≤ height begin * step begin = le-mul (height begin) (step begin) (some begin .0) in (
-      (omega (arith, long, some begin .0), rw long (within turn)),
+      rw long (within turn),
       rowed-room (height begin) (step begin) (entry begin .args .field .now) (l .start) (l .rows) (omega (arith, within turn, few begin)) (l .inv .1),
     )
 

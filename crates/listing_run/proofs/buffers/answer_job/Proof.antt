@@ -1,5 +1,5 @@
 -- `listing_run::buffers::answer_job` meets its contract: the floats stand at the front of their buffer. Assumes nothing.
-use Prim.Native.Nat.{ℕ, _*_}
+use Prim.Native.Nat.{ℕ}
 use native.Mathlib.Omega.{arith}
 use mathlib.Core.Path.{_≡_, refl, sym, ap, _∙_}
 use mathlib.Core.List.{List}

@@ -1,8 +1,11 @@
 -- `text_write_job::parts::put_sign` meets its contract, by the two methods. Assumes nothing.
 use native.Mathlib.Omega.{arith}
 use borrow.Author.Needs.{needs}
+use mathlib.Core.Path.{ap}
 use Rattle.text.specs.Words.{line}
+use Rattle.text.specs.TextJob.{signText}
 use Rattle.lists.proofs.Puts.{nothing}
+use Rattle.text_write_job.proofs.Word.{word-put}
 use Rattle.text_write_job.proofs.parts.put_sign.Statement.{statement}
 use Rattle.text_write_job.proofs.parts.put_sign.Tie as tie
 
@@ -16,8 +19,7 @@ unfolding line
 normal c =
     let t : tie.After-enum-told2 = search in
     let p : tie.After-put-all = search in
-    let put = p .put-all .ensures in
-    rw (t .enum-told2 .given .1) (put, omega (arith, put .next))
+    word-put _ 12 (ap signText (t .enum-told2 .given .1)) (omega arith) (p .put-all .ensures)
 
 pub put-sign-spec : {M : Type 1} → statement M
 put-sign-spec =

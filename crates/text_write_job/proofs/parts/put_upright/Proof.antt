@@ -1,8 +1,11 @@
 -- `text_write_job::parts::put_upright` meets its contract, by what was said. Assumes nothing.
 use native.Mathlib.Omega.{arith}
 use borrow.Author.Needs.{needs}
+use mathlib.Core.Path.{ap}
 use Rattle.text.specs.Words.{line}
+use Rattle.text.specs.TextJob.{uprightText}
 use Rattle.lists.proofs.Puts.{nothing}
+use Rattle.text_write_job.proofs.Word.{word-put}
 use Rattle.text_write_job.proofs.parts.put_upright.Statement.{statement}
 use Rattle.text_write_job.proofs.parts.put_upright.Tie as tie
 
@@ -16,24 +19,21 @@ unfolding line
 x c =
     let t : tie.After-enum-told2 = search in
     let p : tie.After-put-all = search in
-    let put = p .put-all .ensures in
-    rw (t .enum-told2 .given .1) (put, omega (arith, put .next))
+    word-put _ 10 (ap uprightText (t .enum-told2 .given .1)) (omega arith) (p .put-all .ensures)
 
 y : tie.Need-returns-3
 unfolding line
 y c =
     let t : tie.After-enum-told3 = search in
     let p : tie.After-put-all2 = search in
-    let put = p .put-all2 .ensures in
-    rw (t .enum-told3 .given .1) (put, omega (arith, put .next))
+    word-put _ 10 (ap uprightText (t .enum-told3 .given .1)) (omega arith) (p .put-all2 .ensures)
 
 z : tie.Need-returns-4
 unfolding line
 z c =
     let t : tie.After-enum-told4 = search in
     let p : tie.After-put-all3 = search in
-    let put = p .put-all3 .ensures in
-    rw (t .enum-told4 .given .1) (put, omega (arith, put .next))
+    word-put _ 10 (ap uprightText (t .enum-told4 .given .1)) (omega arith) (p .put-all3 .ensures)
 
 pub put-upright-spec : {M : Type 1} → statement M
 put-upright-spec =

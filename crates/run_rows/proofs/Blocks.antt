@@ -1,7 +1,7 @@
 -- The rows, a block of cells at a time, once over the upright axis. A block has `step` cells of each layer side by side, so what it adds to a layer is the sum
--- over these, and that is what its columns add, each with one cell of the layer. Assumes nothing.
+-- over these. Assumes nothing.
 use Prim.Native.Nat.{ℕ, zero, suc, _+_, _*_, _/_, _%_, _^_, _≤_, _<_}
-use native.Mathlib.Nat.{add-zero, add-mul, zero-mul, one-mul, mul-one, mul-assoc, mul-pos, mul-le-mul-right}
+use native.Mathlib.Nat.{add-zero, zero-add, add-mul, zero-mul, one-mul, mul-one, mul-assoc, mul-pos, mul-le-mul-right}
 use native.Mathlib.Decide.{decLt, ℕ-discrete}
 use native.Mathlib.Omega.{arith}
 use mathlib.Core.Path.{_≡_, refl, sym, ap, ap₂, _∙_}
@@ -25,43 +25,35 @@ use Rattle.lists.proofs.Range.{sum-none, sum-more, sum-le, sum-same, sum-apart,
 use Rattle.lists.proofs.Table.{is-table}
 use Rattle.run.specs.Signs.{counted, rowWeight, rowBelow, rowsBy, rows}
 use Rattle.slices.specs.Counts.{Room}
-use Rattle.run_rows.specs.Column.{weightOn, ColumnAdded, ColumnsAdded}
+use Rattle.run_rows.specs.Block.{runWeight, BlockAdded}
 
 pub one-more : (b n : ℕ) → (b + 1) * n ≡ b * n + n
 one-more b n = omega arith
 
--- ---- columns side by side
-
-pub columns-none : (field : List Float) (start step : ℕ) (l : List ℕ) → ColumnsAdded field start step 0 l l
-columns-none field start step l =
-    record { long = refl; each = λ n h. sym (ap (λ (k : ℕ). getD l n 0 + k) (sum-none _) ∙ add-zero (getD l n 0)) }
-
-pub columns-more : (field : List Float) (start step k : ℕ) {old l new : List ℕ}
-    → ColumnsAdded field start step k old l → ColumnAdded field (start + k) step l new → ColumnsAdded field start step (k + 1) old new
-columns-more field start step k {old} {l} {new} s t =
-    record {
-      long = t .long ∙ s .long;
-      each = λ n h.
-          let w : ℕ → ℕ = λ j. weightOn field (start + j) step n in
-          omega (arith, t .each n (omega (arith, s .long)), s .each n h, sum-more w k);
-    }
-
--- a weight is at most 1
+-- a weight is at most 1, and what a run adds at most its length
 pub one : (b : Bool) → cond b 1 0 ≤ 1
 one true = omega arith
 one false = omega arith
 
--- k columns add at most k to a row
-pub columns-room : (field : List Float) (start step k : ℕ) {old l : List ℕ} → k < step → Room step old → ColumnsAdded field start step k old l → Room 1 l
-columns-room field start step k {old} {l} h room s n = go (decLt n (length old))
+pub run-few : (field : List Float) (at count : ℕ) → runWeight field at count ≤ count
+run-few field at count = omega (arith, sum-le (λ j. rowWeight (getD field (at + j) nan)) 1 count (λ j l. one (counted (getD field (at + j) nan))))
+
+-- a run of one cell
+pub run-of-one : (field : List Float) (start n : ℕ) → runWeight field (start + n * 1) 1 ≡ rowWeight (getD field (start + n) nan)
+run-of-one field start n = sum-more (λ j. rowWeight (getD field (start + n * 1 + j) nan)) 0 ∙ ap₂ (λ (k : ℕ) (i : ℕ). k + rowWeight (getD field i nan)) (sum-none _) (place start n) ∙ zero-add _
   where
-    go : Dec (n < length old) → getD l n 0 + 1 < 2 ^ 32
-    go (yes w) =
-        omega (arith, s .each n w, room n, sum-le (λ j. weightOn field (start + j) step n) 1 k (λ j m. one (counted (getD field (start + j + n * step) nan))))
-    go (no w) =
-        let past : length l ≤ n = omega (arith, s .long) in
-        let none : getD l n 0 ≡ 0 = List·getD-eq-default l 0 past in
-        omega (arith, room n)
+    place : (start n : ℕ) → start + n * 1 + 0 ≡ start + n
+    place start n = omega arith
+
+-- what row n is to hold when a block is added
+abbrev pub more : List Float → ℕ → ℕ → List ℕ → ℕ → ℕ
+more field start step rows n = getD rows n 0 + runWeight field (start + n * step) step
+
+-- layer n of a block lies in it
+pub run-within : (start step height size n : ℕ) → n < height → start + height * step ≤ size → start + n * step + step ≤ size
+run-within start step height size n l room =
+    let more : n + 1 ≤ height = omega arith in
+    omega (arith, mul-le-mul-right step more, one-more n step)
 
 -- ---- a block
 
@@ -69,7 +61,7 @@ columns-room field start step k {old} {l} h room s n = go (decLt n (length old))
 -- that begins at `start`, as far as its first m layers go
 block : (height step start n : ℕ) (layer weigh : ℕ → ℕ) → ((m j : ℕ) → m < height → j < step → layer (start + m * step + j) ≡ m) → (m : ℕ) → m ≤ height
     → sumBelow (λ i. cond (eqb (layer i) n) (weigh i) 0) (start + m * step)
-    ≡ sumBelow (λ i. cond (eqb (layer i) n) (weigh i) 0) start + cond (ltb n m) (sumBelow (λ j. weigh (start + j + n * step)) step) 0
+    ≡ sumBelow (λ i. cond (eqb (layer i) n) (weigh i) 0) start + cond (ltb n m) (sumBelow (λ j. weigh (start + n * step + j)) step) 0
 block height step start n layer weigh h zero l = rw (zero-mul step, add-zero start, le-ltb n 0 (omega arith)) (omega arith)
 block height step start n layer weigh h (suc m) l =
     ap (sumBelow q) (next start m step) ∙ sum-apart q (start + m * step) step ∙ ap₂ (λ (x : ℕ) (y : ℕ). x + y) (block height step start n layer weigh h m (omega arith)) (of-layer ∙ chosen (eqb m n)) ∙ last (ℕ-discrete n m) (decLt n m)
@@ -78,20 +70,17 @@ block height step start n layer weigh h (suc m) l =
     q i = cond (eqb (layer i) n) (weigh i) 0
 
     of : ℕ → ℕ
-    of k = sumBelow (λ j. weigh (start + j + k * step)) step
+    of k = sumBelow (λ j. weigh (start + k * step + j)) step
 
     next : (start m step : ℕ) → start + suc m * step ≡ start + m * step + step
     next start m step = omega arith
 
-    swap : (a b c : ℕ) → a + b + c ≡ a + c + b
-    swap a b c = omega arith
-
-    of-layer : sumBelow (λ j. q (start + m * step + j)) step ≡ sumBelow (λ j. cond (eqb m n) (weigh (start + j + m * step)) 0) step
+    of-layer : sumBelow (λ j. q (start + m * step + j)) step ≡ sumBelow (λ j. cond (eqb m n) (weigh (start + m * step + j)) 0) step
     of-layer =
-        sum-same (λ j. q (start + m * step + j)) (λ j. cond (eqb m n) (weigh (start + j + m * step)) 0) step
-        (λ j w. ap₂ (λ (k : ℕ) (p : ℕ). cond (eqb k n) (weigh p) 0) (h m j l w) (swap start (m * step) j))
+        sum-same (λ j. q (start + m * step + j)) (λ j. cond (eqb m n) (weigh (start + m * step + j)) 0) step
+        (λ j w. ap (λ (k : ℕ). cond (eqb k n) (weigh (start + m * step + j)) 0) (h m j l w))
 
-    chosen : (b : Bool) → sumBelow (λ j. cond b (weigh (start + j + m * step)) 0) step ≡ cond b (of m) 0
+    chosen : (b : Bool) → sumBelow (λ j. cond b (weigh (start + m * step + j)) 0) step ≡ cond b (of m) 0
     chosen true = refl
     chosen false = sum-zeros step
 
@@ -134,7 +123,7 @@ rowed-none height step field l e =
     }
 
 pub rowed-more : (height step : ℕ) (field : List Float) (start : ℕ) {l m : List ℕ}
-    → Rowed height step field start l → ColumnsAdded field start step step l m → Rowed height step field (start + height * step) m
+    → Rowed height step field start l → BlockAdded field start step l m → Rowed height step field (start + height * step) m
 rowed-more height step field start {l} {m} s t =
     record {
       long = t .long ∙ s .long;
@@ -142,17 +131,17 @@ rowed-more height step field start {l} {m} s t =
       begun = ap (λ (k : ℕ). k + height * step) (s .begun) ∙ sym (one-more (s .blocks) (height * step));
       each = λ n h.
           t .each n (omega (arith, s .long))
-          ∙ ap (λ (k : ℕ). k + sumBelow (λ j. weightOn field (start + j) step n) step) (s .each n h)
+          ∙ ap (λ (k : ℕ). k + runWeight field (start + n * step) step) (s .each n h)
           ∙ sym (added n h);
     }
   where
     in-layer : (k j : ℕ) → k < height → j < step → (start + k * step + j) / step % height ≡ k
     in-layer k j h l = ap (λ (i : ℕ). (i + k * step + j) / step % height) (s .begun) ∙ layer-in height step (s .blocks) k j h l
 
-    added : (n : ℕ) → n < height → layerBelow height step field n (start + height * step) ≡ layerBelow height step field n start + sumBelow (λ j. weightOn field (start + j) step n) step
+    added : (n : ℕ) → n < height → layerBelow height step field n (start + height * step) ≡ layerBelow height step field n start + runWeight field (start + n * step) step
     added n h =
         block height step start n (λ i. i / step % height) (λ i. rowWeight (getD field i nan)) in-layer height (omega arith)
-        ∙ ap (λ (b : Bool). layerBelow height step field n start + cond b (sumBelow (λ j. weightOn field (start + j) step n) step) 0) (lt-ltb n height h)
+        ∙ ap (λ (b : Bool). layerBelow height step field n start + cond b (runWeight field (start + n * step) step) 0) (lt-ltb n height h)
 
 -- a row is at most the number of cells
 pub rowed-room : (height step : ℕ) (field : List Float) (start : ℕ) (l : List ℕ) → start + step ≤ 2097152 → Rowed height step field start l → Room step l
