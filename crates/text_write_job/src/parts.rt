@@ -14,7 +14,8 @@ ghost use Prim.Native.Nat.{_+_, _*_, _≤_};
 ghost use lib.ListN.{length, take};
 ghost use Rattle.text.specs.Words.{line, lines};
 ghost use Rattle.text.specs.Limits.{mostVertices, indexRoom};
-ghost use Rattle.text.specs.TextJob.{uprightText, topologyText, signText, headText, vertexLine, verticesText, indexLine, indicesText, tailText};
+ghost use Rattle.text.specs.TextJob.{uprightText, topologyText, signText, headText, tailText};
+ghost use Rattle.text.specs.TextJob.{vertexLine, verticesText, indexLine, indicesText};
 ghost use Rattle.text_read_parts.specs.Told.{threesIn, listedAs};
 ghost use Rattle.lists.specs.Put.{Put};
 
