@@ -1,0 +1,4 @@
+pub mod Same
+pub mod Numbers
+pub mod Tidy
+pub mod Ascending
