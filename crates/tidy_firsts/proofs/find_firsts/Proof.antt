@@ -46,6 +46,11 @@ enter-requires c κs =
     let t : tie.In-loop Inv-loop μ-loop = search in
     record { entered = t .before .loop .inv .entered; next = t .loop-test .taken; three = s .pre .0; few = s .pre .1 .1 }
 
+slice-write-firsts : tie.Need-slice-write-firsts Inv-loop μ-loop
+slice-write-firsts c =
+    let t : tie.In-loop Inv-loop μ-loop = search in
+    omega (arith, t .before .loop .inv .filled .long, t .loop-test .taken)
+
 loop-again : tie.Need-loop-again Inv-loop μ-loop
 loop-again c =
     let t : tie.In-loop Inv-loop μ-loop = search in
@@ -70,6 +75,6 @@ find-firsts-spec =
     tie.close (tie.spec
     Inv-loop μ-loop
     (λ c κs. search needs) loop-holds enter-requires
-    (λ c. search needs) (λ c. omega (arith, c .before .before .loop .inv .filled .long))
+    (λ c. search needs) slice-write-firsts
     (λ c. omega arith) (λ c. omega arith) loop-again
     same-length same-length-2 returns)
