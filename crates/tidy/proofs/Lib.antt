@@ -1,3 +1,7 @@
 -- The laws that other crates cite.
 pub mod Same
+pub mod Numbers
 pub mod Ascending
+pub mod Kept
+pub mod Tidied
+pub mod Twice
