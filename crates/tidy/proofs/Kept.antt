@@ -1,5 +1,6 @@
--- Of any mesh: its firsts, what it is to be kept, and what it is to be used, each by what the definition promises. A used vertex is its own
--- first, and used vertices have numbers of their own. Assumes nothing.
+-- Of any mesh: its firsts, how its triangles are listed, and what it is to be used, each by what the definition promises. A triangle that
+-- repeats an earlier one repeats a kept one: the least of them. A used vertex is its own first, and used vertices have numbers of their
+-- own. Assumes nothing.
 use Prim.Native.Nat.{ℕ, _≤_, _<_}
 use native.Mathlib.Decide.{decLt}
 use native.Mathlib.Omega.{arith}
@@ -8,16 +9,17 @@ use mathlib.Core.Bool.{Bool, true, false, cond, _&&_, true≢false, and-eq-true-
 use lib.Dec.{eqb}
 use borrow.Author.Tests.{eqb-true, eq-eqb}
 use Rattle.picks.specs.Picks.{least, some}
-use Rattle.picks.proofs.Picks.{least-le, least-passes, least-below, least-none, some-none, some-not, some-one, one-some, count-one}
+use Rattle.picks.proofs.Picks.{least-le, least-passes, least-below, some-none, some-not, Passes, some-one, one-some, count-one}
 use Rattle.mesh_topology.specs.Topology.{kth}
 use Rattle.mesh.specs.Mesh.{Mesh, trianglesIn}
 use Rattle.tidy.specs.declared.Three.{Three}
 use Rattle.tidy.specs.Same.{same}
 use Rattle.tidy.specs.Numbers.{renumbered, twoEqual, sameNumbers, hasNumber}
 use Rattle.tidy.specs.Tidy.{bitsAt, triangleTotal, firstOf, merged, cause, kept, used, numberOf}
-use Rattle.tidy.specs.Meaning.{First, Stays}
+use Rattle.tidy.specs.Meaning.{First, Stays, Repeats, Listed, stays, two-equal, repeats}
 use Rattle.tidy.proofs.Same.{same-eq, eq-same}
-use Rattle.tidy.proofs.Numbers.{On, on-of, on-renumbered, has-on, has-own}
+use Rattle.tidy.proofs.Numbers.{On, on-of, has-on, has-own}
+use Rattle.tidy.proofs.Ascending.{same-numbers-on, same-two-equal}
 
 -- a test that does not pass fails
 pub fails : (b : Bool) → (b ≡ true → ⊥) → b ≡ false
@@ -62,22 +64,6 @@ module _ (m : Mesh) where
 
   -- ---- what is kept
 
-  pub kept-stays : (k : ℕ) → kept m k ≡ true → Stays m k
-  unfolding kept cause
-  kept-stays k h = go (twoEqual (merged m k)) refl (some earlier k) refl (eqb-true (cond (twoEqual (merged m k)) 1 (cond (some earlier k) 2 0)) 0 h)
-    where
-      earlier : ℕ → Bool
-      earlier j = sameNumbers (merged m j) (merged m k)
-
-      go : (f : Bool) → twoEqual (merged m k) ≡ f → (s : Bool) → some earlier k ≡ s → _≡_ {A = ℕ} (cond f 1 (cond s 2 0)) 0 → Stays m k
-      go true a s b e = absurd (omega arith)
-      go false a true b e = absurd (omega arith)
-      go false a false b e = record { unequal = a; new = λ j l. some-not earlier k j b l }
-
-  pub stays-kept : (k : ℕ) → Stays m k → kept m k ≡ true
-  unfolding kept cause
-  stays-kept k h = rw (h .unequal, some-none (λ j. sameNumbers (merged m j) (merged m k)) k (h .new))
-
   pub kept-cause : (k : ℕ) → kept m k ≡ true → cause m k ≡ 0
   unfolding kept
   kept-cause k h = eqb-true (cause m k) 0 h
@@ -85,6 +71,63 @@ module _ (m : Mesh) where
   pub cause-kept : (k : ℕ) → cause m k ≡ 0 → kept m k ≡ true
   unfolding kept
   cause-kept k h = eq-eqb (cause m k) 0 h
+
+  pub stays-kept : (k : ℕ) → Stays m k → kept m k ≡ true
+  unfolding kept cause
+  stays-kept k h = rw (h .unequal, some-none (λ j. sameNumbers (merged m j) (merged m k)) k (h .new))
+
+  module _ (k : ℕ) where
+    abbrev earlier : ℕ → Bool
+    earlier j = sameNumbers (merged m j) (merged m k)
+
+    -- of those before k that have its numbers, the least has none before it: it is kept
+    repeated : twoEqual (merged m k) ≡ false → some earlier k ≡ true → Repeats m (cause m) k
+    repeated f s =
+        record {
+          unequal = f;
+          of = of;
+          earlier = before;
+          kept = kept-cause of (stays-kept of (record { unequal = same-two-equal (merged m of) (merged m k) numbers ∙ f; new = new }));
+          numbers = numbers;
+        }
+      where
+        of : ℕ
+        of = least earlier k
+
+        before : of < k
+        before = go (decLt of k) (some-one earlier k s)
+          where
+            go : Dec (of < k) → Passes earlier k → of < k
+            go (yes l) r = l
+            go (no l) r = absurd (true≢false (sym (r .passes) ∙ least-below earlier k (r .at) (omega (arith, r .below))))
+
+        numbers : earlier of ≡ true
+        numbers = least-passes earlier k before
+
+        new : (j : ℕ) → j < of → sameNumbers (merged m j) (merged m of) ≡ false
+        new j l =
+            fails (sameNumbers (merged m j) (merged m of)) (λ z.
+            true≢false (sym (same-numbers-on (merged m j) (merged m of) (merged m k) z numbers) ∙ least-below earlier k j l))
+
+    pub listed : Listed m (cause m) k
+    unfolding cause
+    listed = go (twoEqual (merged m k)) refl (some earlier k) refl
+      where
+        is : {f s : Bool} → twoEqual (merged m k) ≡ f → some earlier k ≡ s → cause m k ≡ cond f 1 (cond s 2 0)
+        is a b = ap₂ (λ (f : Bool) (s : Bool). cond f 1 (cond s 2 0)) a b
+
+        go : (f : Bool) → twoEqual (merged m k) ≡ f → (s : Bool) → some earlier k ≡ s → Listed m (cause m) k
+        go true a s b = two-equal (is a b) a
+        go false a true b = repeats (is a b) (repeated a b)
+        go false a false b = stays (is a b) (record { unequal = a; new = λ j l. some-not earlier k j b l })
+
+  pub kept-stays : (k : ℕ) → kept m k ≡ true → Stays m k
+  kept-stays k h = go (kept-cause k h) (listed k)
+    where
+      go : cause m k ≡ 0 → Listed m (cause m) k → Stays m k
+      go z (stays e p) = p
+      go z (two-equal e p) = absurd (omega arith)
+      go z (repeats e p) = absurd (omega arith)
 
   -- ---- what is used
 

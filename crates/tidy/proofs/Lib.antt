@@ -5,3 +5,5 @@ pub mod Ascending
 pub mod Kept
 pub mod Tidied
 pub mod Twice
+pub mod Laws
+pub mod Again

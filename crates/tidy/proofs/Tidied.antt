@@ -42,6 +42,11 @@ coordinate vs v (suc (suc (suc d))) h = absurd (omega arith)
 module _ (m : Mesh) where
   -- ---- what it is
 
+  -- its coordinates, as the definition joins them
+  pub vertices-are : tidied m .vertices ≡ tidiedCoordinates m
+  unfolding tidied
+  vertices-are = refl
+
   pub coordinates-long : length (tidied m .vertices) ≡ 3 * keptVertices m
   unfolding tidied tidiedCoordinates
   coordinates-long = length-joined (λ i. coordinatesAt (m .vertices) (vertexFrom m i)) 3 (λ i. refl) (keptVertices m)
@@ -54,7 +59,8 @@ module _ (m : Mesh) where
   unfolding tidied tidiedCoordinates
   coordinate-of i d h l =
       sym (getD-take 3 (drop (3 * i) (tidiedCoordinates m)) d nan l ∙ getD-drop (3 * i) (tidiedCoordinates m) d nan)
-      ∙ ap (λ (p : List Float). getD p d nan) (joined-at (λ i. coordinatesAt (m .vertices) (vertexFrom m i)) 3 (λ i. refl) (keptVertices m) i h)
+      ∙ ap (λ (p : List Float). getD p d nan)
+      (joined-at (λ i. coordinatesAt (m .vertices) (vertexFrom m i)) 3 (λ i. refl) (keptVertices m) i h)
       ∙ coordinate (m .vertices) (vertexFrom m i) d l
 
   pub vertex-of : (i : ℕ) → i < keptVertices m → bitsAt (tidied m .vertices) i ≡ bitsAt (m .vertices) (vertexFrom m i)
