@@ -7,3 +7,4 @@ pub mod Tidied
 pub mod Twice
 pub mod Laws
 pub mod Again
+pub mod Example

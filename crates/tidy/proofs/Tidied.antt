@@ -66,8 +66,11 @@ module _ (m : Mesh) where
   pub vertex-of : (i : ℕ) → i < keptVertices m → bitsAt (tidied m .vertices) i ≡ bitsAt (m .vertices) (vertexFrom m i)
   unfolding bitsAt
   vertex-of i h =
-      threes (ap (toBits binary32) (simp add-zero at (coordinate-of i 0 h (omega arith))))
-      (ap (toBits binary32) (coordinate-of i 1 h (omega arith))) (ap (toBits binary32) (coordinate-of i 2 h (omega arith)))
+      rw (
+        simp add-zero at (coordinate-of i 0 h (omega arith)),
+        coordinate-of i 1 h (omega arith),
+        coordinate-of i 2 h (omega arith),
+      )
 
   pub triangles-are : trianglesIn (tidied m) ≡ tidiedTriangles m
   unfolding tidied
