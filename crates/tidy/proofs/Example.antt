@@ -1,7 +1,7 @@
--- A mesh by hand, tidied by computation. Of its seven vertices 0 and 2 differ in the sign of a zero alone and stay apart, 3 and 5 are copies
--- of 1 (5 is one of 3, too), and 6 is used by none. Of its five triangles 1 has the numbers of 0, merged and in another order; 2 has two equal
--- ones, merged; 3 differs from 0 by the sign of that zero, and is kept; 4 repeats 2 and has two equal ones, and its cause is 1. Two indices
--- are left over, one of no vertex. Assumes nothing.
+-- A mesh by hand, tidied by computation. Of its eight vertices 0 and 2 differ in the sign of a zero alone and stay apart, 4 and 7 in z alone,
+-- 3 and 5 are copies of 1 (5 is one of 3, too), 6 is used by a dropped triangle only and 7 by none. Of its six triangles 1 has the numbers of
+-- 0, merged and wound the other way; 2 has two equal ones, merged, the first and the last; 3 differs from 0 by the sign of that zero, and is
+-- kept; 4 repeats 2 and has two equal ones, and its cause is 1; so is that of 5. Two indices are left over, one of no vertex. Assumes nothing.
 use Prim.Native.Nat.{ℕ}
 use mathlib.Core.Path.{_≡_, refl}
 use mathlib.Core.Bool.{true, false}
@@ -39,21 +39,23 @@ scan =
     i ∷ o ∷ o ∷
     o ∷ i ∷ o ∷
     i ∷ o ∷ o ∷
-    i ∷ i ∷ o ∷ [])
+    i ∷ i ∷ o ∷
+    o ∷ i ∷ i ∷ [])
     TriangleList
     Given
     (0 ∷ 3 ∷ 4 ∷
-    4 ∷ 0 ∷ 5 ∷
-    1 ∷ 3 ∷ 4 ∷
+    4 ∷ 5 ∷ 0 ∷
+    1 ∷ 4 ∷ 3 ∷
     2 ∷ 1 ∷ 4 ∷
     4 ∷ 5 ∷ 3 ∷
+    6 ∷ 3 ∷ 5 ∷
     9 ∷ 2 ∷ [])
 
-firsts-scan : firsts scan ≡ (0 ∷ 1 ∷ 2 ∷ 1 ∷ 4 ∷ 1 ∷ 6 ∷ [])
+firsts-scan : firsts scan ≡ (0 ∷ 1 ∷ 2 ∷ 1 ∷ 4 ∷ 1 ∷ 6 ∷ 7 ∷ [])
 unfolding firstOf least same bitsAt toBits table
 firsts-scan = refl
 
-causes-scan : causes scan ≡ (0 ∷ 2 ∷ 1 ∷ 0 ∷ 1 ∷ [])
+causes-scan : causes scan ≡ (0 ∷ 2 ∷ 1 ∷ 0 ∷ 1 ∷ 1 ∷ [])
 unfolding cause least some same bitsAt toBits renumbered twoEqual sameNumbers table threes triangles
 causes-scan = refl
 

@@ -66,7 +66,7 @@ module _ (m : Mesh) where
   pub vertex-of : (i : ℕ) → i < keptVertices m → bitsAt (tidied m .vertices) i ≡ bitsAt (m .vertices) (vertexFrom m i)
   unfolding bitsAt
   vertex-of i h =
-      rw (
+      simp (
         simp add-zero at (coordinate-of i 0 h (omega arith)),
         coordinate-of i 1 h (omega arith),
         coordinate-of i 2 h (omega arith),
