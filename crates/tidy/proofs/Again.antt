@@ -2,7 +2,7 @@
 -- it has no more vertices and triangles, and each of its coordinates is a given one. (4 is `tidied-valid` in Tidied.) Assumes nothing.
 use Prim.Native.Nat.{ℕ, _+_, _*_, _/_, _%_, _≤_, _<_}
 use native.Mathlib.Omega.{arith}
-use mathlib.Core.Path.{_≡_, refl, sym, ap, _∙_}
+use mathlib.Core.Path.{_≡_, refl, ap, _∙_}
 use mathlib.Core.Bool.{Bool, true}
 use lib.ListN.{length, getD}
 use lib.Ieee.{Float, nan}
@@ -11,7 +11,7 @@ use Rattle.lists.proofs.Range.{count-le}
 use Rattle.lists.proofs.Every.{every-each, every-at}
 use Rattle.mesh_topology.specs.declared.Topology.the-variants.{TriangleList}
 use Rattle.mesh.specs.Mesh.{Mesh}
-use Rattle.tidy.specs.Tidy.{vertexTotal, triangleTotal, kept, used, keptVertices, keptTriangles, vertexFrom, tidiedCoordinates, tidied}
+use Rattle.tidy.specs.Tidy.{vertexTotal, triangleTotal, kept, used, keptVertices, keptTriangles, vertexFrom, tidied}
 use Rattle.tidy.proofs.Tidied.{coordinates-long, coordinate-of, vertices-long, triangles-long, vertex-from}
 
 module _ (m : Mesh) where

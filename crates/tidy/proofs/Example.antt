@@ -2,10 +2,9 @@
 -- 3 and 5 are copies of 1 (5 is one of 3, too), 6 is used by a dropped triangle only and 7 by none. Of its six triangles 1 has the numbers of
 -- 0, merged and wound the other way; 2 has two equal ones, merged, the first and the last; 3 differs from 0 by the sign of that zero, and is
 -- kept; 4 repeats 2 and has two equal ones, and its cause is 1; so is that of 5. Two indices are left over, one of no vertex. Assumes nothing.
-use Prim.Native.Nat.{ℕ}
 use mathlib.Core.Path.{_≡_, refl}
 use mathlib.Core.Bool.{true, false}
-use mathlib.Core.List.{List, [], _∷_}
+use mathlib.Core.List.{[], _∷_}
 use lib.IntN.{pos}
 use lib.Ieee.{Float, fin, toBits}
 use Rattle.lists.specs.Range.{countBelow}

@@ -1,12 +1,11 @@
 -- Of any mesh: its firsts, how its triangles are listed, and what it is to be used, each by what the definition promises. A triangle that
 -- repeats an earlier one repeats a kept one: the least of them. A used vertex is its own first, and used vertices have numbers of their
 -- own. Assumes nothing.
-use Prim.Native.Nat.{ℕ, _≤_, _<_}
+use Prim.Native.Nat.{ℕ, _<_}
 use native.Mathlib.Decide.{decLt}
 use native.Mathlib.Omega.{arith}
 use mathlib.Core.Path.{_≡_, refl, sym, ap, ap₂, _∙_}
 use mathlib.Core.Bool.{Bool, true, false, cond, _&&_, true≢false, and-eq-true-iff}
-use lib.Dec.{eqb}
 use borrow.Author.Tests.{eqb-true, eq-eqb}
 use Rattle.picks.specs.Picks.{least, some}
 use Rattle.picks.proofs.Picks.{least-le, least-passes, least-below, some-none, some-not, Passes, some-one, one-some, count-one}

@@ -4,25 +4,21 @@
 use Prim.Native.Nat.{ℕ, _+_, _*_, _≤_, _<_}
 use native.Mathlib.Nat.{add-zero}
 use native.Mathlib.Omega.{arith}
-use mathlib.Core.Path.{_≡_, refl, sym, ap, _∙_}
-use mathlib.Core.Bool.{Bool, true, false, cond}
+use mathlib.Core.Path.{_≡_, sym, ap, _∙_}
 use mathlib.Core.List.{List}
 use lib.Dec.{T}
 use lib.ListN.{length, getD}
-use lib.Ieee.{Float, nan, binary32, fits, ofBits, toBits}
+use lib.Ieee.{nan, binary32, fits, ofBits, toBits}
 use lib.Ieee.Bits.{ofBits-toBits}
 use Rattle.lists.specs.Range.{countBelow}
 use Rattle.lists.proofs.Table.{table-at, is-table}
-use Rattle.picks.specs.Picks.{some}
 use Rattle.picks.proofs.Picks.{some-none, one-some}
-use Rattle.mesh_topology.specs.declared.Triangle.{Triangle}
 use Rattle.mesh_topology.specs.Topology.{kth}
-use Rattle.mesh.specs.declared.Corners.{Corners}
 use Rattle.mesh.specs.Mesh.{Mesh, trianglesIn, vertexAt, cornersOf, cornersAt}
 use Rattle.tidy.specs.declared.Three.{Three}
-use Rattle.tidy.specs.Numbers.{renumbered, twoEqual, sameNumbers}
-use Rattle.tidy.specs.Tidy.{bitsAt, vertexTotal, triangleTotal, firstOf, merged, cause, kept, used, numberOf, keptVertices, keptTriangles, vertexFrom, triangleFrom, tidied, firsts, causes}
-use Rattle.tidy.specs.Meaning.{Valid, First, Stays, Listed, stays, two-equal, repeats, SameCorners, Retained, Squeezed}
+use Rattle.tidy.specs.Numbers.{renumbered, sameNumbers}
+use Rattle.tidy.specs.Tidy.{bitsAt, vertexTotal, triangleTotal, firstOf, merged, cause, kept, numberOf, keptVertices, keptTriangles, vertexFrom, triangleFrom, tidied, firsts, causes}
+use Rattle.tidy.specs.Meaning.{Valid, First, Listed, stays, two-equal, repeats, SameCorners, Retained, Squeezed}
 use Rattle.tidy.proofs.Kept.{first, first-one, listed, kept-cause, cause-kept}
 use Rattle.tidy.proofs.Tidied.{vertices-long, triangles-long, coordinate-of, vertex-of, triangle-of, vertex-from, triangle-from, vertex-up, triangle-up, number-below, from-number, place-below, from-place, Had, had}
 

@@ -1,21 +1,19 @@
 -- The tidied mesh. Four facts say what it is: how many vertices and triangles it has, which given vertex each vertex is, and which given
 -- triangle, renumbered, each triangle is. What follows speaks of these alone. Selected vertices are their own firsts and ascend, so their
 -- bits are apart; numbers are given one to one, so no test changes: nothing in the tidied mesh has a cause to go. Assumes nothing.
-use Prim.Native.Nat.{ℕ, zero, suc, _+_, _*_, _/_, _%_, _≤_, _<_}
+use Prim.Native.Nat.{ℕ, zero, suc, _+_, _*_, _<_}
 use native.Mathlib.Nat.{add-zero}
 use native.Mathlib.Omega.{arith}
-use mathlib.Core.Path.{_≡_, refl, sym, ap, ap₂, _∙_, subst}
-use mathlib.Core.Bool.{Bool, true, false, _&&_}
-use mathlib.Core.List.{List, [], _∷_}
-use lib.ListN.{length, getD, take, drop}
+use mathlib.Core.Path.{_≡_, refl, sym, ap, ap₂, _∙_}
+use mathlib.Core.Bool.{true, false}
+use mathlib.Core.List.{List}
+use lib.ListN.{length, getD, drop}
 use lib.Seq.{getD-take, getD-drop}
 use lib.Dec.{ltb}
 use borrow.Author.Tests.{lt-ltb}
-use lib.Ieee.{Float, nan, binary32, toBits}
+use lib.Ieee.{Float, nan}
 use Rattle.lists.specs.Range.{countBelow}
-use Rattle.lists.specs.Every.{every}
-use Rattle.lists.proofs.Range.{count-le}
-use Rattle.lists.proofs.Every.{every-each, every-at}
+use Rattle.lists.proofs.Every.{every-each}
 use Rattle.lists.proofs.Table.{length-table, table-at}
 use Rattle.lists.proofs.Joined.{length-joined, joined-at}
 use Rattle.picks.proofs.Picks.{Picked, picked, select-count, select-up, count-up}
@@ -28,9 +26,8 @@ use Rattle.mesh.specs.Mesh.{Mesh, vertexCount, trianglesIn}
 use Rattle.tidy.specs.Numbers.{renumbered, twoEqual, sameNumbers, hasNumber}
 use Rattle.tidy.specs.Tidy.{bitsAt, coordinatesAt, vertexTotal, triangleTotal, firstOf, merged, kept, used, numberOf, keptVertices, keptTriangles, vertexFrom, triangleFrom, tidied, tidiedTriangles, tidiedCoordinates}
 use Rattle.tidy.specs.Meaning.{Valid, Stays, Clean}
-use Rattle.tidy.proofs.Same.{threes}
-use Rattle.tidy.proofs.Numbers.{On, on-of, on-renumbered, renumbered-stays, has-renumbered, two-equal-renumbered, same-numbers-renumbered}
-use Rattle.tidy.proofs.Kept.{first, first-own, kept-stays, stays-kept, Uses, used-uses, uses-used, used-first, kept-used, number-apart}
+use Rattle.tidy.proofs.Numbers.{On, on-renumbered, has-renumbered, two-equal-renumbered, same-numbers-renumbered}
+use Rattle.tidy.proofs.Kept.{first, kept-stays, Uses, used-uses, used-first, kept-used, number-apart}
 
 -- coordinate d of vertex v
 coordinate : (vs : List Float) (v d : ℕ) → d < 3 → getD (coordinatesAt vs v) d nan ≡ getD vs (3 * v + d) nan

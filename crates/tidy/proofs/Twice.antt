@@ -1,15 +1,14 @@
 -- A clean mesh loses nothing: each vertex is its own first and used, each triangle is kept, so each keeps its number and its place. The
 -- tidied mesh is clean, so tidying it once more gives it again. Assumes nothing.
-use Prim.Native.Nat.{ℕ, suc, _+_, _*_, _/_, _<_}
+use Prim.Native.Nat.{ℕ, suc, _*_, _/_, _<_}
 use native.Mathlib.Numerals.{add-one, add-two}
 use native.Mathlib.Omega.{arith}
-use mathlib.Core.Path.{_≡_, refl, sym, ap, ap₂, _∙_}
+use mathlib.Core.Path.{_≡_, sym, ap, ap₂, _∙_}
 use mathlib.Core.Bool.{true}
-use mathlib.Core.List.{List, [], _∷_}
-use lib.ListN.{length, getD, take, drop, replicate}
+use mathlib.Core.List.{List}
+use lib.ListN.{length, take, drop}
 use lib.Seq.{drop-cons, take-all}
 use lib.Ieee.{Float, nan}
-use Rattle.lists.specs.Table.{table}
 use Rattle.lists.proofs.Table.{is-table, table-same, table-replicate}
 use Rattle.lists.proofs.Joined.{joined-same, joined-parts}
 use Rattle.picks.proofs.Picks.{count-all, select-all}
@@ -22,7 +21,7 @@ use Rattle.mesh.specs.Mesh.{Mesh, meshOf, trianglesIn}
 use Rattle.tidy.specs.Numbers.{renumbered, twoEqual, sameNumbers, hasNumber}
 use Rattle.tidy.specs.Tidy.{coordinatesAt, vertexTotal, triangleTotal, firstOf, merged, cause, kept, used, numberOf, keptVertices, keptTriangles, vertexFrom, triangleFrom, tidiedCoordinates, tidiedTriangles, tidied}
 use Rattle.tidy.specs.Meaning.{Valid, Clean, NothingGoes}
-use Rattle.tidy.proofs.Numbers.{On, on-of, renumbered-stays}
+use Rattle.tidy.proofs.Numbers.{on-of, renumbered-stays}
 use Rattle.tidy.proofs.Kept.{first-own, stays-kept, kept-cause, uses-used}
 use Rattle.tidy.proofs.Tidied.{given-below, coordinates-long, triangles-are, tidied-valid, clean}
 

@@ -4,7 +4,6 @@
 use Prim.Native.Nat.{ℕ, _≤_, _<_}
 use mathlib.Core.Path.{_≡_}
 use mathlib.Core.Bool.{true, false}
-use mathlib.Core.List.{List}
 use lib.ListN.{replicate}
 use Rattle.lists.specs.Table.{table}
 use Rattle.mesh_topology.specs.declared.Triangle.{Triangle}
@@ -12,7 +11,7 @@ use Rattle.mesh_topology.specs.Topology.{kth}
 use Rattle.mesh_topology.specs.Refusals.{allBelowCount}
 use Rattle.mesh.specs.Mesh.{Mesh, trianglesIn}
 use Rattle.tidy.specs.Numbers.{twoEqual, sameNumbers, hasNumber}
-use Rattle.tidy.specs.Tidy.{bitsAt, vertexTotal, triangleTotal, firstOf, merged, cause, used, keptVertices, keptTriangles, tidied, firsts, causes}
+use Rattle.tidy.specs.Tidy.{bitsAt, vertexTotal, triangleTotal, merged, cause, used, keptVertices, keptTriangles, firsts, causes}
 
 -- what refusal 4 leaves: each number of a triangle is a vertex's
 abbrev pub Valid : Mesh → Type 0
