@@ -1,17 +1,18 @@
 -- What tidying a mesh comes to as a call (document 02, §10): "Refusals: 2, 13, 3, 4, then 5 for lent lengths, all before any change";
 -- "Both kept counts are returned. Lent outputs: coordinates as given, three indices a triangle, tails zero; a u32 a vertex (its first) and
 -- a triangle (0 kept, or the cause)." It is one function of the mesh and of the outputs as they are lent. Definitions only.
-use Prim.Native.Nat.{ℕ, zero, suc, _*_, _-_}
+use Prim.Native.Nat.{ℕ, zero, suc, _*_}
 use mathlib.Core.Path.{_≡_}
 use mathlib.Core.Bool.{Bool, not, _||_}
 use mathlib.Core.List.{List, [], _∷_, _++_}
 use lib.Dec.{eqb}
-use lib.ListN.{length, replicate}
-use lib.Ieee.{Float, binary32, ofBits}
+use lib.ListN.{length}
+use lib.Ieee.{Float}
 use Rattle.lists.specs.Checks.{Check, firstThatApplies}
 use Rattle.mesh.specs.Mesh.{Mesh}
 use Rattle.mesh_explicit.specs.Explicit.{explicit}
 use Rattle.job_checks.specs.Refusals.{meshChecks}
+use Rattle.tidy.specs.Padded.{padded, plusZero}
 use Rattle.tidy.specs.Tidy.{vertexTotal, triangleTotal, keptVertices, keptTriangles, tidiedCoordinates, tidiedTriangles, firsts, causes}
 use Rattle.tidy_mesh.specs.declared.Kept.{Kept}
 use Rattle.tidy_mesh.specs.declared.TidyAnswer.{TidyAnswer}
@@ -45,14 +46,6 @@ unfoldable pub tidyRefusal : Mesh → TidyLent → ℕ
 tidyRefusal m b = firstThatApplies (meshChecks m ++ outputChecks m b)
 
 -- ---- the outcome
-
--- "tails zero": l, and the zero behind it to a length of n
-abbrev pub padded : {A : Type 0} → A → ℕ → List A → List A
-padded z n l = l ++ replicate (n - length l) z
-
--- +0, whose bits are all 0
-abbrev pub plusZero : Float
-plusZero = ofBits binary32 0
 
 abbrev pub tidyLeft : Mesh → TidyLent
 tidyLeft m =
