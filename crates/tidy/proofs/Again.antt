@@ -2,8 +2,9 @@
 -- it has no more vertices and triangles, and each of its coordinates is a given one. (4 is `tidied-valid` in Tidied.) Assumes nothing.
 use Prim.Native.Nat.{ℕ, _+_, _*_, _/_, _%_, _≤_, _<_}
 use native.Mathlib.Omega.{arith}
-use mathlib.Core.Path.{_≡_, refl, ap, _∙_}
+use mathlib.Core.Path.{_≡_, refl, sym, ap, _∙_}
 use mathlib.Core.Bool.{Bool, true}
+use mathlib.Core.List.{List}
 use lib.ListN.{length, getD}
 use lib.Ieee.{Float, nan}
 use Rattle.lists.specs.Every.{every}
@@ -12,7 +13,8 @@ use Rattle.lists.proofs.Every.{every-each, every-at}
 use Rattle.mesh_topology.specs.declared.Topology.the-variants.{TriangleList}
 use Rattle.mesh.specs.Mesh.{Mesh}
 use Rattle.tidy.specs.Tidy.{vertexTotal, triangleTotal, kept, used, keptVertices, keptTriangles, vertexFrom, tidied}
-use Rattle.tidy.proofs.Tidied.{coordinates-long, coordinate-of, vertices-long, triangles-long, vertex-from}
+use Rattle.tidy.proofs.Coordinates.{coordinate}
+use Rattle.tidy.proofs.Tidied.{coordinates-long, vertices-long, triangles-long, vertex-of, vertices-in-turn}
 
 module _ (m : Mesh) where
   pub no-more-vertices : keptVertices m ≤ vertexTotal m
@@ -35,9 +37,12 @@ module _ (m : Mesh) where
       every-each p nan (tidied m .vertices) (λ k l.
       let i : k / 3 < keptVertices m = omega (arith, coordinates-long m) in
       let e : k ≡ 3 * (k / 3) + k % 3 = omega arith in
-      let f = vertex-from m (k / 3) i .below in
-      ap (λ (j : ℕ). p (getD (tidied m .vertices) j nan)) e
-      ∙ ap p (coordinate-of m (k / 3) (k % 3) i (omega arith))
+      let d : k % 3 < 3 = omega arith in
+      let f = vertices-in-turn m .below (k / 3) i in
+      ap p (ap (λ (j : ℕ). getD (tidied m .vertices) j nan) e
+      ∙ coordinate (tidied m .vertices) (k / 3) (k % 3) d
+      ∙ ap (λ (c : List Float). getD c (k % 3) nan) (vertex-of m (k / 3) i)
+      ∙ sym (coordinate (m .vertices) (vertexFrom m (k / 3)) (k % 3) d))
       ∙ every-at p nan (m .vertices) (3 * vertexFrom m (k / 3) + k % 3) h (omega arith))
 
   -- 13
