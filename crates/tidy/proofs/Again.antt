@@ -1,5 +1,6 @@
 -- What the checks of a job ask of a mesh, refusals 2, 13, 3 and 4, holds of the tidied mesh where it held of the given one: it is a list,
--- it has no more vertices and triangles, and each of its coordinates is a given one. (4 is `tidied-valid` in Tidied.) Assumes nothing.
+-- it has no more vertices and triangles, each of its coordinates is a given one, and its triangles name its vertices (`tidied-valid` in
+-- Tidied). Assumes nothing.
 use Prim.Native.Nat.{ℕ, _+_, _*_, _/_, _%_, _≤_, _<_}
 use native.Mathlib.Omega.{arith}
 use mathlib.Core.Path.{_≡_, refl, sym, ap, _∙_}
@@ -11,10 +12,10 @@ use Rattle.lists.specs.Every.{every}
 use Rattle.lists.proofs.Range.{count-le}
 use Rattle.lists.proofs.Every.{every-each, every-at}
 use Rattle.mesh_topology.specs.declared.Topology.the-variants.{TriangleList}
-use Rattle.mesh.specs.Mesh.{Mesh}
+use Rattle.mesh.specs.Mesh.{Mesh, Sound}
 use Rattle.tidy.specs.Tidy.{vertexTotal, triangleTotal, kept, used, keptVertices, keptTriangles, vertexFrom, tidied}
 use Rattle.tidy.proofs.Coordinates.{coordinate}
-use Rattle.tidy.proofs.Tidied.{coordinates-long, vertices-long, triangles-long, vertex-of, vertices-in-turn}
+use Rattle.tidy.proofs.Tidied.{coordinates-long, vertices-long, triangles-long, vertex-of, vertices-in-turn, tidied-valid}
 
 module _ (m : Mesh) where
   pub no-more-vertices : keptVertices m ≤ vertexTotal m
@@ -53,3 +54,7 @@ module _ (m : Mesh) where
   -- 3
   pub triangles-fit : triangleTotal (tidied m) ≤ triangleTotal m
   triangles-fit = omega (arith, triangles-long m, no-more-triangles)
+
+  -- 4, and so few vertices as the given ones
+  pub tidied-sound : Sound m → Sound (tidied m)
+  tidied-sound s = record { few = omega (arith, vertices-fit, s .few); below = tidied-valid m (s .below) }

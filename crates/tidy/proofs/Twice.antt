@@ -26,21 +26,21 @@ module _ (m : Mesh) (ok : Valid m) (c : Clean m) where
       renumbered-stays f (kth (trianglesIn m) k)
       (on-of (λ v. v < vertexTotal m) (λ v. f v ≡ v) (kth (trianglesIn m) k) h (given-below m ok k l))
 
-  firsts-own : (v : ℕ) → v < vertexTotal m → firstOf m v ≡ v
+  pub firsts-own : (v : ℕ) → v < vertexTotal m → firstOf m v ≡ v
   firsts-own v h = first-own m v (λ w l e. c .apart w v l h e)
 
   merged-own : (k : ℕ) → k < triangleTotal m → merged m k ≡ kth (trianglesIn m) k
   unfolding merged
   merged-own k l = stays (firstOf m) firsts-own k l
 
-  all-kept : (k : ℕ) → k < triangleTotal m → kept m k ≡ true
+  pub all-kept : (k : ℕ) → k < triangleTotal m → kept m k ≡ true
   all-kept k l =
       stays-kept m k (record {
         unequal = ap twoEqual (merged-own k l) ∙ c .unequal k l;
         new = λ j w. ap₂ sameNumbers (merged-own j (omega arith)) (merged-own k l) ∙ c .new j k w l;
       })
 
-  all-used : (v : ℕ) → v < vertexTotal m → used m v ≡ true
+  pub all-used : (v : ℕ) → v < vertexTotal m → used m v ≡ true
   all-used v l =
       let u = c .in-use v l in
       uses-used m v (record {

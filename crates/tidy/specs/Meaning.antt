@@ -1,6 +1,7 @@
 -- "Prove: nothing that has such a cause to go is kept, kept triangles retain their corner bits and order, each dropped one is listed with a
--- true cause, and tidying twice changes nothing." (document 02, §10): what each of these says. proofs/Laws.antt has that they hold of every
--- mesh that refusal 4 leaves. Definitions only.
+-- true cause, and tidying twice changes nothing." (document 02, §10): what each of these says. They are proved of every mesh that refusal 4
+-- leaves: `clean` (proofs/Tidied.antt), `retained`, `squeezed`, `firsts-true`, `causes-true` (Laws), `twice`, `nothing-more` (Twice), and
+-- `one-outcome` (One). Definitions only.
 use Prim.Native.Nat.{ℕ, _*_, _≤_, _<_}
 use mathlib.Core.Path.{_≡_}
 use mathlib.Core.Bool.{true, false}
@@ -102,7 +103,7 @@ pub record NothingGoes (m : Mesh) : Type 0 where
 
 -- ---- one outcome
 
--- all that is asked of what m is tidied to. `one-outcome` (proofs/One.antt) has that no other mesh is this.
+-- all that is asked of what m is tidied to. No other mesh is this (`one-outcome`).
 pub record IsTidied (m n : Mesh) : Type 0 where
   pub by-indices : ByIndices n
   pub valid : Valid n
