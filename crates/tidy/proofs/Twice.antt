@@ -10,28 +10,23 @@ use Rattle.picks.proofs.Picks.{count-all}
 use Rattle.mesh_topology.specs.declared.Triangle.{Triangle}
 use Rattle.mesh_topology.specs.Topology.{kth}
 use Rattle.mesh.specs.Mesh.{Mesh, trianglesIn}
-use Rattle.tidy.specs.Numbers.{renumbered, twoEqual, sameNumbers, hasNumber}
+use Rattle.tidy.specs.Numbers.{twoEqual, sameNumbers, hasNumber}
 use Rattle.tidy.specs.Tidy.{vertexTotal, triangleTotal, firstOf, merged, cause, kept, used, keptVertices, keptTriangles, tidied}
 use Rattle.tidy.specs.Meaning.{Valid, Clean, Retained, Squeezed, ByIndices, NothingGoes}
 use Rattle.tidy.proofs.Numbers.{on-of, renumbered-stays}
 use Rattle.tidy.proofs.Kept.{first-own, stays-kept, kept-cause, uses-used}
-use Rattle.tidy.proofs.Tidied.{given-below, tidied-valid, clean}
+use Rattle.tidy.proofs.Tidied.{vertices-long, triangles-long, given-below, tidied-valid, clean}
 use Rattle.tidy.proofs.One.{by-indices, one-outcome}
 
 module _ (m : Mesh) (ok : Valid m) (c : Clean m) where
-  -- a renumbering that leaves each vertex leaves each triangle
-  stays : (f : ℕ → ℕ) → ((v : ℕ) → v < vertexTotal m → f v ≡ v) → (k : ℕ) → k < triangleTotal m
-      → renumbered f (kth (trianglesIn m) k) ≡ kth (trianglesIn m) k
-  stays f h k l =
-      renumbered-stays f (kth (trianglesIn m) k)
-      (on-of (λ v. v < vertexTotal m) (λ v. f v ≡ v) (kth (trianglesIn m) k) h (given-below m ok k l))
-
   pub firsts-own : (v : ℕ) → v < vertexTotal m → firstOf m v ≡ v
   firsts-own v h = first-own m v (λ w l e. c .apart w v l h e)
 
   merged-own : (k : ℕ) → k < triangleTotal m → merged m k ≡ kth (trianglesIn m) k
   unfolding merged
-  merged-own k l = stays (firstOf m) firsts-own k l
+  merged-own k l =
+      let t = kth (trianglesIn m) k in
+      renumbered-stays (firstOf m) t (on-of (λ v. v < vertexTotal m) (λ v. firstOf m v ≡ v) t firsts-own (given-below m ok k l))
 
   pub all-kept : (k : ℕ) → k < triangleTotal m → kept m k ≡ true
   all-kept k l =
@@ -85,6 +80,10 @@ module _ (m : Mesh) (ok : Valid m) where
   -- the second time nothing is merged, dropped or squeezed out
   pub nothing-more : NothingGoes (tidied m)
   nothing-more = nothing-goes (tidied m) (tidied-valid m ok) (clean m ok)
+
+  -- both counts are what they were
+  pub counts-stay : (keptVertices (tidied m) ≡ keptVertices m) × (keptTriangles (tidied m) ≡ keptTriangles m)
+  counts-stay = (nothing-more .vertices-stay ∙ vertices-long m, nothing-more .triangles-stay ∙ triangles-long m)
 
   pub twice : tidied (tidied m) ≡ tidied m
   twice = clean-stays (tidied m) (tidied-valid m ok) (clean m ok) (by-indices m)
