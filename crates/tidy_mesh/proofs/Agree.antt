@@ -26,7 +26,7 @@ use Rattle.tidy.specs.Numbers.{renumbered, twoEqual, sameNumbers, hasNumber}
 use Rattle.tidy.specs.Tidy.{coordinatesAt, vertexTotal, triangleTotal, firstOf, merged, cause, kept, used, numberOf, keptVertices, keptTriangles, vertexFrom, triangleFrom, tidiedTriangles, tidiedCoordinates, firsts, causes}
 use Rattle.tidy.specs.Meaning.{Valid}
 use Rattle.tidy.proofs.Numbers.{On}
-use Rattle.tidy.proofs.Tidied.{Had, had, triangle-from}
+use Rattle.tidy.proofs.Tidied.{Had, had, triangles-in-turn}
 use Rattle.tidy_causes.specs.Causes.{mergedBy, causeFrom, causeBy}
 use Rattle.tidy_marks.specs.Marks.{Marks, markAt, isMarked, keptBy, usedBy}
 use Rattle.tidy_squeeze.specs.Squeezed.{byMarks, newNumbers}
@@ -103,12 +103,45 @@ module _ (m : Mesh) (ok : Valid m) where
           less : (k : ℕ) → k + 1 - 1 ≡ k
           less k = omega arith
 
+      marked-still : (v : ℕ) → v < vertexTotal m → isMarked (vertexTotal m) new v ≡ used m v
+      marked-still v l =
+          ap (λ (k : ℕ). not (eqb k 0)) (numbers .is v l)
+          ∙ marked-one (isMarked (vertexTotal m) words v) (countBelow (isMarked (vertexTotal m) words) v) ∙ marked-is v l
+
       pub triangles-listed :
           joined (λ i. newNumbers (trianglesIn m) (firsts m) new (select (keptBy (causes m)) (triangleTotal m) i)) (countBelow (keptBy (causes m)) (triangleTotal m))
           ≡ explicit (tidiedTriangles m)
-      triangles-listed = ?
+      unfolding renumbered triangleFrom tidiedTriangles
+      triangles-listed =
+          ap (joined listed) triangles-counted
+          ∙ joined-same listed (λ i. vertexNumbers (getD (table tidy (keptTriangles m)) i (triangle 0 0 0))) (keptTriangles m)
+          (λ i l. ap vertexNumbers (is i l ∙ sym (table-at tidy (keptTriangles m) i (triangle 0 0 0) l)))
+          ∙ ap (joined (λ i. vertexNumbers (getD (table tidy (keptTriangles m)) i (triangle 0 0 0)))) (sym (length-table tidy (keptTriangles m)))
+          ∙ joined-each vertexNumbers (triangle 0 0 0) (table tidy (keptTriangles m))
+        where
+          listed : ℕ → List ℕ
+          listed i = newNumbers (trianglesIn m) (firsts m) new (select (keptBy (causes m)) (triangleTotal m) i)
+
+          tidy : ℕ → Triangle
+          tidy k = renumbered (numberOf m) (merged m (triangleFrom m k))
+
+          -- the i-th kept triangle by the marks is that of the tidied mesh
+          is : (i : ℕ) → i < keptTriangles m
+              → byMarks (length (firsts m)) new (mergedBy (trianglesIn m) (firsts m) (select (keptBy (causes m)) (triangleTotal m) i)) ≡ tidy i
+          is i l =
+              let h = had m ok i l in
+              let from = select-same (keptBy (causes m)) (kept m) (triangleTotal m) i kept-by in
+              ap₂ (λ (n k : ℕ). byMarks n new (mergedBy (trianglesIn m) (firsts m) k)) (length-table (firstOf m) (vertexTotal m)) from
+              ∙ ap (byMarks (vertexTotal m) new) (merged-by (triangleFrom m i) (triangles-in-turn m .below i l))
+              ∙ triangles (number-is _ (h .a)) (number-is _ (h .b)) (number-is _ (h .c))
 
       pub vertices-packed :
           joined (λ i. coordinatesAt (m .vertices) (select (isMarked (vertexTotal m) new) (vertexTotal m) i)) (countBelow (isMarked (vertexTotal m) new) (vertexTotal m))
           ≡ tidiedCoordinates m
-      vertices-packed = ?
+      unfolding tidiedCoordinates keptVertices vertexFrom
+      vertices-packed =
+          joined-same (λ i. coordinatesAt (m .vertices) (select (isMarked (vertexTotal m) new) (vertexTotal m) i))
+          (λ i. coordinatesAt (m .vertices) (select (used m) (vertexTotal m) i)) (countBelow (isMarked (vertexTotal m) new) (vertexTotal m))
+          (λ i l. ap (coordinatesAt (m .vertices)) (select-same (isMarked (vertexTotal m) new) (used m) (vertexTotal m) i marked-still))
+          ∙ ap (joined (λ i. coordinatesAt (m .vertices) (select (used m) (vertexTotal m) i)))
+          (count-same (isMarked (vertexTotal m) new) (used m) (vertexTotal m) marked-still)
