@@ -484,9 +484,10 @@ fn lines(r: &mut Random) -> Job {
     job
 }
 
-/// A grid out of bounds, of no cells or of sizes and places that are none; a mesh off the grid; no room and no pops. It is tidied all the same.
+/// A grid out of bounds, of no cells or of sizes and places that are none; a mesh off the grid; no room, no pops, or a distance that is a NaN. It
+/// is tidied all the same.
 fn any_grid(r: &mut Random) -> Job {
-    let way = r.turn(&[1, 10, 2, 3, 4, 5, 7, 8]);
+    let way = r.turn(&[1, 10, 2, 3, 4, 5, 6, 7, 8]);
     let mut job = facets_and_copies(r);
     let axis = r.below(3) as usize;
     match way {
@@ -494,6 +495,12 @@ fn any_grid(r: &mut Random) -> Job {
         2 => job.grid.count = [u32::MAX, 0, u32::MAX],
         3 => job.grid.first[axis] = f32::from_bits(r.pick(&BEYOND)),
         4 => job.grid.size = [f32::NAN, f32::INFINITY, -0.0],
+        // Document 01's own: the first cell's centre lies beside a segment whose squared length is 0.
+        6 => {
+            (job.grid.first, job.grid.size) = ([0.0; 3], [1.0; 3]);
+            job.vertices = vec![[0.0; 3], [0.0; 3], [f32::from_bits(27 << 23), 0.0, 0.0]];
+            job.indices = Some(vec![0, 1, 2]);
+        }
         _ => job.vertices.iter_mut().for_each(|v| v[axis] += 500.0 + job.grid.size[axis]),
     }
     job
