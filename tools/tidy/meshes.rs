@@ -8,7 +8,7 @@ use crate::shapes;
 pub type Make = fn(u32, &mut Random) -> Mesh;
 
 /// What is timed. But for `indexed` and `few-vertices` each facet has three vertices of its own and there are no indices, as STL has it.
-pub const WORKLOADS: [(&str, Make); 12] = [
+pub const WORKLOADS: [(&str, Make); 13] = [
     // A closed tank, panel by panel: each point comes about six times.
     ("scan", |n, _| apart(&tank(n))),
     ("shuffled-scan", |n, r| {
@@ -46,6 +46,9 @@ pub const WORKLOADS: [(&str, Make); 12] = [
     ("ascending", |n, _| soup(3 * n, |i| [1.0, 1.0, near_one(i)])),
     ("descending", |n, _| soup(3 * n, |i| [1.0, 1.0, near_one(3 * n - 1 - i)])),
     ("lowest-bits", |n, r| shuffled(soup(3 * n, |i| [near_one(i % 8), near_one(i / 8 % 8), near_one(i / 64)]), r)),
+    // Chosen against the library's own spread (crates/tidy_search): all different, all looked for from one place, and alike in most of the bits
+    // by which the search goes on from there. Where that is spread otherwise, these are vertices like others.
+    ("one-head", one_head),
 ];
 
 /// What is compared besides, of any number of facets to some thousands.
@@ -199,6 +202,23 @@ fn any_float(r: &mut Random) -> f32 {
             return x;
         }
     }
+}
+
+/// Vertices whose bits are mixed to one number, though all are different. The lower bits of x and y are the same in all, and z is what brings the
+/// mixed number about.
+fn one_head(facets: u32, _: &mut Random) -> Mesh {
+    let mixed = |h: u64, x: u32| (h + u64::from(x)) * 0x4f1b_bcdd / 0x1_0000 % 0x1_0000_0000;
+    let high = |i: u32| (i % 588) << 21 | i / 588 << 31;
+    let bound = 1_048_576f32.to_bits();
+    let within = |bits: u32| bits & 0x7fff_ffff <= bound;
+    let pairs = (0..2 * 588).flat_map(|i| (0..2 * 588).map(move |j| [high(i), high(j)]));
+    let points = pairs.filter_map(|[a, b]| {
+        let c = u64::from(bound | 1 << 31).checked_sub(mixed(mixed(0, a), b))? as u32;
+        within(c).then_some([a, b, c])
+    });
+    let coordinates: Vec<u32> = points.take(3 * facets as usize).flatten().collect();
+    assert_eq!(coordinates.len(), 9 * facets as usize, "there are enough of them");
+    Mesh { coordinates, indices: None }
 }
 
 fn shuffle<T>(list: &mut [T], r: &mut Random) {
