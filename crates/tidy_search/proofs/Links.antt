@@ -17,7 +17,7 @@ use Rattle.picks.proofs.Picks.{least-le, least-passes, least-below}
 use Rattle.tidy.specs.declared.Three.{Three}
 use Rattle.tidy.specs.Same.{same}
 use Rattle.tidy.proofs.Same.{same-eq, eq-same}
-use Rattle.tidy_search.specs.Links.{mixedOf, headOf, turned, linkOf, Leads, here, on, Comes, begins, passes, Ends, First, Named, Entered}
+use Rattle.tidy_search.specs.Links.{mixedOf, headOf, turned, linkOf, Leads, here, on, Comes, begins, passes, Ends, FirstOfKey, Named, Entered}
 
 -- ---- heads
 
@@ -38,7 +38,7 @@ pub record FirstWith (key : ℕ → Three) (u : ℕ) : Type 0 where
   pub at : ℕ
   pub below : at ≤ u
   pub has : key at ≡ key u
-  pub first : First key at
+  pub first : FirstOfKey key at
 
 pub first-with : (key : ℕ → Three) (u : ℕ) → FirstWith key u
 first-with key u = go (decLt w u)
@@ -121,7 +121,7 @@ module _ {key : ℕ → Three} {enters : Three → Bool} {n : ℕ} where
     named-still m = record { earlier = omega (arith, m .earlier); first = m .first; behind = m .behind }
 
     -- one whose key is not to be entered, or is there already, changes nothing
-    pub entered-past : ((enters (key v) ≡ true) → First key v → ⊥) → Entered key enters n (v + 1) row
+    pub entered-past : ((enters (key v) ≡ true) → FirstOfKey key v → ⊥) → Entered key enters n (v + 1) row
     entered-past not-first =
         record {
           few = (omega arith, e .few .1);
@@ -130,13 +130,14 @@ module _ {key : ℕ → Three} {enters : Three → Bool} {n : ℕ} where
           leads = λ w l go f. case w l go f (ℕ-discrete w v);
         }
       where
-        case : (w : ℕ) → w < v + 1 → enters (key w) ≡ true → First key w → Dec (w ≡ v) → Leads key n row (key w) (key w) (headOf n (key w)) w
-        case w l go f (yes h) = absurd (not-first (subst (λ (x : ℕ). enters (key x) ≡ true) h go) (subst (First key) h f))
+        case : (w : ℕ) → w < v + 1 → enters (key w) ≡ true → FirstOfKey key w → Dec (w ≡ v)
+            → Leads key n row (key w) (key w) (headOf n (key w)) w
+        case w l go f (yes h) = absurd (not-first (subst (λ (x : ℕ). enters (key x) ≡ true) h go) (subst (FirstOfKey key) h f))
         case w l go f (no h) = e .leads w (omega arith) go f
 
     module _ {at : ℕ} (goes-in : enters (key v) ≡ true) (ends : Ends key n row (key v) at) where
       -- a search that ended at a 0 says that no item before has the key
-      pub none-before : getD row at 0 ≡ 0 → First key v
+      pub none-before : getD row at 0 ≡ 0 → FirstOfKey key v
       none-before z u l h =
           let f = first-with key u in
           let same-key = f .has ∙ h in
@@ -145,7 +146,7 @@ module _ {key : ℕ → Three} {enters : Three → Bool} {n : ℕ} where
           nothing-there z (from-there (ends .comes) (subst (λ (x : Three). Leads key n row x x (headOf n x) w) same-key told))
 
       -- and one that ended at an item names the first with the key
-      pub found-first : (w : ℕ) → getD row at 0 ≡ suc w → (w < v) × (key w ≡ key v) × First key w
+      pub found-first : (w : ℕ) → getD row at 0 ≡ suc w → (w < v) × (key w ≡ key v) × FirstOfKey key w
       found-first w h = let m = e .names at w h in (m .earlier, ends .found w h, m .first)
 
       pub entered-found : (w : ℕ) → getD row at 0 ≡ suc w → Entered key enters n (v + 1) row
@@ -179,7 +180,7 @@ module _ {key : ℕ → Three} {enters : Three → Bool} {n : ℕ} where
               }
           name s w h (no i) = named-still (e .names s w (sym (getD-set-other row at s (v + 1) 0 i) ∙ h))
 
-          lead : (w : ℕ) → w < v + 1 → enters (key w) ≡ true → First key w → Dec (w ≡ v)
+          lead : (w : ℕ) → w < v + 1 → enters (key w) ≡ true → FirstOfKey key w → Dec (w ≡ v)
               → Leads key n (set row at (v + 1)) (key w) (key w) (headOf n (key w)) w
           lead w l go f (yes i) =
               rw i (from-head (comes-still at (v + 1) z (ends .comes)) (here (getD-set-same row at (v + 1) 0 inside ∙ add-one v) refl))

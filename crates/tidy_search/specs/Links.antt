@@ -46,13 +46,13 @@ module _ (key : ℕ → Three) (n : ℕ) (row : List ℕ) where
     pub found : (w : ℕ) → getD row at 0 ≡ suc w → key w ≡ k
 
 -- no item before w has its key
-abbrev pub First : (ℕ → Three) → ℕ → Type 0
-First key w = (u : ℕ) → u < w → key u ≡ key w → ⊥
+abbrev pub FirstOfKey : (ℕ → Three) → ℕ → Type 0
+FirstOfKey key w = (u : ℕ) → u < w → key u ≡ key w → ⊥
 
 -- item w is named by the link `at`: it is one of those below v and the first with its key, and its own links lie behind
 pub record Named (key : ℕ → Three) (n v at w : ℕ) : Type 0 where
   pub earlier : w < v
-  pub first : First key w
+  pub first : FirstOfKey key w
   pub behind : at < n + 2 * w
 
 -- The items below v are entered, those whose keys are to be: each that is the first with its key is found by it, and no other is named.
@@ -60,4 +60,4 @@ pub record Entered (key : ℕ → Three) (enters : Three → Bool) (n v : ℕ) (
   pub few : (v ≤ n) × (n < 2 ^ 32)
   pub long : length row ≡ 3 * n
   pub names : (at w : ℕ) → getD row at 0 ≡ suc w → Named key n v at w
-  pub leads : (w : ℕ) → w < v → enters (key w) ≡ true → First key w → Leads key n row (key w) (key w) (headOf n (key w)) w
+  pub leads : (w : ℕ) → w < v → enters (key w) ≡ true → FirstOfKey key w → Leads key n row (key w) (key w) (headOf n (key w)) w
