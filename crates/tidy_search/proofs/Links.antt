@@ -17,7 +17,7 @@ use Rattle.picks.proofs.Picks.{least-le, least-passes, least-below}
 use Rattle.tidy.specs.declared.Three.{Three}
 use Rattle.tidy.specs.Same.{same}
 use Rattle.tidy.proofs.Same.{same-eq, eq-same}
-use Rattle.tidy_search.specs.Links.{mixedOf, headOf, turned, linkOf, Leads, here, on, Comes, begins, passes, Ends, FirstOfKey, Named, Entered}
+use Rattle.tidy_search.specs.Links.{mixedOf, headLink, turnedKey, linkOf, Leads, here, on, Comes, begins, passes, Ends, FirstOfKey, Named, Entered}
 
 -- ---- heads
 
@@ -26,8 +26,8 @@ unfolding mixedOf
 mixed-below h x = omega arith
 
 -- a number below 2 ^ 32 times n, over 2 ^ 32, is below n
-pub head-below : (n : ℕ) (k : Three) → 0 < n → headOf n k < n
-unfolding headOf
+pub head-below : (n : ℕ) (k : Three) → 0 < n → headLink n k < n
+unfolding headLink
 head-below n k h =
     let m = mixedOf (mixedOf (mixedOf 0 (k .a)) (k .b)) (k .c) in
     omega (arith, mul-lt-mul-of-pos-right {m = m} (mixed-below (mixedOf (mixedOf 0 (k .a)) (k .b)) (k .c)) h)
@@ -64,18 +64,19 @@ first-with key u = go (decLt w u)
 
 module _ {key : ℕ → Three} {n : ℕ} {row : List ℕ} {k : Three} where
   -- what is found from where a search has come is found from its head
-  pub from-head : {rest : Three} {at w : ℕ} → Comes key n row k rest at → Leads key n row k rest at w → Leads key n row k k (headOf n k) w
+  pub from-head : {rest : Three} {at w : ℕ} → Comes key n row k rest at → Leads key n row k rest at w → Leads key n row k k (headLink n k) w
   from-head begins l = l
   from-head (passes u c e other) l = from-head c (on u e other l)
 
   past : {rest : Three} {at w : ℕ} (u : ℕ) → getD row at 0 ≡ suc u → (key u ≡ k → ⊥) → Leads key n row k rest at w
-      → Leads key n row k (turned rest) (linkOf n u rest) w
+      → Leads key n row k (turnedKey rest) (linkOf n u rest) w
   past u e other (here f g) = absurd (other (subst (λ (x : ℕ). key x ≡ k) (suc-inj (sym f ∙ e)) g))
   past {rest} {w = w} u e other (on v f g l) =
-      subst (λ (x : ℕ). Leads key n row k (turned rest) (linkOf n x rest) w) (suc-inj (sym f ∙ e)) l
+      subst (λ (x : ℕ). Leads key n row k (turnedKey rest) (linkOf n x rest) w) (suc-inj (sym f ∙ e)) l
 
   -- and the other way round
-  pub from-there : {rest : Three} {at w : ℕ} → Comes key n row k rest at → Leads key n row k k (headOf n k) w → Leads key n row k rest at w
+  pub from-there : {rest : Three} {at w : ℕ} → Comes key n row k rest at → Leads key n row k k (headLink n k) w
+      → Leads key n row k rest at w
   from-there begins l = l
   from-there (passes u c e other) l = past u e other (from-there c l)
 
@@ -131,7 +132,7 @@ module _ {key : ℕ → Three} {enters : Three → Bool} {n : ℕ} where
         }
       where
         case : (w : ℕ) → w < v + 1 → enters (key w) ≡ true → FirstOfKey key w → Dec (w ≡ v)
-            → Leads key n row (key w) (key w) (headOf n (key w)) w
+            → Leads key n row (key w) (key w) (headLink n (key w)) w
         case w l go f (yes h) = absurd (not-first (subst (λ (x : ℕ). enters (key x) ≡ true) h go) (subst (FirstOfKey key) h f))
         case w l go f (no h) = e .leads w (omega arith) go f
 
@@ -143,7 +144,7 @@ module _ {key : ℕ → Three} {enters : Three → Bool} {n : ℕ} where
           let same-key = f .has ∙ h in
           let w = f .at in
           let told = e .leads w (omega (arith, f .below)) (ap enters same-key ∙ goes-in) (f .first) in
-          nothing-there z (from-there (ends .comes) (subst (λ (x : Three). Leads key n row x x (headOf n x) w) same-key told))
+          nothing-there z (from-there (ends .comes) (subst (λ (x : Three). Leads key n row x x (headLink n x) w) same-key told))
 
       -- and one that ended at an item names the first with the key
       pub found-first : (w : ℕ) → getD row at 0 ≡ suc w → (w < v) × (key w ≡ key v) × FirstOfKey key w
@@ -181,7 +182,7 @@ module _ {key : ℕ → Three} {enters : Three → Bool} {n : ℕ} where
           name s w h (no i) = named-still (e .names s w (sym (getD-set-other row at s (v + 1) 0 i) ∙ h))
 
           lead : (w : ℕ) → w < v + 1 → enters (key w) ≡ true → FirstOfKey key w → Dec (w ≡ v)
-              → Leads key n (set row at (v + 1)) (key w) (key w) (headOf n (key w)) w
+              → Leads key n (set row at (v + 1)) (key w) (key w) (headLink n (key w)) w
           lead w l go f (yes i) =
               rw i (from-head (comes-still at (v + 1) z (ends .comes)) (here (getD-set-same row at (v + 1) 0 inside ∙ add-one v) refl))
           lead w l go f (no i) = leads-still at (v + 1) z (e .leads w (omega arith) go f)

@@ -9,7 +9,7 @@ use lib.ListN.{getD}
 use Rattle.tidy.specs.declared.Three.{Three}
 use Rattle.tidy.specs.Same.{same}
 use Rattle.tidy.proofs.Same.{same-eq, eq-same}
-use Rattle.tidy_search.specs.Links.{headOf, turned, linkOf, Comes, begins, passes, Ends, Named, Entered}
+use Rattle.tidy_search.specs.Links.{headLink, turnedKey, linkOf, Comes, begins, passes, Ends, Named, Entered}
 
 pub record Searching (key : ℕ → Three) (n : ℕ) (row : List ℕ) (k rest : Three) (at held : ℕ) : Type 0 where
   pub comes : Comes key n row k rest at
@@ -17,7 +17,8 @@ pub record Searching (key : ℕ → Three) (n : ℕ) (row : List ℕ) (k rest : 
   pub holds : held ≡ getD row at 0
 
 module _ {key : ℕ → Three} {n : ℕ} {row : List ℕ} {k : Three} where
-  pub search-begins : {rest : Three} {at held : ℕ} → rest ≡ k → at ≡ headOf n k → at < n → held ≡ getD row at 0 → Searching key n row k rest at held
+  pub search-begins : {rest : Three} {at held : ℕ} → rest ≡ k → at ≡ headLink n k → at < n → held ≡ getD row at 0
+      → Searching key n row k rest at held
   search-begins r a l h = record { comes = rw (r, a) begins; within = omega arith; holds = h }
 
   pub search-ended : {rest : Three} {at held : ℕ} → Searching key n row k rest at held → held ≡ 0 → Ends key n row k at
@@ -42,7 +43,8 @@ module _ {key : ℕ → Three} {n : ℕ} {row : List ℕ} {k : Three} where
         }
 
     pub search-on : {left : Three} {next found : ℕ} → same (key (held - 1)) k ≡ false
-        → left ≡ turned rest → next ≡ linkOf n (held - 1) rest → next < 3 * n → found ≡ getD row next 0 → Searching key n row k left next found
+        → left ≡ turnedKey rest → next ≡ linkOf n (held - 1) rest → next < 3 * n → found ≡ getD row next 0
+        → Searching key n row k left next found
     search-on h l a w f =
         record {
           comes = rw (l, a) (passes (held - 1) (s .comes) item (λ e. true≢false (sym (eq-same (key (held - 1)) k e) ∙ h)));

@@ -12,13 +12,13 @@ use Rattle.tidy.specs.declared.Three.{Three}
 unfoldable pub mixedOf : ℕ → ℕ → ℕ
 mixedOf h x = (h + x) * 0x4F1B_BCDD / 0x1_0000 % 0x1_0000_0000
 
-unfoldable pub headOf : ℕ → Three → ℕ
+unfoldable pub headLink : ℕ → Three → ℕ
 unfolding mixedOf
-headOf n k = mixedOf (mixedOf (mixedOf 0 (k .a)) (k .b)) (k .c) * n / 0x1_0000_0000
+headLink n k = mixedOf (mixedOf (mixedOf 0 (k .a)) (k .b)) (k .c) * n / 0x1_0000_0000
 
 -- what is left of a key behind one step
-unfoldable pub turned : Three → Three
-turned rest = record { a = rest .b; b = rest .c; c = rest .a / 2 }
+unfoldable pub turnedKey : Three → Three
+turnedKey rest = record { a = rest .b; b = rest .c; c = rest .a / 2 }
 
 -- the link of item w by which a search goes on
 unfoldable pub linkOf : ℕ → ℕ → Three → ℕ
@@ -31,12 +31,14 @@ module _ (key : ℕ → Three) (n : ℕ) (row : List ℕ) where
   -- from the link `at`, with `rest` left of it, a search for the key k comes to item w
   pub data Leads (k : Three) : Three → ℕ → ℕ → Type 0 where
     here : {rest : Three} {at w : ℕ} → getD row at 0 ≡ suc w → key w ≡ k → Leads k rest at w
-    on : {rest : Three} {at w : ℕ} (u : ℕ) → getD row at 0 ≡ suc u → (key u ≡ k → ⊥) → Leads k (turned rest) (linkOf n u rest) w → Leads k rest at w
+    on : {rest : Three} {at w : ℕ} (u : ℕ) → getD row at 0 ≡ suc u → (key u ≡ k → ⊥)
+        → Leads k (turnedKey rest) (linkOf n u rest) w → Leads k rest at w
 
   -- a search for k that began with its head has come to the link `at`, with `rest` left of it
   pub data Comes (k : Three) : Three → ℕ → Type 0 where
-    begins : Comes k k (headOf n k)
-    passes : {rest : Three} {at : ℕ} (u : ℕ) → Comes k rest at → getD row at 0 ≡ suc u → (key u ≡ k → ⊥) → Comes k (turned rest) (linkOf n u rest)
+    begins : Comes k k (headLink n k)
+    passes : {rest : Three} {at : ℕ} (u : ℕ) → Comes k rest at → getD row at 0 ≡ suc u → (key u ≡ k → ⊥)
+        → Comes k (turnedKey rest) (linkOf n u rest)
 
   -- a search for k has ended at the link `at`: it is 0, or names an item with that key
   pub record Ends (k : Three) (at : ℕ) : Type 0 where
@@ -60,4 +62,4 @@ pub record Entered (key : ℕ → Three) (enters : Three → Bool) (n v : ℕ) (
   pub few : (v ≤ n) × (n < 2 ^ 32)
   pub long : length row ≡ 3 * n
   pub names : (at w : ℕ) → getD row at 0 ≡ suc w → Named key n v at w
-  pub leads : (w : ℕ) → w < v → enters (key w) ≡ true → FirstOfKey key w → Leads key n row (key w) (key w) (headOf n (key w)) w
+  pub leads : (w : ℕ) → w < v → enters (key w) ≡ true → FirstOfKey key w → Leads key n row (key w) (key w) (headLink n (key w)) w

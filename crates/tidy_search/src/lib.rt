@@ -7,7 +7,7 @@
 use tidy::Three;
 ghost use mathlib.Core.Path.{_≡_};
 ghost use Prim.Native.Nat.{_+_, _*_, _^_, _<_};
-ghost use Rattle.tidy_search.specs.Links.{mixedOf, headOf, turned, linkOf};
+ghost use Rattle.tidy_search.specs.Links.{mixedOf, headLink, turnedKey, linkOf};
 
 // A number and one more, mixed: the middle of a product.
 fn mixed(h: u64, x: u32) -> u64
@@ -20,7 +20,7 @@ fn mixed(h: u64, x: u32) -> u64
 // With which of n heads to begin.
 pub fn head(key: Three, n: usize) -> usize
     requires { ⌜ (0 < n) × (n < 2 ^ 32) ⌝ }
-    ensures { λ r. ⌜ (r ≡ headOf n key) × (r < n) ⌝ }
+    ensures { λ r. ⌜ (r ≡ headLink n key) × (r < n) ⌝ }
 {
     let h = mixed(mixed(mixed(0, key.a), key.b), key.c);
     h as usize * n / 0x1_0000_0000
@@ -28,7 +28,7 @@ pub fn head(key: Three, n: usize) -> usize
 
 // What is left of a key when a bit of its first number is used: the next step uses one of the second.
 pub fn turn(rest: Three) -> Three
-    ensures { λ r. ⌜ r ≡ turned rest ⌝ }
+    ensures { λ r. ⌜ r ≡ turnedKey rest ⌝ }
 {
     Three {
         a: rest.b,

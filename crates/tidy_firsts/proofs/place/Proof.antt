@@ -8,7 +8,7 @@ use Rattle.float_bits.specs.Patterns.{bitsOf}
 use Rattle.tidy.specs.declared.Three.{Three}
 use Rattle.tidy.specs.Same.{same}
 use Rattle.tidy.specs.Tidy.{bitsAt}
-use Rattle.tidy_search.specs.Links.{headOf, Named}
+use Rattle.tidy_search.specs.Links.{headLink, Named}
 use Rattle.tidy_search.proofs.Search.{Searching, search-begins, search-ended, search-named, search-found, search-on, search-behind}
 use Rattle.tidy_firsts.proofs.Firsts.{long}
 use Rattle.tidy_firsts.proofs.place.Statement.{statement}
@@ -63,7 +63,8 @@ loop-holds c =
     let s : tie.Start Inv-loop μ-loop = search in
     let h : tie.After-head Inv-loop μ-loop = search in
     let k : tie.After-bits-at Inv-loop μ-loop = search in
-    search-begins (k .bits-at .ensures) (h .head .ensures .0 ∙ ap (headOf (s .args .n)) (k .bits-at .ensures)) (h .head .ensures .1) (c .number-at .ensures)
+    search-begins (k .bits-at .ensures) (h .head .ensures .0 ∙ ap (headLink (s .args .n)) (k .bits-at .ensures)) (h .head .ensures .1)
+    (c .number-at .ensures)
 
 cast-w : tie.Need-cast-w Inv-loop μ-loop
 cast-w c =
