@@ -22,7 +22,7 @@ pub record Squeezable (ts : List Triangle) (firsts causes : List ℕ) (words : �
   pub three : words ≡ 3 * length firsts
 
 -- each number of a triangle is below n
-pub record Within (n : ℕ) (t : Triangle) : Type 0 where
+pub record NumbersBelow (n : ℕ) (t : Triangle) : Type 0 where
   pub a : t .a < n
   pub b : t .b < n
   pub c : t .c < n
