@@ -38,17 +38,17 @@ abbrev pub keyBy : List Triangle → List ℕ → ℕ → Three
 keyBy ts firsts k = ascending (mergedBy ts firsts k)
 
 -- two of three numbers in ascending order are equal; such a triangle is not entered
-abbrev pub flat : Three → Bool
-flat k = eqb (k .a) (k .b) || eqb (k .b) (k .c)
+abbrev pub flatKey : Three → Bool
+flatKey k = eqb (k .a) (k .b) || eqb (k .b) (k .c)
 
-abbrev pub solid : Three → Bool
-solid k = not (flat k)
+abbrev pub solidKey : Three → Bool
+solidKey k = not (flatKey k)
 
 abbrev pub TrianglesEntered : List Triangle → List ℕ → ℕ → ℕ → List ℕ → Type 0
-TrianglesEntered ts firsts n k links = Entered (keyBy ts firsts) solid n k links
+TrianglesEntered ts firsts n k links = Entered (keyBy ts firsts) solidKey n k links
 
 -- the triangles below k are entered, and triangle k is the next
-pub record Ready (ts : List Triangle) (firsts : List ℕ) (n k : ℕ) (links : List ℕ) : Type 0 where
+pub record ReadyForTriangle (ts : List Triangle) (firsts : List ℕ) (n k : ℕ) (links : List ℕ) : Type 0 where
   pub entered : TrianglesEntered ts firsts n k links
   pub counts : n ≡ length ts
   pub mergeable : Mergeable ts firsts k

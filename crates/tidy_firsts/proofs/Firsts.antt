@@ -11,10 +11,10 @@ use Rattle.tidy.specs.Same.{same}
 use Rattle.tidy.specs.Tidy.{bitsAt}
 use Rattle.tidy.proofs.Same.{same-eq, eq-same}
 use Rattle.tidy_search.specs.Links.{FirstOfKey}
-use Rattle.tidy_firsts.specs.Firsts.{firstIn, Ready}
+use Rattle.tidy_firsts.specs.Firsts.{firstIn, ReadyForVertex}
 
 -- the row has three links for each vertex
-pub long : {vs links : List Float} {n v : ℕ} → Ready vs n v links → length links ≡ 3 * n
+pub long : {vs links : List Float} {n v : ℕ} → ReadyForVertex vs n v links → length links ≡ 3 * n
 long {links = links} r = sym (length-map links (toBits binary32)) ∙ r .entered .long
 
 fails : (b : Bool) → (b ≡ true → ⊥) → b ≡ false

@@ -25,7 +25,7 @@ abbrev pub VerticesEntered : List Float → ℕ → ℕ → List Float → Type 
 VerticesEntered vs n v links = Entered (bitsAt vs) any n v (bitsOf links)
 
 -- and vertex v is the next
-pub record Ready (vs : List Float) (n v : ℕ) (links : List Float) : Type 0 where
+pub record ReadyForVertex (vs : List Float) (n v : ℕ) (links : List Float) : Type 0 where
   pub entered : VerticesEntered vs n v links
   pub next : v < n
   pub three : length vs ≡ 3 * n

@@ -16,7 +16,7 @@ ghost use Rattle.float_bits.specs.Patterns.{bitsOf};
 ghost use Rattle.lists.specs.Table.{table};
 ghost use Rattle.tidy.specs.Tidy.{bitsAt};
 ghost use Rattle.tidy_search.specs.Links.{Ends};
-ghost use Rattle.tidy_firsts.specs.Firsts.{firstIn, Ready, VerticesEntered};
+ghost use Rattle.tidy_firsts.specs.Firsts.{firstIn, ReadyForVertex, VerticesEntered};
 
 // The bits of vertex v.
 fn bits_at(vertices: &[f32], v: usize) -> Three
@@ -32,7 +32,7 @@ fn bits_at(vertices: &[f32], v: usize) -> Three
 
 // The link at which a search for the bits of vertex v ends. The links that it passes lie ever further behind, so it ends.
 fn place(vertices: &[f32], links: &[f32], n: usize, v: usize) -> usize
-    requires { ⌜ Ready (now vertices) n v (now links) ⌝ }
+    requires { ⌜ ReadyForVertex (now vertices) n v (now links) ⌝ }
     ensures { λ r.
         let key = bitsAt (now (vertices .entry)) in
         ⌜ Ends key n (bitsOf (now (links .entry))) (key v) r ⌝ }
@@ -56,7 +56,7 @@ fn place(vertices: &[f32], links: &[f32], n: usize, v: usize) -> usize
 
 // Looks for the bits of vertex v and enters it where they are new: the first vertex that has them.
 fn enter(vertices: &[f32], links: &mut [f32], n: usize, v: usize) -> u32
-    requires { ⌜ Ready (now vertices) n v (now links) ⌝ }
+    requires { ⌜ ReadyForVertex (now vertices) n v (now links) ⌝ }
     ensures { λ r. ⌜ r ≡ firstIn (now (vertices .entry)) v ⌝ }
     ensures { λ _. ⌜ VerticesEntered (now (vertices .entry)) n (v + 1) (now (links .exit)) ⌝ }
 {
