@@ -14,7 +14,7 @@ use Rattle.mesh.specs.Mesh.{Mesh, trianglesIn}
 use Rattle.tidy.specs.declared.Three.{Three}
 use Rattle.tidy.specs.Same.{same}
 use Rattle.tidy.specs.Numbers.{renumbered, twoEqual, sameNumbers, hasNumber}
-use Rattle.tidy.specs.Tidy.{bitsAt, triangleTotal, firstOf, merged, cause, kept, used, numberOf}
+use Rattle.tidy.specs.Tidy.{bitsAt, triangleTotal, firstOf, merged, cause, kept, used, numberAfter}
 use Rattle.tidy.specs.Meaning.{First, Stays, Repeats, Listed, stays, two-equal, repeats}
 use Rattle.tidy.proofs.Same.{same-eq, eq-same}
 use Rattle.tidy.proofs.Numbers.{On, on-of, has-on, has-own}
@@ -167,6 +167,6 @@ module _ (m : Mesh) where
       (has-own (merged m k))
 
   -- numbers of used vertices are apart
-  pub number-apart : (u v : ℕ) → used m u ≡ true → used m v ≡ true → numberOf m u ≡ numberOf m v → u ≡ v
-  unfolding numberOf
+  pub number-apart : (u v : ℕ) → used m u ≡ true → used m v ≡ true → numberAfter m u ≡ numberAfter m v → u ≡ v
+  unfolding numberAfter
   number-apart u v g h e = count-one (used m) u v g h e

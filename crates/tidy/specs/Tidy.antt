@@ -76,9 +76,9 @@ module _ (m : Mesh) where
   keptTriangles = countBelow kept triangleTotal
 
   -- the number that vertex v has in the tidied mesh: how many used ones come before it
-  unfoldable pub numberOf : ℕ → ℕ
+  unfoldable pub numberAfter : ℕ → ℕ
   unfolding used
-  numberOf v = countBelow used v
+  numberAfter v = countBelow used v
 
   -- which given vertex is vertex i of the tidied mesh, and which given triangle is triangle k
   unfoldable pub vertexFrom : ℕ → ℕ
@@ -96,8 +96,8 @@ module _ (m : Mesh) where
   tidiedCoordinates = joined (λ i. coordinatesAt (m .vertices) (vertexFrom i)) keptVertices
 
   unfoldable pub tidiedTriangles : List Triangle
-  unfolding triangleFrom keptTriangles numberOf
-  tidiedTriangles = table (λ k. renumbered numberOf (merged (triangleFrom k))) keptTriangles
+  unfolding triangleFrom keptTriangles numberAfter
+  tidiedTriangles = table (λ k. renumbered numberAfter (merged (triangleFrom k))) keptTriangles
 
   -- a list with explicit indices
   unfoldable pub tidied : Mesh

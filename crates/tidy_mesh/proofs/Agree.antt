@@ -23,7 +23,7 @@ use Rattle.mesh_topology.proofs.Laws.{vertices-at}
 use Rattle.mesh_explicit.specs.Explicit.{vertexNumbers, explicit}
 use Rattle.mesh.specs.Mesh.{Mesh, trianglesIn}
 use Rattle.tidy.specs.Numbers.{renumbered, twoEqual, sameNumbers, hasNumber}
-use Rattle.tidy.specs.Tidy.{coordinatesAt, vertexTotal, triangleTotal, firstOf, merged, cause, kept, used, numberOf, keptVertices, keptTriangles, vertexFrom, triangleFrom, tidiedTriangles, tidiedCoordinates, firsts, causes}
+use Rattle.tidy.specs.Tidy.{coordinatesAt, vertexTotal, triangleTotal, firstOf, merged, cause, kept, used, numberAfter, keptVertices, keptTriangles, vertexFrom, triangleFrom, tidiedTriangles, tidiedCoordinates, firsts, causes}
 use Rattle.tidy.specs.Meaning.{Valid}
 use Rattle.tidy.proofs.Numbers.{On}
 use Rattle.tidy.proofs.Tidied.{Had, had, triangles-in-turn}
@@ -92,8 +92,8 @@ module _ (m : Mesh) (ok : Valid m) where
 
     module _ {new : List Float} (numbers : Marks (vertexTotal m)
         (λ v. cond (isMarked (vertexTotal m) words v) (countBelow (isMarked (vertexTotal m) words) v + 1) 0) new) where
-      number-is : (v : ℕ) → Had m ok v → markAt (vertexTotal m) new v - 1 ≡ numberOf m v
-      unfolding numberOf
+      number-is : (v : ℕ) → Had m ok v → markAt (vertexTotal m) new v - 1 ≡ numberAfter m v
+      unfolding numberAfter
       number-is v h =
           ap (λ (k : ℕ). k - 1) (numbers .is v (h .below)
           ∙ ap₂ (λ (b : Bool) (k : ℕ). cond b (k + 1) 0) (marked-is v (h .below) ∙ h .in-use)
@@ -123,7 +123,7 @@ module _ (m : Mesh) (ok : Valid m) where
           listed i = newNumbers (trianglesIn m) (firsts m) new (select (keptBy (causes m)) (triangleTotal m) i)
 
           tidy : ℕ → Triangle
-          tidy k = renumbered (numberOf m) (merged m (triangleFrom m k))
+          tidy k = renumbered (numberAfter m) (merged m (triangleFrom m k))
 
           -- the i-th kept triangle by the marks is that of the tidied mesh
           is : (i : ℕ) → i < keptTriangles m
