@@ -13,8 +13,8 @@ use Rattle.mesh_topology.specs.Topology.{kth}
 use Rattle.mesh.specs.Mesh.{Mesh, trianglesIn}
 use Rattle.tidy.specs.declared.Three.{Three}
 use Rattle.tidy.specs.Same.{same}
-use Rattle.tidy.specs.Numbers.{renumbered, twoEqual, sameNumbers, hasNumber}
-use Rattle.tidy.specs.Tidy.{bitsAt, triangleTotal, firstOf, merged, cause, kept, used, numberAfter}
+use Rattle.tidy.specs.Numbers.{renumbered, twoEqualNumbers, sameNumbers, hasNumber}
+use Rattle.tidy.specs.Tidy.{vertexBits, triangleTotal, firstOf, merged, cause, kept, used, numberAfter}
 use Rattle.tidy.specs.Meaning.{First, Stays, Repeats, Listed, stays, two-equal, repeats}
 use Rattle.tidy.proofs.Same.{same-eq, eq-same}
 use Rattle.tidy.proofs.Numbers.{On, on-of, has-on, has-own}
@@ -27,7 +27,7 @@ fails false h = refl
 
 module _ (m : Mesh) where
   abbrev bits : ℕ → Three
-  bits v = bitsAt (m .vertices) v
+  bits v = vertexBits (m .vertices) v
 
   -- ---- firsts
 
@@ -80,7 +80,7 @@ module _ (m : Mesh) where
     earlier j = sameNumbers (merged m j) (merged m k)
 
     -- of those before k that have its numbers, the least has none before it: it is kept
-    repeated : twoEqual (merged m k) ≡ false → some earlier k ≡ true → Repeats m (cause m) k
+    repeated : twoEqualNumbers (merged m k) ≡ false → some earlier k ≡ true → Repeats m (cause m) k
     repeated f s =
         record {
           unequal = f;
@@ -110,12 +110,12 @@ module _ (m : Mesh) where
 
     pub listed : Listed m (cause m) k
     unfolding cause
-    listed = go (twoEqual (merged m k)) refl (some earlier k) refl
+    listed = go (twoEqualNumbers (merged m k)) refl (some earlier k) refl
       where
-        is : {f s : Bool} → twoEqual (merged m k) ≡ f → some earlier k ≡ s → cause m k ≡ cond f 1 (cond s 2 0)
+        is : {f s : Bool} → twoEqualNumbers (merged m k) ≡ f → some earlier k ≡ s → cause m k ≡ cond f 1 (cond s 2 0)
         is a b = ap₂ (λ (f : Bool) (s : Bool). cond f 1 (cond s 2 0)) a b
 
-        go : (f : Bool) → twoEqual (merged m k) ≡ f → (s : Bool) → some earlier k ≡ s → Listed m (cause m) k
+        go : (f : Bool) → twoEqualNumbers (merged m k) ≡ f → (s : Bool) → some earlier k ≡ s → Listed m (cause m) k
         go true a s b = two-equal (is a b) a
         go false a true b = repeats (is a b) (repeated a b)
         go false a false b = stays (is a b) (record { unequal = a; new = λ j l. some-not earlier k j b l })

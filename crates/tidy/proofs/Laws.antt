@@ -13,7 +13,7 @@ use Rattle.picks.proofs.Picks.{some-none, one-some}
 use Rattle.mesh_topology.specs.Topology.{kth}
 use Rattle.mesh.specs.Mesh.{Mesh, trianglesIn, vertexAt, cornersOf, cornersAt}
 use Rattle.tidy.specs.Numbers.{renumbered, sameNumbers}
-use Rattle.tidy.specs.Tidy.{bitsAt, coordinatesAt, vertexTotal, triangleTotal, firstOf, merged, cause, kept, numberAfter, keptTriangles, vertexFrom, triangleFrom, tidied, firsts, causes}
+use Rattle.tidy.specs.Tidy.{vertexBits, coordinatesAt, vertexTotal, triangleTotal, firstOf, merged, cause, kept, numberAfter, keptTriangles, vertexFrom, triangleFrom, tidied, firsts, causes}
 use Rattle.tidy.specs.Meaning.{Valid, First, Listed, stays, two-equal, repeats, SameCorners, Retained, Squeezed}
 use Rattle.tidy.proofs.Coordinates.{same-bits, same-points, bits-points}
 use Rattle.tidy.proofs.Kept.{first, first-one, listed}
@@ -79,7 +79,7 @@ module _ (m : Mesh) where
         vertex-of m (numberAfter m (firstOf m u)) (number-below m (firstOf m u) (h .below) (h .in-use))
         ∙ ap (coordinatesAt (m .vertices)) (from-number m (firstOf m u) (h .below) (h .in-use))
 
-    corner : (u : ℕ) → Had m ok (firstOf m u) → bitsAt (tidied m .vertices) (numberAfter m (firstOf m u)) ≡ bitsAt (m .vertices) u
+    corner : (u : ℕ) → Had m ok (firstOf m u) → vertexBits (tidied m .vertices) (numberAfter m (firstOf m u)) ≡ vertexBits (m .vertices) u
     corner u h = same-bits (tidied m .vertices) (m .vertices) (numberAfter m (firstOf m u)) (firstOf m u) (there u h) ∙ first m u .identical
 
     pub corners : (k : ℕ) → k < keptTriangles m

@@ -20,8 +20,8 @@ use Rattle.mesh_topology.specs.Refusals.{belowCount}
 use Rattle.mesh_topology.proofs.Laws.{vertices-at}
 use Rattle.mesh_explicit.proofs.Laws.{explicit-names}
 use Rattle.mesh.specs.Mesh.{Mesh, vertexCount, trianglesIn}
-use Rattle.tidy.specs.Numbers.{renumbered, twoEqual, sameNumbers, hasNumber}
-use Rattle.tidy.specs.Tidy.{bitsAt, coordinatesAt, vertexTotal, triangleTotal, firstOf, merged, kept, used, numberAfter, keptVertices, keptTriangles, vertexFrom, triangleFrom, tidied, tidiedTriangles, tidiedCoordinates}
+use Rattle.tidy.specs.Numbers.{renumbered, twoEqualNumbers, sameNumbers, hasNumber}
+use Rattle.tidy.specs.Tidy.{vertexBits, coordinatesAt, vertexTotal, triangleTotal, firstOf, merged, kept, used, numberAfter, keptVertices, keptTriangles, vertexFrom, triangleFrom, tidied, tidiedTriangles, tidiedCoordinates}
 use Rattle.tidy.specs.Meaning.{Valid, Stays, Clean}
 use Rattle.tidy.proofs.Coordinates.{coordinates-part, same-bits}
 use Rattle.tidy.proofs.Numbers.{On, on-renumbered, has-renumbered, two-equal-renumbered, same-numbers-renumbered}
@@ -48,7 +48,7 @@ module _ (m : Mesh) where
       coordinates-part (tidied m .vertices) i (omega (arith, vertices-long))
       ∙ joined-at (λ i. coordinatesAt (m .vertices) (vertexFrom m i)) 3 (λ i. refl) (keptVertices m) i h
 
-  pub bits-of : (i : ℕ) → i < keptVertices m → bitsAt (tidied m .vertices) i ≡ bitsAt (m .vertices) (vertexFrom m i)
+  pub bits-of : (i : ℕ) → i < keptVertices m → vertexBits (tidied m .vertices) i ≡ vertexBits (m .vertices) (vertexFrom m i)
   bits-of i h = same-bits (tidied m .vertices) (m .vertices) i (vertexFrom m i) (vertex-of i h)
 
   pub triangles-are : trianglesIn (tidied m) ≡ tidiedTriangles m
@@ -90,7 +90,7 @@ module _ (m : Mesh) where
   number-from i l = picked (used m) (vertexTotal m) i l .before
 
   -- each vertex is its own first, and comes after those before it: no two have the same bits
-  pub vertices-apart : (i j : ℕ) → i < j → j < keptVertices m → bitsAt (tidied m .vertices) i ≡ bitsAt (tidied m .vertices) j → ⊥
+  pub vertices-apart : (i j : ℕ) → i < j → j < keptVertices m → vertexBits (tidied m .vertices) i ≡ vertexBits (tidied m .vertices) j → ⊥
   vertices-apart i j l h e =
       first m (vertexFrom m j) .none-before (vertexFrom m i)
       (omega (arith, vertices-in-turn .order i j l h, used-first m (vertexFrom m j) (vertices-in-turn .passes j h)))
@@ -160,9 +160,9 @@ module _ (m : Mesh) where
         stood : (k : ℕ) → k < keptTriangles m → Stays m (triangleFrom m k)
         stood k l = kept-stays m (triangleFrom m k) (triangles-in-turn .passes k l)
 
-        unequal : (k : ℕ) → k < keptTriangles m → twoEqual (kth (trianglesIn (tidied m)) k) ≡ false
+        unequal : (k : ℕ) → k < keptTriangles m → twoEqualNumbers (kth (trianglesIn (tidied m)) k) ≡ false
         unequal k l =
-            ap twoEqual (triangle-of k l)
+            ap twoEqualNumbers (triangle-of k l)
             ∙ two-equal-renumbered Had (numberAfter m) apart (merged m (triangleFrom m k)) (had k l)
             ∙ stood k l .unequal
 

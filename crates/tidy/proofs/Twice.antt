@@ -10,7 +10,7 @@ use Rattle.picks.proofs.Picks.{count-all}
 use Rattle.mesh_topology.specs.declared.Triangle.{Triangle}
 use Rattle.mesh_topology.specs.Topology.{kth}
 use Rattle.mesh.specs.Mesh.{Mesh, trianglesIn}
-use Rattle.tidy.specs.Numbers.{twoEqual, sameNumbers, hasNumber}
+use Rattle.tidy.specs.Numbers.{twoEqualNumbers, sameNumbers, hasNumber}
 use Rattle.tidy.specs.Tidy.{vertexTotal, triangleTotal, firstOf, merged, cause, kept, used, keptVertices, keptTriangles, tidied}
 use Rattle.tidy.specs.Meaning.{Valid, Clean, Retained, Squeezed, ByIndices, NothingGoes}
 use Rattle.tidy.proofs.Numbers.{on-of, renumbered-stays}
@@ -31,7 +31,7 @@ module _ (m : Mesh) (ok : Valid m) (c : Clean m) where
   pub all-kept : (k : ℕ) → k < triangleTotal m → kept m k ≡ true
   all-kept k l =
       stays-kept m k (record {
-        unequal = ap twoEqual (merged-own k l) ∙ c .unequal k l;
+        unequal = ap twoEqualNumbers (merged-own k l) ∙ c .unequal k l;
         new = λ j w. ap₂ sameNumbers (merged-own j (omega arith)) (merged-own k l) ∙ c .new j k w l;
       })
 

@@ -19,11 +19,11 @@ use Rattle.mesh_explicit.specs.Explicit.{explicit}
 use Rattle.mesh.specs.Mesh.{Mesh, meshOf, vertexCount, trianglesIn}
 use Rattle.tidy.specs.declared.Three.{Three}
 use Rattle.tidy.specs.Same.{same}
-use Rattle.tidy.specs.Numbers.{renumbered, twoEqual, sameNumbers, hasNumber}
+use Rattle.tidy.specs.Numbers.{renumbered, twoEqualNumbers, sameNumbers, hasNumber}
 
 -- the bits of vertex v's coordinates. After refusal 2 no coordinate is a NaN, so each has one pattern.
-unfoldable pub bitsAt : List Float → ℕ → Three
-bitsAt vs v =
+unfoldable pub vertexBits : List Float → ℕ → Three
+vertexBits vs v =
     record {
       a = toBits binary32 (getD vs (3 * v) nan);
       b = toBits binary32 (getD vs (3 * v + 1) nan);
@@ -45,7 +45,7 @@ module _ (m : Mesh) where
   -- "merges vertices of identical bits (first kept)": the first vertex with the bits of v, in the given numbering; v itself where none
   -- before it has them
   unfoldable pub firstOf : ℕ → ℕ
-  firstOf v = least (λ w. same (bitsAt (m .vertices) w) (bitsAt (m .vertices) v)) v
+  firstOf v = least (λ w. same (vertexBits (m .vertices) w) (vertexBits (m .vertices) v)) v
 
   -- triangle k with the firsts for its numbers
   unfoldable pub merged : ℕ → Triangle
@@ -55,7 +55,7 @@ module _ (m : Mesh) where
   -- why triangle k goes: 1, "two equal vertex numbers"; else 2, it is later than one "with the same three numbers in any order"; or 0, kept
   unfoldable pub cause : ℕ → ℕ
   unfolding merged
-  cause k = cond (twoEqual (merged k)) 1 (cond (some (λ j. sameNumbers (merged j) (merged k)) k) 2 0)
+  cause k = cond (twoEqualNumbers (merged k)) 1 (cond (some (λ j. sameNumbers (merged j) (merged k)) k) 2 0)
 
   unfoldable pub kept : ℕ → Bool
   unfolding cause

@@ -10,7 +10,7 @@ use Rattle.mesh_topology.specs.declared.Triangle.{Triangle}
 use Rattle.mesh_topology.specs.Topology.{kth}
 use Rattle.mesh_topology.specs.Refusals.{allBelowCount}
 use Rattle.tidy.specs.declared.Three.{Three}
-use Rattle.tidy.specs.Numbers.{renumbered, twoEqual, sameNumbers}
+use Rattle.tidy.specs.Numbers.{renumbered, twoEqualNumbers, sameNumbers}
 use Rattle.tidy.specs.Ascending.{ascending}
 use Rattle.tidy_search.specs.Links.{Entered}
 
@@ -26,7 +26,7 @@ mergedBy ts firsts k = renumbered (λ v. getD firsts v 0) (kth ts k)
 
 -- why triangle k goes, by the merged triangles: `cause` of the mesh
 unfoldable pub causeFrom : (ℕ → Triangle) → ℕ → ℕ
-causeFrom t k = cond (twoEqual (t k)) 1 (cond (some (λ j. sameNumbers (t j) (t k)) k) 2 0)
+causeFrom t k = cond (twoEqualNumbers (t k)) 1 (cond (some (λ j. sameNumbers (t j) (t k)) k) 2 0)
 
 abbrev pub causeBy : List Triangle → List ℕ → ℕ → ℕ
 causeBy ts firsts k = causeFrom (mergedBy ts firsts) k

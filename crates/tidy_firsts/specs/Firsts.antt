@@ -9,12 +9,12 @@ use Rattle.float_bits.specs.Patterns.{bitsOf}
 use Rattle.picks.specs.Picks.{least}
 use Rattle.tidy.specs.declared.Three.{Three}
 use Rattle.tidy.specs.Same.{same}
-use Rattle.tidy.specs.Tidy.{bitsAt}
+use Rattle.tidy.specs.Tidy.{vertexBits}
 use Rattle.tidy_search.specs.Links.{Entered}
 
 -- the first vertex with the bits of v: `firstOf` of every mesh that has these vertices
 abbrev pub firstIn : List Float → ℕ → ℕ
-firstIn vs v = least (λ w. same (bitsAt vs w) (bitsAt vs v)) v
+firstIn vs v = least (λ w. same (vertexBits vs w) (vertexBits vs v)) v
 
 -- every vertex is entered
 abbrev pub any : Three → Bool
@@ -22,7 +22,7 @@ any k = true
 
 -- the vertices below v are entered into the row of links, by the bits of its floats
 abbrev pub VerticesEntered : List Float → ℕ → ℕ → List Float → Type 0
-VerticesEntered vs n v links = Entered (bitsAt vs) any n v (bitsOf links)
+VerticesEntered vs n v links = Entered (vertexBits vs) any n v (bitsOf links)
 
 -- and vertex v is the next
 pub record ReadyForVertex (vs : List Float) (n v : ℕ) (links : List Float) : Type 0 where

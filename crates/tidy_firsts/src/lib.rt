@@ -14,14 +14,14 @@ ghost use Prim.Native.Nat.{_+_, _*_, _^_, _<_};
 ghost use lib.ListN.{length};
 ghost use Rattle.float_bits.specs.Patterns.{bitsOf};
 ghost use Rattle.lists.specs.Table.{table};
-ghost use Rattle.tidy.specs.Tidy.{bitsAt};
+ghost use Rattle.tidy.specs.Tidy.{vertexBits};
 ghost use Rattle.tidy_search.specs.Links.{Ends};
 ghost use Rattle.tidy_firsts.specs.Firsts.{firstIn, ReadyForVertex, VerticesEntered};
 
 // The bits of vertex v.
 fn bits_at(vertices: &[f32], v: usize) -> Three
     requires { ⌜ 3 * v + 2 < length (now vertices) ⌝ }
-    ensures { λ r. ⌜ r ≡ bitsAt (now (vertices .entry)) v ⌝ }
+    ensures { λ r. ⌜ r ≡ vertexBits (now (vertices .entry)) v ⌝ }
 {
     Three {
         a: bits_of(vertices[3 * v]),
@@ -34,7 +34,7 @@ fn bits_at(vertices: &[f32], v: usize) -> Three
 fn place(vertices: &[f32], links: &[f32], n: usize, v: usize) -> usize
     requires { ⌜ ReadyForVertex (now vertices) n v (now links) ⌝ }
     ensures { λ r.
-        let key = bitsAt (now (vertices .entry)) in
+        let key = vertexBits (now (vertices .entry)) in
         ⌜ Ends key n (bitsOf (now (links .entry))) (key v) r ⌝ }
 {
     let key = bits_at(vertices, v);

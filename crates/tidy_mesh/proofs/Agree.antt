@@ -22,7 +22,7 @@ use Rattle.mesh_topology.specs.Topology.{triangle, kth}
 use Rattle.mesh_topology.proofs.Laws.{vertices-at}
 use Rattle.mesh_explicit.specs.Explicit.{vertexNumbers, explicit}
 use Rattle.mesh.specs.Mesh.{Mesh, trianglesIn}
-use Rattle.tidy.specs.Numbers.{renumbered, twoEqual, sameNumbers, hasNumber}
+use Rattle.tidy.specs.Numbers.{renumbered, twoEqualNumbers, sameNumbers, hasNumber}
 use Rattle.tidy.specs.Tidy.{coordinatesAt, vertexTotal, triangleTotal, firstOf, merged, cause, kept, used, numberAfter, keptVertices, keptTriangles, vertexFrom, triangleFrom, tidiedTriangles, tidiedCoordinates, firsts, causes}
 use Rattle.tidy.specs.Meaning.{Valid}
 use Rattle.tidy.proofs.Numbers.{On}
@@ -54,7 +54,7 @@ module _ (m : Mesh) (ok : Valid m) where
   cause-by : (k : ℕ) → k < triangleTotal m → causeBy (trianglesIn m) (firsts m) k ≡ cause m k
   unfolding causeFrom cause
   cause-by k l =
-      ap₂ (λ (f s : Bool). cond f 1 (cond s 2 0)) (ap twoEqual (merged-by k l))
+      ap₂ (λ (f s : Bool). cond f 1 (cond s 2 0)) (ap twoEqualNumbers (merged-by k l))
       (some-same (λ j. sameNumbers (mergedBy (trianglesIn m) (firsts m) j) (mergedBy (trianglesIn m) (firsts m) k)) (λ j. sameNumbers (merged m j) (merged m k)) k
       (λ j h. ap₂ sameNumbers (merged-by j (omega arith)) (merged-by k l)))
 

@@ -7,7 +7,7 @@ use mathlib.Core.Path.{_≡_, sym, ap, ap₂, _∙_}
 use Rattle.float_bits.specs.Patterns.{bitsOf}
 use Rattle.tidy.specs.declared.Three.{Three}
 use Rattle.tidy.specs.Same.{same}
-use Rattle.tidy.specs.Tidy.{bitsAt}
+use Rattle.tidy.specs.Tidy.{vertexBits}
 use Rattle.tidy_search.specs.Links.{headLink, Named}
 use Rattle.tidy_search.proofs.Search.{Searching, search-begins, search-ended, search-named, search-found, search-on, search-behind}
 use Rattle.tidy_firsts.proofs.Firsts.{long}
@@ -16,7 +16,7 @@ use Rattle.tidy_firsts.proofs.place.Tie as tie
 
 abbrev Inv-loop : tie.InvT-loop
 Inv-loop vertices links n v key rest₀ at₀ held₀ rest at held =
-    Searching (bitsAt vertices) n (bitsOf links) (bitsAt vertices v) rest at held
+    Searching (vertexBits vertices) n (bitsOf links) (vertexBits vertices v) rest at held
 
 abbrev μ-loop : tie.MeasureT-loop
 μ-loop vertices links n v key rest₀ at₀ held₀ rest at held = 3 * n - at
@@ -29,7 +29,7 @@ abbrev turn : tie.After-are-same Inv-loop μ-loop → tie.In-loop Inv-loop μ-lo
 turn c = c .before .before
 
 abbrev bits : tie.In-loop Inv-loop μ-loop → ℕ → Three
-bits t = bitsAt (entry t .args .vertices .now)
+bits t = vertexBits (entry t .args .vertices .now)
 
 -- the link at which a turn looks names a vertex before v
 named : (t : tie.In-loop Inv-loop μ-loop) → Named (bits t) (entry t .args .n) (entry t .args .v) (t .before .loop .at) (t .before .loop .held - 1)
