@@ -14,7 +14,7 @@ use lib.Ieee.Bits.{ofBits-toBits}
 use Rattle.lists.specs.Joined.{joined}
 use Rattle.lists.proofs.Joined.{joined-same, joined-parts}
 use Rattle.mesh.specs.Mesh.{vertexAt}
-use Rattle.tidy.specs.declared.Three.{Three}
+use Rattle.tidy.specs.declared.ThreeWords.{ThreeWords}
 use Rattle.tidy.specs.Tidy.{vertexBits, coordinatesAt}
 
 -- coordinate d of vertex v
@@ -64,7 +64,7 @@ module _ (vs : List Float) (held : (i : ℕ) → T (fits binary32 (getD vs i nan
   unfolding vertexBits vertexAt
   bits-points u v e =
       rw (
-        value (3 * u) (3 * v) (ap (λ (t : Three). t .a) e),
-        value (3 * u + 1) (3 * v + 1) (ap (λ (t : Three). t .b) e),
-        value (3 * u + 2) (3 * v + 2) (ap (λ (t : Three). t .c) e),
+        value (3 * u) (3 * v) (ap (λ (t : ThreeWords). t .a) e),
+        value (3 * u + 1) (3 * v + 1) (ap (λ (t : ThreeWords). t .b) e),
+        value (3 * u + 2) (3 * v + 2) (ap (λ (t : ThreeWords). t .c) e),
       )

@@ -11,8 +11,8 @@ use Rattle.picks.specs.Picks.{least, some}
 use Rattle.picks.proofs.Picks.{least-le, least-passes, least-below, some-none, some-not, Passes, some-one, one-some, count-one}
 use Rattle.mesh_topology.specs.Topology.{kth}
 use Rattle.mesh.specs.Mesh.{Mesh, trianglesIn}
-use Rattle.tidy.specs.declared.Three.{Three}
-use Rattle.tidy.specs.Same.{same}
+use Rattle.tidy.specs.declared.ThreeWords.{ThreeWords}
+use Rattle.tidy.specs.Same.{sameWords}
 use Rattle.tidy.specs.Numbers.{renumbered, twoEqualNumbers, sameNumbers, hasNumber}
 use Rattle.tidy.specs.Tidy.{vertexBits, triangleTotal, firstOf, merged, cause, kept, used, numberAfter}
 use Rattle.tidy.specs.Meaning.{First, Stays, Repeats, Listed, stays, two-equal, repeats}
@@ -26,7 +26,7 @@ fails true h = absurd (h refl)
 fails false h = refl
 
 module _ (m : Mesh) where
-  abbrev bits : ℕ → Three
+  abbrev bits : ℕ → ThreeWords
   bits v = vertexBits (m .vertices) v
 
   -- ---- firsts
@@ -36,7 +36,7 @@ module _ (m : Mesh) where
   first v = record { identical = go (decLt (least test v) v); not-after = least-le test v; none-before = before }
     where
       test : ℕ → Bool
-      test w = same (bits w) (bits v)
+      test w = sameWords (bits w) (bits v)
 
       go : Dec (least test v < v) → bits (least test v) ≡ bits v
       go (yes h) = same-eq (bits (least test v)) (bits v) (least-passes test v h)

@@ -17,12 +17,12 @@ use Rattle.mesh_topology.specs.declared.Indices.the-variants.{Given}
 use Rattle.mesh_topology.specs.Topology.{kth}
 use Rattle.mesh_explicit.specs.Explicit.{explicit}
 use Rattle.mesh.specs.Mesh.{Mesh, meshOf, vertexCount, trianglesIn}
-use Rattle.tidy.specs.declared.Three.{Three}
-use Rattle.tidy.specs.Same.{same}
+use Rattle.tidy.specs.declared.ThreeWords.{ThreeWords}
+use Rattle.tidy.specs.Same.{sameWords}
 use Rattle.tidy.specs.Numbers.{renumbered, twoEqualNumbers, sameNumbers, hasNumber}
 
 -- the bits of vertex v's coordinates. After refusal 2 no coordinate is a NaN, so each has one pattern.
-unfoldable pub vertexBits : List Float → ℕ → Three
+unfoldable pub vertexBits : List Float → ℕ → ThreeWords
 vertexBits vs v =
     record {
       a = toBits binary32 (getD vs (3 * v) nan);
@@ -45,7 +45,7 @@ module _ (m : Mesh) where
   -- "merges vertices of identical bits (first kept)": the first vertex with the bits of v, in the given numbering; v itself where none
   -- before it has them
   unfoldable pub firstOf : ℕ → ℕ
-  firstOf v = least (λ w. same (vertexBits (m .vertices) w) (vertexBits (m .vertices) v)) v
+  firstOf v = least (λ w. sameWords (vertexBits (m .vertices) w) (vertexBits (m .vertices) v)) v
 
   -- triangle k with the firsts for its numbers
   unfoldable pub merged : ℕ → Triangle

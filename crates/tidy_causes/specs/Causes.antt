@@ -9,7 +9,7 @@ use Rattle.picks.specs.Picks.{some}
 use Rattle.mesh_topology.specs.declared.Triangle.{Triangle}
 use Rattle.mesh_topology.specs.Topology.{kth}
 use Rattle.mesh_topology.specs.Refusals.{allBelowCount}
-use Rattle.tidy.specs.declared.Three.{Three}
+use Rattle.tidy.specs.declared.ThreeWords.{ThreeWords}
 use Rattle.tidy.specs.Numbers.{renumbered, twoEqualNumbers, sameNumbers}
 use Rattle.tidy.specs.Ascending.{ascending}
 use Rattle.tidy_search.specs.Links.{Entered}
@@ -34,14 +34,14 @@ causeBy ts firsts k = causeFrom (mergedBy ts firsts) k
 -- ---- the search
 
 -- by what triangle k is looked for
-abbrev pub keyBy : List Triangle → List ℕ → ℕ → Three
+abbrev pub keyBy : List Triangle → List ℕ → ℕ → ThreeWords
 keyBy ts firsts k = ascending (mergedBy ts firsts k)
 
 -- two of three numbers in ascending order are equal; such a triangle is not entered
-abbrev pub flatKey : Three → Bool
+abbrev pub flatKey : ThreeWords → Bool
 flatKey k = eqb (k .a) (k .b) || eqb (k .b) (k .c)
 
-abbrev pub solidKey : Three → Bool
+abbrev pub solidKey : ThreeWords → Bool
 solidKey k = not (flatKey k)
 
 abbrev pub TrianglesEntered : List Triangle → List ℕ → ℕ → ℕ → List ℕ → Type 0

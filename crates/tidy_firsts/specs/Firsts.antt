@@ -7,17 +7,17 @@ use lib.ListN.{length}
 use lib.Ieee.{Float}
 use Rattle.float_bits.specs.Patterns.{bitsOf}
 use Rattle.picks.specs.Picks.{least}
-use Rattle.tidy.specs.declared.Three.{Three}
-use Rattle.tidy.specs.Same.{same}
+use Rattle.tidy.specs.declared.ThreeWords.{ThreeWords}
+use Rattle.tidy.specs.Same.{sameWords}
 use Rattle.tidy.specs.Tidy.{vertexBits}
 use Rattle.tidy_search.specs.Links.{Entered}
 
 -- the first vertex with the bits of v: `firstOf` of every mesh that has these vertices
 abbrev pub firstIn : List Float → ℕ → ℕ
-firstIn vs v = least (λ w. same (vertexBits vs w) (vertexBits vs v)) v
+firstIn vs v = least (λ w. sameWords (vertexBits vs w) (vertexBits vs v)) v
 
 -- every vertex is entered
-abbrev pub any : Three → Bool
+abbrev pub any : ThreeWords → Bool
 any k = true
 
 -- the vertices below v are entered into the row of links, by the bits of its floats

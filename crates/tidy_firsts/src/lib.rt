@@ -2,7 +2,7 @@
 // entered one by one into a row of links, and each is looked for before it is entered. The row is lent: the
 // coordinates' output, which has three words for each vertex. A part of the port: users call `sdf`.
 use float_bits::bits_of;
-use tidy::Three;
+use tidy::ThreeWords;
 use tidy::are_same;
 use tidy_search::head;
 use tidy_search::link;
@@ -19,11 +19,11 @@ ghost use Rattle.tidy_search.specs.Links.{Ends};
 ghost use Rattle.tidy_firsts.specs.Firsts.{firstIn, ReadyForVertex, VerticesEntered};
 
 // The bits of vertex v.
-fn bits_at(vertices: &[f32], v: usize) -> Three
+fn bits_at(vertices: &[f32], v: usize) -> ThreeWords
     requires { ⌜ 3 * v + 2 < length (now vertices) ⌝ }
     ensures { λ r. ⌜ r ≡ vertexBits (now (vertices .entry)) v ⌝ }
 {
-    Three {
+    ThreeWords {
         a: bits_of(vertices[3 * v]),
         b: bits_of(vertices[3 * v + 1]),
         c: bits_of(vertices[3 * v + 2]),
