@@ -14,7 +14,7 @@ use Rattle.mesh.specs.Mesh.{Mesh, trianglesIn}
 use Rattle.tidy.specs.declared.ThreeWords.{ThreeWords}
 use Rattle.tidy.specs.Same.{sameWords}
 use Rattle.tidy.specs.Numbers.{renumbered, twoEqualNumbers, sameNumbers, hasNumber}
-use Rattle.tidy.specs.Tidy.{vertexBits, triangleTotal, firstOf, merged, cause, kept, used, numberAfter}
+use Rattle.tidy.specs.Tidy.{vertexBits, triangleTotal, firstOf, merged, cause, isKept, used, numberAfter}
 use Rattle.tidy.specs.Meaning.{First, Stays, Repeats, Listed, stays, two-equal, repeats}
 use Rattle.tidy.proofs.Same.{same-eq, eq-same}
 use Rattle.tidy.proofs.Numbers.{On, on-of, has-on, has-own}
@@ -63,16 +63,16 @@ module _ (m : Mesh) where
 
   -- ---- what is kept
 
-  pub kept-cause : (k : ℕ) → kept m k ≡ true → cause m k ≡ 0
-  unfolding kept
+  pub kept-cause : (k : ℕ) → isKept m k ≡ true → cause m k ≡ 0
+  unfolding isKept
   kept-cause k h = eqb-true (cause m k) 0 h
 
-  pub cause-kept : (k : ℕ) → cause m k ≡ 0 → kept m k ≡ true
-  unfolding kept
+  pub cause-kept : (k : ℕ) → cause m k ≡ 0 → isKept m k ≡ true
+  unfolding isKept
   cause-kept k h = eq-eqb (cause m k) 0 h
 
-  pub stays-kept : (k : ℕ) → Stays m k → kept m k ≡ true
-  unfolding kept cause
+  pub stays-kept : (k : ℕ) → Stays m k → isKept m k ≡ true
+  unfolding isKept cause
   stays-kept k h = rw (h .unequal, some-none (λ j. sameNumbers (merged m j) (merged m k)) k (h .new))
 
   module _ (k : ℕ) where
@@ -120,7 +120,7 @@ module _ (m : Mesh) where
         go false a true b = repeats (is a b) (repeated a b)
         go false a false b = stays (is a b) (record { unequal = a; new = λ j l. some-not earlier k j b l })
 
-  pub kept-stays : (k : ℕ) → kept m k ≡ true → Stays m k
+  pub kept-stays : (k : ℕ) → isKept m k ≡ true → Stays m k
   kept-stays k h = go (kept-cause k h) (listed k)
     where
       go : cause m k ≡ 0 → Listed m (cause m) k → Stays m k
@@ -134,19 +134,19 @@ module _ (m : Mesh) where
   pub record Uses (v : ℕ) : Type 0 where
     pub at : ℕ
     pub below : at < triangleTotal m
-    pub stays : kept m at ≡ true
+    pub stays : isKept m at ≡ true
     pub holds : hasNumber (merged m at) v ≡ true
 
   pub used-uses : (v : ℕ) → used m v ≡ true → Uses v
   unfolding used
   used-uses v h =
-      let r = some-one (λ k. kept m k && hasNumber (merged m k) v) (triangleTotal m) h in
-      let b = and-eq-true-iff (kept m (r .at)) (hasNumber (merged m (r .at)) v) .0 (r .passes) in
+      let r = some-one (λ k. isKept m k && hasNumber (merged m k) v) (triangleTotal m) h in
+      let b = and-eq-true-iff (isKept m (r .at)) (hasNumber (merged m (r .at)) v) .0 (r .passes) in
       record { at = r .at; below = r .below; stays = b .0; holds = b .1 }
 
   pub uses-used : (v : ℕ) → Uses v → used m v ≡ true
   unfolding used
-  uses-used v u = one-some (λ k. kept m k && hasNumber (merged m k) v) (triangleTotal m) (u .at) (u .below) (rw (u .stays, u .holds))
+  uses-used v u = one-some (λ k. isKept m k && hasNumber (merged m k) v) (triangleTotal m) (u .at) (u .below) (rw (u .stays, u .holds))
 
   -- the numbers of a merged triangle are firsts
   merged-first : (k : ℕ) → On (λ v. firstOf m v ≡ v) (merged m k)
@@ -160,7 +160,7 @@ module _ (m : Mesh) where
   used-first v h = let u = used-uses v h in has-on (λ v. firstOf m v ≡ v) (merged m (u .at)) v (merged-first (u .at)) (u .holds)
 
   -- each number of a kept triangle is used
-  pub kept-used : (k : ℕ) → k < triangleTotal m → kept m k ≡ true → On (λ v. used m v ≡ true) (merged m k)
+  pub kept-used : (k : ℕ) → k < triangleTotal m → isKept m k ≡ true → On (λ v. used m v ≡ true) (merged m k)
   kept-used k l h =
       on-of (λ v. hasNumber (merged m k) v ≡ true) (λ v. used m v ≡ true) (merged m k)
       (λ v w. uses-used v (record { at = k; below = l; stays = h; holds = w }))

@@ -21,7 +21,7 @@ use Rattle.mesh_topology.proofs.Laws.{vertices-at}
 use Rattle.mesh_explicit.proofs.Laws.{explicit-names}
 use Rattle.mesh.specs.Mesh.{Mesh, vertexCount, trianglesIn}
 use Rattle.tidy.specs.Numbers.{renumbered, twoEqualNumbers, sameNumbers, hasNumber}
-use Rattle.tidy.specs.Tidy.{vertexBits, coordinatesAt, vertexTotal, triangleTotal, firstOf, merged, kept, used, numberAfter, keptVertices, keptTriangles, vertexFrom, triangleFrom, tidied, tidiedTriangles, tidiedCoordinates}
+use Rattle.tidy.specs.Tidy.{vertexBits, coordinatesAt, vertexTotal, triangleTotal, firstOf, merged, isKept, used, numberAfter, keptVertices, keptTriangles, vertexFrom, triangleFrom, tidied, tidiedTriangles, tidiedCoordinates}
 use Rattle.tidy.specs.Meaning.{Valid, Stays, Clean}
 use Rattle.tidy.proofs.Coordinates.{coordinates-part, same-bits}
 use Rattle.tidy.proofs.Numbers.{On, on-renumbered, has-renumbered, two-equal-renumbered, same-numbers-renumbered}
@@ -72,9 +72,9 @@ module _ (m : Mesh) where
   unfolding vertexFrom keptVertices
   vertices-in-turn = in-turn (used m) (vertexTotal m)
 
-  pub triangles-in-turn : InTurn (kept m) (triangleTotal m) (keptTriangles m) (triangleFrom m)
+  pub triangles-in-turn : InTurn (isKept m) (triangleTotal m) (keptTriangles m) (triangleFrom m)
   unfolding triangleFrom keptTriangles
-  triangles-in-turn = in-turn (kept m) (triangleTotal m)
+  triangles-in-turn = in-turn (isKept m) (triangleTotal m)
 
   -- a used vertex has a number, and the vertex of that number stood where it stands
   pub number-below : (v : ℕ) → v < vertexTotal m → used m v ≡ true → numberAfter m v < keptVertices m

@@ -16,7 +16,7 @@ use Rattle.mesh_topology.specs.Refusals.{allBelowCount}
 use Rattle.mesh_explicit.specs.Explicit.{explicit}
 use Rattle.mesh.specs.Mesh.{Mesh, trianglesIn}
 use Rattle.tidy.specs.Numbers.{twoEqualNumbers, sameNumbers, hasNumber}
-use Rattle.tidy.specs.Tidy.{vertexBits, coordinatesAt, vertexTotal, triangleTotal, merged, kept, used, keptVertices, keptTriangles, firsts, causes}
+use Rattle.tidy.specs.Tidy.{vertexBits, coordinatesAt, vertexTotal, triangleTotal, merged, isKept, used, keptVertices, keptTriangles, firsts, causes}
 
 -- what refusal 4 leaves: each number of a triangle is a vertex's
 abbrev pub Valid : Mesh → Type 0
@@ -72,7 +72,7 @@ pub record SameCorners (m : Mesh) (s : Triangle) (n : Mesh) (t : Triangle) : Typ
 -- the triangles of n are those of m that are kept, in their order: triangle k of n is triangle `from k` of m
 pub record Retained (m n : Mesh) : Type 0 where
   pub from : ℕ → ℕ
-  pub order : InTurn (kept m) (triangleTotal m) (triangleTotal n) from
+  pub order : InTurn (isKept m) (triangleTotal m) (triangleTotal n) from
   pub corners : (k : ℕ) → k < triangleTotal n → SameCorners m (kth (trianglesIn m) (from k)) n (kth (trianglesIn n) k)
 
 -- ---- "squeezes out unused vertices"

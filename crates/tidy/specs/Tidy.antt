@@ -57,14 +57,14 @@ module _ (m : Mesh) where
   unfolding merged
   cause k = cond (twoEqualNumbers (merged k)) 1 (cond (some (λ j. sameNumbers (merged j) (merged k)) k) 2 0)
 
-  unfoldable pub kept : ℕ → Bool
+  unfoldable pub isKept : ℕ → Bool
   unfolding cause
-  kept k = eqb (cause k) 0
+  isKept k = eqb (cause k) 0
 
   -- "squeezes out unused vertices": used is what a kept triangle has
   unfoldable pub used : ℕ → Bool
-  unfolding kept
-  used v = some (λ k. kept k && hasNumber (merged k) v) triangleTotal
+  unfolding isKept
+  used v = some (λ k. isKept k && hasNumber (merged k) v) triangleTotal
 
   -- "Both kept counts are returned."
   unfoldable pub keptVertices : ℕ
@@ -72,8 +72,8 @@ module _ (m : Mesh) where
   keptVertices = countBelow used vertexTotal
 
   unfoldable pub keptTriangles : ℕ
-  unfolding kept
-  keptTriangles = countBelow kept triangleTotal
+  unfolding isKept
+  keptTriangles = countBelow isKept triangleTotal
 
   -- the number that vertex v has in the tidied mesh: how many used ones come before it
   unfoldable pub numberAfter : ℕ → ℕ
@@ -86,8 +86,8 @@ module _ (m : Mesh) where
   vertexFrom i = select used vertexTotal i
 
   unfoldable pub triangleFrom : ℕ → ℕ
-  unfolding kept
-  triangleFrom k = select kept triangleTotal k
+  unfolding isKept
+  triangleFrom k = select isKept triangleTotal k
 
   -- ---- the tidied mesh
 

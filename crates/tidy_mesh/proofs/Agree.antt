@@ -23,7 +23,7 @@ use Rattle.mesh_topology.proofs.Laws.{vertices-at}
 use Rattle.mesh_explicit.specs.Explicit.{vertexNumbers, explicit}
 use Rattle.mesh.specs.Mesh.{Mesh, trianglesIn}
 use Rattle.tidy.specs.Numbers.{renumbered, twoEqualNumbers, sameNumbers, hasNumber}
-use Rattle.tidy.specs.Tidy.{coordinatesAt, vertexTotal, triangleTotal, firstOf, merged, cause, kept, used, numberAfter, keptVertices, keptTriangles, vertexFrom, triangleFrom, tidiedTriangles, tidiedCoordinates, firsts, causes}
+use Rattle.tidy.specs.Tidy.{coordinatesAt, vertexTotal, triangleTotal, firstOf, merged, cause, isKept, used, numberAfter, keptVertices, keptTriangles, vertexFrom, triangleFrom, tidiedTriangles, tidiedCoordinates, firsts, causes}
 use Rattle.tidy.specs.Meaning.{Valid}
 use Rattle.tidy.proofs.Numbers.{On}
 use Rattle.tidy.proofs.Tidied.{Had, had, triangles-in-turn}
@@ -61,20 +61,21 @@ module _ (m : Mesh) (ok : Valid m) where
   pub causes-by : table (causeBy (trianglesIn m) (firsts m)) (triangleTotal m) ≡ causes m
   causes-by = table-same (causeBy (trianglesIn m) (firsts m)) (cause m) (triangleTotal m) cause-by
 
-  kept-by : (k : ℕ) → k < triangleTotal m → keptBy (causes m) k ≡ kept m k
-  unfolding kept
+  kept-by : (k : ℕ) → k < triangleTotal m → keptBy (causes m) k ≡ isKept m k
+  unfolding isKept
   kept-by k l = ap (λ (c : ℕ). eqb c 0) (table-at (cause m) (triangleTotal m) k 0 l)
 
   used-by : (v : ℕ) → usedBy (trianglesIn m) (firsts m) (causes m) v ≡ used m v
   unfolding used
   used-by v =
-      some-same (λ k. keptBy (causes m) k && hasNumber (mergedBy (trianglesIn m) (firsts m) k) v) (λ k. kept m k && hasNumber (merged m k) v) (triangleTotal m)
+      some-same (λ k. keptBy (causes m) k && hasNumber (mergedBy (trianglesIn m) (firsts m) k) v)
+      (λ k. isKept m k && hasNumber (merged m k) v) (triangleTotal m)
       (λ k l. ap₂ (λ (a b : Bool). a && b) (kept-by k l) (ap (λ (t : Triangle). hasNumber t v) (merged-by k l)))
 
   -- how many triangles are kept
   pub triangles-counted : countBelow (keptBy (causes m)) (triangleTotal m) ≡ keptTriangles m
   unfolding keptTriangles
-  triangles-counted = count-same (keptBy (causes m)) (kept m) (triangleTotal m) kept-by
+  triangles-counted = count-same (keptBy (causes m)) (isKept m) (triangleTotal m) kept-by
 
   -- ---- marks
 
@@ -130,7 +131,7 @@ module _ (m : Mesh) (ok : Valid m) where
               → byMarks (length (firsts m)) new (mergedBy (trianglesIn m) (firsts m) (select (keptBy (causes m)) (triangleTotal m) i)) ≡ tidy i
           is i l =
               let h = had m ok i l in
-              let from = select-same (keptBy (causes m)) (kept m) (triangleTotal m) i kept-by in
+              let from = select-same (keptBy (causes m)) (isKept m) (triangleTotal m) i kept-by in
               ap₂ (λ (n k : ℕ). byMarks n new (mergedBy (trianglesIn m) (firsts m) k)) (length-table (firstOf m) (vertexTotal m)) from
               ∙ ap (byMarks (vertexTotal m) new) (merged-by (triangleFrom m i) (triangles-in-turn m .below i l))
               ∙ triangles (number-is _ (h .a)) (number-is _ (h .b)) (number-is _ (h .c))
