@@ -1,0 +1,4 @@
+pub mod Replied
+pub mod Left
+pub mod Second
+pub mod Theorem

@@ -1,0 +1,3 @@
+pub mod Tidied
+pub mod Second
+pub mod Refused
