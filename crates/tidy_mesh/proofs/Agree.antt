@@ -29,7 +29,7 @@ use Rattle.tidy.proofs.Numbers.{On}
 use Rattle.tidy.proofs.Tidied.{Had, had, triangles-in-turn}
 use Rattle.tidy_causes.specs.Causes.{mergedBy, causeFrom, causeBy}
 use Rattle.tidy_marks.specs.Marks.{Marks, markAt, isMarked, keptBy, usedBy}
-use Rattle.tidy_squeeze.specs.Squeezed.{byMarks, newNumbers}
+use Rattle.tidy_squeeze.specs.InFront.{byMarks, newNumbers}
 
 triangles : {x y z x′ y′ z′ : ℕ} → x ≡ x′ → y ≡ y′ → z ≡ z′ → triangle x y z ≡ triangle x′ y′ z′
 triangles e f g = cc

@@ -17,7 +17,7 @@ use Rattle.tidy.specs.Padded.{padded, plusZero}
 use Rattle.tidy.specs.Tidy.{coordinatesAt, vertexTotal, triangleTotal, keptVertices, keptTriangles, tidiedCoordinates, tidiedTriangles, firsts, causes}
 use Rattle.tidy.specs.Meaning.{Valid}
 use Rattle.tidy_marks.specs.Marks.{Marks, isMarked, keptBy, usedBy}
-use Rattle.tidy_squeeze.specs.Squeezed.{newNumbers}
+use Rattle.tidy_squeeze.specs.InFront.{newNumbers}
 use Rattle.tidy_mesh.specs.Outcome.{Found, tidyLeft}
 use Rattle.tidy_mesh.proofs.Agree.{triangles-counted, vertices-counted, triangles-listed, vertices-packed}
 use Rattle.tidy_mesh.proofs.Parts.{of-found}

@@ -19,7 +19,7 @@ use Rattle.picks.proofs.Joined.{joined-picked}
 use Rattle.tidy.specs.Padded.{padded}
 use Rattle.tidy_words.proofs.Words.{bits-at}
 use Rattle.tidy_marks.specs.Marks.{markAt}
-use Rattle.tidy_squeeze.specs.Squeezed.{pieceIf}
+use Rattle.tidy_squeeze.specs.InFront.{pieceIf}
 
 module _ {A : Type 0} (p : ℕ → Bool) (f : ℕ → List A) (three : (k : ℕ) → length (f k) ≡ 3) where
   -- a piece has three elements at most

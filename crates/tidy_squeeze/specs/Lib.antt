@@ -1,1 +1,1 @@
-pub mod Squeezed
+pub mod InFront

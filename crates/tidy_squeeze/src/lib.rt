@@ -20,7 +20,7 @@ ghost use Rattle.mesh_explicit.specs.Explicit.{vertexNumbers};
 ghost use Rattle.tidy.specs.Padded.{padded, plusZero};
 ghost use Rattle.tidy.specs.Tidy.{coordinatesAt};
 ghost use Rattle.tidy_marks.specs.Marks.{Squeezable, NumbersBelow, keptBy, isMarked};
-ghost use Rattle.tidy_squeeze.specs.Squeezed.{byMarks, pieceIf, newNumbers};
+ghost use Rattle.tidy_squeeze.specs.InFront.{byMarks, pieceIf, newNumbers};
 
 fn less_one(x: u32) -> u32
     ensures { λ r. ⌜ r ≡ x - 1 ⌝ }

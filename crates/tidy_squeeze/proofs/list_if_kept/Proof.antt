@@ -9,7 +9,7 @@ use Rattle.mesh_topology.specs.declared.Triangle.{Triangle}
 use Rattle.mesh_explicit.specs.Explicit.{vertexNumbers}
 use Rattle.tidy_marks.specs.Marks.{NumbersBelow}
 use Rattle.tidy_marks.proofs.Marks.{merged-within}
-use Rattle.tidy_squeeze.specs.Squeezed.{byMarks}
+use Rattle.tidy_squeeze.specs.InFront.{byMarks}
 use Rattle.tidy_squeeze.proofs.Packed.{put-none, put-piece}
 use Rattle.tidy_squeeze.proofs.list_if_kept.Statement.{statement}
 use Rattle.tidy_squeeze.proofs.list_if_kept.Tie as tie

@@ -10,7 +10,7 @@ use Rattle.lists.proofs.Puts.{Pieces, no-pieces, pieces-more, pieces-room, piec
 use Rattle.mesh_topology.specs.declared.Triangle.{Triangle}
 use Rattle.mesh_topology.specs.Topology.{trianglesOf}
 use Rattle.tidy_marks.specs.Marks.{keptBy}
-use Rattle.tidy_squeeze.specs.Squeezed.{pieceIf, newNumbers}
+use Rattle.tidy_squeeze.specs.InFront.{pieceIf, newNumbers}
 use Rattle.tidy_squeeze.proofs.Packed.{piece-short, packed, filled-behind}
 use Rattle.tidy_squeeze.proofs.list_kept.Statement.{statement}
 use Rattle.tidy_squeeze.proofs.list_kept.Tie as tie

@@ -13,7 +13,7 @@ use Rattle.lists.proofs.Puts.{Pieces, no-pieces, pieces-more, pieces-all, said,
 use Rattle.tidy.specs.Tidy.{coordinatesAt}
 use Rattle.tidy.specs.Padded.{plusZero}
 use Rattle.tidy_marks.specs.Marks.{markAt, isMarked}
-use Rattle.tidy_squeeze.specs.Squeezed.{pieceIf}
+use Rattle.tidy_squeeze.specs.InFront.{pieceIf}
 use Rattle.tidy_squeeze.proofs.Packed.{piece-short, packed, filled-behind, mark-behind}
 use Rattle.tidy_squeeze.proofs.pack.Statement.{statement}
 use Rattle.tidy_squeeze.proofs.pack.Tie as tie
