@@ -1,0 +1,2 @@
+-- What a search in the row of links finds.
+pub mod Links
