@@ -1,0 +1,4 @@
+-- Laws of what is printed.
+mod Within
+mod Line
+mod Held
