@@ -1,0 +1,2 @@
+-- What a search for a vertex says of its first.
+pub mod Firsts

@@ -1,0 +1,2 @@
+-- A row of floats by its bits.
+pub mod Words
