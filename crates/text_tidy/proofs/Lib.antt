@@ -2,3 +2,4 @@
 mod Within
 mod Line
 mod Held
+mod Passed

@@ -1,15 +1,21 @@
 -- What the parts of the program hand to each other, and what each asks for. No one need believe it. Definitions only.
 use Prim.Native.Nat.{ℕ, _+_, _*_, _≤_, _<_}
-use mathlib.Core.List.{List}
+use mathlib.Core.Path.{_≡_}
+use mathlib.Core.List.{List, _++_}
 use lib.ListN.{length, getD, take}
 use lib.Ieee.{Float}
 use Rattle.lists.specs.Table.{table}
+use Rattle.mesh_topology.specs.declared.Topology.the-variants.{TriangleList}
 use Rattle.mesh_topology.specs.declared.Indices.the-variants.{Given}
+use Rattle.mesh.specs.Mesh.{Mesh}
+use Rattle.tidy.specs.Tidy.{vertexTotal, triangleTotal}
 use Rattle.tidy_mesh.specs.declared.Kept.{Kept}
+use Rattle.tidy_mesh.specs.Outcome.{TidyLent}
 use Rattle.text.specs.Limits.{mostVertices, mostIndices, coordinateRoom, textRoom}
-use Rattle.text.specs.TextJob.{TextJob, these}
+use Rattle.text.specs.TextJob.{TextJob, these, jobText}
 use Rattle.text_read_job.specs.declared.Asked.{Asked}
-use Rattle.text_tidy.specs.Tidied.{vertexSaid}
+use Rattle.text_tidy.specs.declared.Went.the-variants.{Merged, Dropped}
+use Rattle.text_tidy.specs.Tidied.{wentLines, vertexSaid, tidyRoom}
 
 -- fewer than 1,000 numbers, and fewer than 1,000 each: a line of such a number and its value has at most 14 bytes
 pub record Short (values : List ℕ) : Type 0 where
@@ -38,3 +44,28 @@ pub record RoomForKept (a : Asked) (k : Kept) (coordinates : List Float) (indice
   pub coordinates-few : length coordinates ≤ coordinateRoom
   pub indices-few : 3 * k .triangles ≤ mostIndices (a .head .topology)
   pub indices-held : 3 * k .triangles ≤ length indices
+
+-- ---- the outputs that a tidying left
+
+-- what they say went, and the job that they hold
+abbrev pub leftText : Asked → Kept → TidyLent → List ℕ
+leftText a k left =
+    wentLines Merged (λ i. getD (left .firsts) i 0) (length (left .firsts))
+    ++ wentLines Dropped (λ i. getD (left .causes) i 0) (length (left .causes))
+    ++ jobText (keptJob a k (left .coordinates) (left .indices))
+
+-- it can be written at the front of `out`
+pub record RoomForLeft (a : Asked) (k : Kept) (left : TidyLent) (out : List ℕ) : Type 0 where
+  pub merges-short : Short (left .firsts)
+  pub drops-short : Short (left .causes)
+  pub kept-fits : RoomForKept a k (left .coordinates) (left .indices) (14 * (length (left .firsts) + length (left .causes))) out
+
+-- a mesh within the job program's limits, outputs of the lengths that refusal 5 asks for, and bytes for whatever is printed
+pub record RightlyLent (m : Mesh) (lent : TidyLent) (out : List ℕ) : Type 0 where
+  pub vertices-few : length (m .vertices) ≤ coordinateRoom
+  pub triangles-few : 3 * triangleTotal m ≤ mostIndices TriangleList
+  pub coordinates-long : length (lent .coordinates) ≡ length (m .vertices)
+  pub indices-long : length (lent .indices) ≡ 3 * triangleTotal m
+  pub firsts-long : length (lent .firsts) ≡ vertexTotal m
+  pub causes-long : length (lent .causes) ≡ triangleTotal m
+  pub room : tidyRoom ≤ length out
