@@ -11,7 +11,7 @@ ghost use Rattle.mesh_topology.specs.Topology.{trianglesOf};
 ghost use Rattle.mesh_explicit.specs.Explicit.{vertexNumbers, explicit};
 
 // A triangle's three vertex numbers, from `at` on.
-fn put_triangle(out: &mut [u32], at: usize, t: Triangle) -> usize
+pub fn put_triangle(out: &mut [u32], at: usize, t: Triangle) -> usize
     requires { ⌜ at + 3 ≤ length (now out) ⌝ }
     ensures { λ r. ⌜ Put (now (out .entry)) at (vertexNumbers t) (now (out .exit)) r ⌝ }
 {

@@ -2,3 +2,4 @@ pub mod Same
 pub mod Numbers
 pub mod Tidy
 pub mod Ascending
+pub mod Meaning

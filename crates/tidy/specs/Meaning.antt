@@ -1,0 +1,93 @@
+-- "Prove: nothing that has such a cause to go is kept, kept triangles retain their corner bits and order, each dropped one is listed with a
+-- true cause, and tidying twice changes nothing." (document 02, §10): what each of these says. proofs/Laws.antt has that they hold of every
+-- mesh that refusal 4 leaves. Definitions only.
+use Prim.Native.Nat.{ℕ, _≤_, _<_}
+use mathlib.Core.Path.{_≡_}
+use mathlib.Core.Bool.{true, false}
+use lib.ListN.{replicate}
+use Rattle.lists.specs.Table.{table}
+use Rattle.mesh_topology.specs.declared.Triangle.{Triangle}
+use Rattle.mesh_topology.specs.Topology.{kth}
+use Rattle.mesh_topology.specs.Refusals.{allBelowCount}
+use Rattle.mesh.specs.Mesh.{Mesh, trianglesIn}
+use Rattle.tidy.specs.Numbers.{twoEqual, sameNumbers, hasNumber}
+use Rattle.tidy.specs.Tidy.{bitsAt, vertexTotal, triangleTotal, merged, cause, used, keptVertices, keptTriangles, firsts, causes}
+
+-- what refusal 4 leaves: each number of a triangle is a vertex's
+abbrev pub Valid : Mesh → Type 0
+Valid m = allBelowCount (vertexTotal m) (trianglesIn m) ≡ true
+
+-- ---- "merges vertices of identical bits (first kept)"
+
+-- f is the first vertex with the bits of vertex v
+pub record First (m : Mesh) (v f : ℕ) : Type 0 where
+  pub identical : bitsAt (m .vertices) f ≡ bitsAt (m .vertices) v
+  pub not-after : f ≤ v
+  pub none-before : (w : ℕ) → w < f → bitsAt (m .vertices) w ≡ bitsAt (m .vertices) v → ⊥
+
+-- ---- "each dropped one is listed with a true cause"
+
+-- merging done, triangle k has no two equal numbers, and no earlier one has its three
+pub record Stays (m : Mesh) (k : ℕ) : Type 0 where
+  pub unequal : twoEqual (merged m k) ≡ false
+  pub new : (j : ℕ) → j < k → sameNumbers (merged m j) (merged m k) ≡ false
+
+-- it has no two equal numbers, and an earlier one that is kept, as c lists them, has its three
+pub record Repeats (m : Mesh) (c : ℕ → ℕ) (k : ℕ) : Type 0 where
+  pub unequal : twoEqual (merged m k) ≡ false
+  pub of : ℕ
+  pub earlier : of < k
+  pub kept : c of ≡ 0
+  pub numbers : sameNumbers (merged m of) (merged m k) ≡ true
+
+-- c lists triangle k as it is: "0 kept, or the cause", "1 for equal numbers, else 2"
+pub data Listed (m : Mesh) (c : ℕ → ℕ) (k : ℕ) : Type 0 where
+  stays : c k ≡ 0 → Stays m k → Listed m c k
+  two-equal : c k ≡ 1 → twoEqual (merged m k) ≡ true → Listed m c k
+  repeats : c k ≡ 2 → Repeats m c k → Listed m c k
+
+-- ---- "nothing that has such a cause to go is kept"
+
+-- in this mesh no two vertices have identical bits, no triangle has two equal numbers, none has the three of an earlier one, and no
+-- vertex is unused
+pub record Clean (m : Mesh) : Type 0 where
+  pub apart : (v w : ℕ) → v < w → w < vertexTotal m → bitsAt (m .vertices) v ≡ bitsAt (m .vertices) w → ⊥
+  pub unequal : (k : ℕ) → k < triangleTotal m → twoEqual (kth (trianglesIn m) k) ≡ false
+  pub new : (j k : ℕ) → j < k → k < triangleTotal m → sameNumbers (kth (trianglesIn m) j) (kth (trianglesIn m) k) ≡ false
+  pub in-use : (v : ℕ) → v < vertexTotal m → (k : ℕ) × (k < triangleTotal m) × (hasNumber (kth (trianglesIn m) k) v ≡ true)
+
+-- ---- "kept triangles retain their corner bits and order"
+
+-- corner by corner, triangle t of n has the bits of triangle s of m
+pub record SameCorners (m : Mesh) (s : Triangle) (n : Mesh) (t : Triangle) : Type 0 where
+  pub a : bitsAt (n .vertices) (t .a) ≡ bitsAt (m .vertices) (s .a)
+  pub b : bitsAt (n .vertices) (t .b) ≡ bitsAt (m .vertices) (s .b)
+  pub c : bitsAt (n .vertices) (t .c) ≡ bitsAt (m .vertices) (s .c)
+
+-- the triangles of n are those of m that are kept, in their order
+pub record Retained (m n : Mesh) : Type 0 where
+  -- which triangle of m is triangle k of n
+  pub from : ℕ → ℕ
+  pub given : (k : ℕ) → k < triangleTotal n → from k < triangleTotal m
+  pub kept : (k : ℕ) → k < triangleTotal n → cause m (from k) ≡ 0
+  pub corners : (k : ℕ) → k < triangleTotal n → SameCorners m (kth (trianglesIn m) (from k)) n (kth (trianglesIn n) k)
+  pub order : (j k : ℕ) → j < k → k < triangleTotal n → from j < from k
+  pub each : (k : ℕ) → k < triangleTotal m → cause m k ≡ 0 → (j : ℕ) × (j < triangleTotal n) × (from j ≡ k)
+
+-- and its vertices those of m that are used, in theirs
+pub record Squeezed (m n : Mesh) : Type 0 where
+  pub from : ℕ → ℕ
+  pub given : (v : ℕ) → v < vertexTotal n → from v < vertexTotal m
+  pub in-use : (v : ℕ) → v < vertexTotal n → used m (from v) ≡ true
+  pub bits : (v : ℕ) → v < vertexTotal n → bitsAt (n .vertices) v ≡ bitsAt (m .vertices) (from v)
+  pub order : (v w : ℕ) → v < w → w < vertexTotal n → from v < from w
+  pub each : (v : ℕ) → v < vertexTotal m → used m v ≡ true → (w : ℕ) × (w < vertexTotal n) × (from w ≡ v)
+
+-- ---- "tidying twice changes nothing"
+
+-- tidying this mesh merges, drops and squeezes out nothing
+pub record NothingGoes (m : Mesh) : Type 0 where
+  pub none-merged : firsts m ≡ table (λ v. v) (vertexTotal m)
+  pub none-dropped : causes m ≡ replicate (triangleTotal m) 0
+  pub vertices-stay : keptVertices m ≡ vertexTotal m
+  pub triangles-stay : keptTriangles m ≡ triangleTotal m

@@ -1,0 +1,3 @@
+-- Marks by stores, and marks that become numbers.
+pub mod Marks
+pub mod Numbering
