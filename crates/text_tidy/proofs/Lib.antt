@@ -3,3 +3,4 @@ mod Within
 mod Line
 mod Held
 mod Passed
+mod Left
