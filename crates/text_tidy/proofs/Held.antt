@@ -39,7 +39,7 @@ module _ (coordinates : List Float) (rest : List ℕ) where
       ∙ getD-any (bitsOf coordinates) i 0 (toBits binary32 nan) below
       ∙ List·getD-map (toBits binary32) coordinates i nan
 
-  threes-said : (n : ℕ) → 3 * n ≤ length coordinates → threesIn n patterns ≡ table (vertexSaid coordinates) n
+  pub threes-said : (n : ℕ) → 3 * n ≤ length coordinates → threesIn n patterns ≡ table (vertexSaid coordinates) n
   unfolding threesIn table bitsAt
   threes-said zero h = refl
   threes-said (suc n) h =

@@ -14,7 +14,6 @@ use Rattle.lists.specs.Table.{table}
 use Rattle.lists.proofs.Checks.{past-group, by-group}
 use Rattle.lists.proofs.Joined.{joined-same}
 use Rattle.lists.proofs.Table.{length-table, table-at, table-same}
-use Rattle.mesh_topology.specs.declared.Topology.{Topology}
 use Rattle.mesh_topology.specs.declared.Topology.the-variants.{TriangleList}
 use Rattle.mesh_explicit.specs.Explicit.{explicit}
 use Rattle.mesh_explicit.proofs.Laws.{explicit-long}
@@ -32,9 +31,7 @@ use Rattle.tidy_mesh.specs.declared.TidyAnswer.the-variants.{Refused, Tidied}
 use Rattle.tidy_mesh.specs.Outcome.{TidyLent, wrongOutputs, outputChecks, tidyRefusal, padded, plusZero, tidyLeft, keptOf, tidyBy, tidyOutcome, GivesTidy}
 use Rattle.text.specs.declared.Head.{Head}
 use Rattle.text.specs.declared.Tail.{Tail}
-use Rattle.text.specs.declared.Three.{Three}
-use Rattle.text.specs.Limits.{mostIndices}
-use Rattle.text.specs.TextJob.{TextJob, TextIndices, these, jobText}
+use Rattle.text.specs.TextJob.{these, jobText}
 use Rattle.text.specs.Answering.{answerLine}
 use Rattle.text.specs.Reader.{assembled}
 use Rattle.text_read_job.specs.declared.Asked.{Asked}

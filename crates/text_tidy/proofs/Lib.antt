@@ -3,4 +3,8 @@ mod Within
 mod Line
 mod Held
 mod Passed
-mod Left
+pub mod Left
+mod Lent
+mod Read
+pub mod Given
+pub mod Laws

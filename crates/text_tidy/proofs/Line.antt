@@ -7,7 +7,7 @@ use lib.ListN.{length, length-append}
 use borrow.Author.Tests.{eq-eqb, ne-eqb}
 use Rattle.lists.specs.Put.{Put}
 use Rattle.lists.proofs.Puts.{said}
-use Rattle.text.specs.Words.{bytes, space, lf, decimal, line}
+use Rattle.text.specs.Words.{bytes, space, decimal, line}
 use Rattle.text_write.proofs.Spelled.{short}
 use Rattle.text_tidy.specs.declared.Went.{Went}
 use Rattle.text_tidy.specs.declared.Went.the-variants.{Merged, Dropped}

@@ -13,7 +13,7 @@ use Rattle.text.specs.TextJob.{jobText}
 use Rattle.text_read_job.specs.declared.Asked.{Asked}
 use Rattle.text_read_job.specs.Told.{jobIn}
 use Rattle.lists.proofs.Puts.{said, inside}
-use Rattle.text_tidy.specs.Parts.{keptAsked, keptJob}
+use Rattle.text_tidy.specs.Parts.{keptJob}
 use Rattle.text_tidy.proofs.Within.{within}
 use Rattle.text_tidy.proofs.Held.{patterns, kept-is, kept-fits}
 use Rattle.text_tidy.proofs.kept.put_kept.Statement.{statement}

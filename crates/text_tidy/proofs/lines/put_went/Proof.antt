@@ -1,7 +1,6 @@
 -- `text_tidy::lines::put_went` meets its contract: after i turns the lines of the first i numbers stand there. Assumes nothing.
-use Prim.Native.Nat.{ℕ, _-_}
+use Prim.Native.Nat.{_-_}
 use native.Mathlib.Omega.{arith}
-use mathlib.Core.List.{List}
 use lib.ListN.{length, getD}
 use Rattle.lists.proofs.Puts.{Pieces, no-pieces, pieces-more, pieces-all}
 use Rattle.text_tidy.specs.Tidied.{wentLine}

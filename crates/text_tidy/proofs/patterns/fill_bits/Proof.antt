@@ -1,5 +1,5 @@
 -- `text_tidy::patterns::fill_bits` meets its contract. The invariant: the patterns of the floats below i are there. Assumes nothing.
-use Prim.Native.Nat.{_-_, _≤_}
+use Prim.Native.Nat.{_-_}
 use native.Mathlib.Omega.{arith}
 use mathlib.Core.Path.{_≡_, refl, sym, _∙_}
 use lib.ListN.{length, getD}
