@@ -84,7 +84,7 @@ fn grid_refusal(grid: Grid) -> u32
 }
 
 // The first of 2, 13, 3 and 4 that applies to the mesh, and 0 where none does.
-fn mesh_refusal(vertices: &[f32], topology: Topology, given: Indices, indices: &[u32]) -> u32
+pub fn mesh_refusal(vertices: &[f32], topology: Topology, given: Indices, indices: &[u32]) -> u32
     ensures { λ r. ⌜ r ≡ firstThatApplies (meshChecks (meshOf (now (vertices .entry)) topology given (now (indices .entry)))) ⌝ }
 {
     let wrong = wrong_vertices(vertices);

@@ -13,7 +13,7 @@ use Rattle.picks.proofs.Picks.{select-count}
 
 module _ {A : Type 0} (p : ℕ → Bool) (f : ℕ → List A) (n : ℕ) where
   -- the piece of k where it passes, and nothing else
-  abbrev pub pieceIf : ℕ → List A
+  abbrev pieceIf : ℕ → List A
   pieceIf k = cond (p k) (f k) []
 
   pub joined-picked : (k : ℕ) → k ≤ n → joined pieceIf k ≡ joined (λ i. f (select p n i)) (countBelow p k)

@@ -1,7 +1,8 @@
--- A mesh by hand, tidied by computation. Of its eight vertices 0 and 2 differ in the sign of a zero alone and stay apart, 4 and 7 in z alone,
--- 3 and 5 are copies of 1 (5 is one of 3, too), 6 is used by a dropped triangle only and 7 by none. Of its six triangles 1 has the numbers of
--- 0, merged and wound the other way; 2 has two equal ones, merged, the first and the last; 3 differs from 0 by the sign of that zero, and is
--- kept; 4 repeats 2 and has two equal ones, and its cause is 1; so is that of 5. Two indices are left over, one of no vertex. Assumes nothing.
+-- A mesh by hand, tidied by computation. Of its eight vertices 0 and 2 differ in the sign of a zero alone and stay apart, 4 and 7 in z
+-- alone, 3 and 5 are copies of 1 (5 is one of 3, too), 6 is used by a dropped triangle only and 7 by none. Of its six triangles 1 has the
+-- numbers of 0, merged and wound the other way; 2 has two equal ones, merged, the first and the last; 3 differs from 0 by the sign of that
+-- zero, and is kept; 4 repeats 2 and has two equal ones, and its cause is 1; so is that of 5. Two indices are left over, one of no vertex.
+-- Assumes nothing.
 use mathlib.Core.Path.{_≡_, refl}
 use mathlib.Core.Bool.{true, false}
 use mathlib.Core.List.{[], _∷_}
@@ -59,7 +60,8 @@ unfolding cause least some same bitsAt toBits renumbered twoEqual sameNumbers ta
 causes-scan = refl
 
 tidied-scan : tidied scan ≡ meshOf (o ∷ o ∷ o ∷ i ∷ o ∷ o ∷ -o ∷ o ∷ o ∷ o ∷ i ∷ o ∷ []) TriangleList Given (0 ∷ 1 ∷ 3 ∷ 2 ∷ 1 ∷ 3 ∷ [])
-unfolding tidied least some select countBelow same bitsAt toBits renumbered twoEqual sameNumbers hasNumber table joined each threes triangles
+unfolding tidied least some select countBelow same bitsAt toBits renumbered twoEqual sameNumbers hasNumber table joined each threes
+    triangles
 tidied-scan = refl
 
 counts-scan : (keptVertices scan ≡ 4) × (keptTriangles scan ≡ 2)

@@ -1,22 +1,19 @@
 -- The tidied mesh. Four facts say what it is: how many vertices and triangles it has, which given vertex each vertex is, and which given
 -- triangle, renumbered, each triangle is. What follows speaks of these alone. Selected vertices are their own firsts and ascend, so their
 -- bits are apart; numbers are given one to one, so no test changes: nothing in the tidied mesh has a cause to go. Assumes nothing.
-use Prim.Native.Nat.{ℕ, zero, suc, _+_, _*_, _<_}
-use native.Mathlib.Nat.{add-zero}
+use Prim.Native.Nat.{ℕ, _*_, _<_}
 use native.Mathlib.Omega.{arith}
 use mathlib.Core.Path.{_≡_, refl, sym, ap, ap₂, _∙_}
 use mathlib.Core.Bool.{true, false}
 use mathlib.Core.List.{List}
-use lib.ListN.{length, getD, drop}
-use lib.Seq.{getD-take, getD-drop}
+use lib.ListN.{length}
 use lib.Dec.{ltb}
 use borrow.Author.Tests.{lt-ltb}
-use lib.Ieee.{Float, nan}
-use Rattle.lists.specs.Range.{countBelow}
 use Rattle.lists.proofs.Every.{every-each}
 use Rattle.lists.proofs.Table.{length-table, table-at}
 use Rattle.lists.proofs.Joined.{length-joined, joined-at}
-use Rattle.picks.proofs.Picks.{Picked, picked, select-count, select-up, count-up}
+use Rattle.picks.specs.Picks.{InTurn}
+use Rattle.picks.proofs.Picks.{picked, select-count, count-up, in-turn}
 use Rattle.mesh_topology.specs.declared.Triangle.{Triangle}
 use Rattle.mesh_topology.specs.Topology.{triangle, kth}
 use Rattle.mesh_topology.specs.Refusals.{belowCount}
@@ -26,15 +23,9 @@ use Rattle.mesh.specs.Mesh.{Mesh, vertexCount, trianglesIn}
 use Rattle.tidy.specs.Numbers.{renumbered, twoEqual, sameNumbers, hasNumber}
 use Rattle.tidy.specs.Tidy.{bitsAt, coordinatesAt, vertexTotal, triangleTotal, firstOf, merged, kept, used, numberOf, keptVertices, keptTriangles, vertexFrom, triangleFrom, tidied, tidiedTriangles, tidiedCoordinates}
 use Rattle.tidy.specs.Meaning.{Valid, Stays, Clean}
+use Rattle.tidy.proofs.Coordinates.{coordinates-part, same-bits}
 use Rattle.tidy.proofs.Numbers.{On, on-renumbered, has-renumbered, two-equal-renumbered, same-numbers-renumbered}
 use Rattle.tidy.proofs.Kept.{first, kept-stays, Uses, used-uses, used-first, kept-used, number-apart}
-
--- coordinate d of vertex v
-coordinate : (vs : List Float) (v d : ℕ) → d < 3 → getD (coordinatesAt vs v) d nan ≡ getD vs (3 * v + d) nan
-coordinate vs v zero h = rw add-zero
-coordinate vs v (suc zero) h = refl
-coordinate vs v (suc (suc zero)) h = refl
-coordinate vs v (suc (suc (suc d))) h = absurd (omega arith)
 
 module _ (m : Mesh) where
   -- ---- what it is
@@ -51,23 +42,14 @@ module _ (m : Mesh) where
   pub vertices-long : vertexTotal (tidied m) ≡ keptVertices m
   vertices-long = omega (arith, coordinates-long)
 
-  pub coordinate-of : (i d : ℕ) → i < keptVertices m → d < 3
-      → getD (tidied m .vertices) (3 * i + d) nan ≡ getD (m .vertices) (3 * vertexFrom m i + d) nan
+  pub vertex-of : (i : ℕ) → i < keptVertices m → coordinatesAt (tidied m .vertices) i ≡ coordinatesAt (m .vertices) (vertexFrom m i)
   unfolding tidied tidiedCoordinates
-  coordinate-of i d h l =
-      sym (getD-take 3 (drop (3 * i) (tidiedCoordinates m)) d nan l ∙ getD-drop (3 * i) (tidiedCoordinates m) d nan)
-      ∙ ap (λ (p : List Float). getD p d nan)
-      (joined-at (λ i. coordinatesAt (m .vertices) (vertexFrom m i)) 3 (λ i. refl) (keptVertices m) i h)
-      ∙ coordinate (m .vertices) (vertexFrom m i) d l
-
-  pub vertex-of : (i : ℕ) → i < keptVertices m → bitsAt (tidied m .vertices) i ≡ bitsAt (m .vertices) (vertexFrom m i)
-  unfolding bitsAt
   vertex-of i h =
-      simp (
-        simp add-zero at (coordinate-of i 0 h (omega arith)),
-        coordinate-of i 1 h (omega arith),
-        coordinate-of i 2 h (omega arith),
-      )
+      coordinates-part (tidied m .vertices) i (omega (arith, vertices-long))
+      ∙ joined-at (λ i. coordinatesAt (m .vertices) (vertexFrom m i)) 3 (λ i. refl) (keptVertices m) i h
+
+  pub bits-of : (i : ℕ) → i < keptVertices m → bitsAt (tidied m .vertices) i ≡ bitsAt (m .vertices) (vertexFrom m i)
+  bits-of i h = same-bits (tidied m .vertices) (m .vertices) i (vertexFrom m i) (vertex-of i h)
 
   pub triangles-are : trianglesIn (tidied m) ≡ tidiedTriangles m
   unfolding tidied
@@ -85,21 +67,13 @@ module _ (m : Mesh) where
 
   -- ---- where its vertices and triangles stood
 
-  pub vertex-from : (i : ℕ) → i < keptVertices m → Picked (used m) (vertexTotal m) i (vertexFrom m i)
+  pub vertices-in-turn : InTurn (used m) (vertexTotal m) (keptVertices m) (vertexFrom m)
   unfolding vertexFrom keptVertices
-  vertex-from i l = picked (used m) (vertexTotal m) i l
+  vertices-in-turn = in-turn (used m) (vertexTotal m)
 
-  pub triangle-from : (k : ℕ) → k < keptTriangles m → Picked (kept m) (triangleTotal m) k (triangleFrom m k)
+  pub triangles-in-turn : InTurn (kept m) (triangleTotal m) (keptTriangles m) (triangleFrom m)
   unfolding triangleFrom keptTriangles
-  triangle-from k l = picked (kept m) (triangleTotal m) k l
-
-  pub vertex-up : (i j : ℕ) → i < j → j < keptVertices m → vertexFrom m i < vertexFrom m j
-  unfolding vertexFrom keptVertices
-  vertex-up i j l h = select-up (used m) (vertexTotal m) i j l h
-
-  pub triangle-up : (i j : ℕ) → i < j → j < keptTriangles m → triangleFrom m i < triangleFrom m j
-  unfolding triangleFrom keptTriangles
-  triangle-up i j l h = select-up (kept m) (triangleTotal m) i j l h
+  triangles-in-turn = in-turn (kept m) (triangleTotal m)
 
   -- a used vertex has a number, and the vertex of that number stood where it stands
   pub number-below : (v : ℕ) → v < vertexTotal m → used m v ≡ true → numberOf m v < keptVertices m
@@ -111,24 +85,15 @@ module _ (m : Mesh) where
   from-number v l h = select-count (used m) (vertexTotal m) v l h
 
   pub number-from : (i : ℕ) → i < keptVertices m → numberOf m (vertexFrom m i) ≡ i
-  unfolding numberOf
-  number-from i l = vertex-from i l .before
-
-  -- a kept triangle has a place, and the triangle of that place stood where it stands
-  pub place-below : (k : ℕ) → k < triangleTotal m → kept m k ≡ true → countBelow (kept m) k < keptTriangles m
-  unfolding keptTriangles
-  place-below k l h = count-up (kept m) k (triangleTotal m) l h
-
-  pub from-place : (k : ℕ) → k < triangleTotal m → kept m k ≡ true → triangleFrom m (countBelow (kept m) k) ≡ k
-  unfolding triangleFrom
-  from-place k l h = select-count (kept m) (triangleTotal m) k l h
+  unfolding numberOf vertexFrom keptVertices
+  number-from i l = picked (used m) (vertexTotal m) i l .before
 
   -- each vertex is its own first, and comes after those before it: no two have the same bits
   pub vertices-apart : (i j : ℕ) → i < j → j < keptVertices m → bitsAt (tidied m .vertices) i ≡ bitsAt (tidied m .vertices) j → ⊥
   vertices-apart i j l h e =
       first m (vertexFrom m j) .none-before (vertexFrom m i)
-      (omega (arith, vertex-up i j l h, used-first m (vertexFrom m j) (vertex-from j h .passes)))
-      (sym (vertex-of i (omega arith)) ∙ e ∙ vertex-of j h)
+      (omega (arith, vertices-in-turn .order i j l h, used-first m (vertexFrom m j) (vertices-in-turn .passes j h)))
+      (sym (bits-of i (omega arith)) ∙ e ∙ bits-of j h)
 
   module _ (ok : Valid m) where
     -- ---- the numbers of its triangles
@@ -146,10 +111,10 @@ module _ (m : Mesh) where
     pub had : (k : ℕ) → k < keptTriangles m → On Had (merged m (triangleFrom m k))
     unfolding merged
     had k l =
-        let r = triangle-from k l in
-        let u = kept-used m (triangleFrom m k) (r .below) (r .passes) in
+        let given = triangles-in-turn .below k l in
+        let u = kept-used m (triangleFrom m k) given (triangles-in-turn .passes k l) in
         let b = on-renumbered (λ v. v < vertexTotal m) (λ v. v < vertexTotal m) (firstOf m) (kth (trianglesIn m) (triangleFrom m k))
-        (λ v h. omega (arith, first m v .not-after, h)) (given-below (triangleFrom m k) (r .below)) in
+        (λ v h. omega (arith, first m v .not-after, h)) (given-below (triangleFrom m k) given) in
         record {
           a = record { below = b .a; in-use = u .a };
           b = record { below = b .b; in-use = u .b };
@@ -188,11 +153,11 @@ module _ (m : Mesh) where
           new = λ j k w h. new j k w (omega (arith, triangles-long));
           in-use = λ i h.
               let l : i < keptVertices m = omega (arith, vertices-long) in
-              held i l (used-uses m (vertexFrom m i) (vertex-from i l .passes));
+              held i l (used-uses m (vertexFrom m i) (vertices-in-turn .passes i l));
         }
       where
         stood : (k : ℕ) → k < keptTriangles m → Stays m (triangleFrom m k)
-        stood k l = kept-stays m (triangleFrom m k) (triangle-from k l .passes)
+        stood k l = kept-stays m (triangleFrom m k) (triangles-in-turn .passes k l)
 
         unequal : (k : ℕ) → k < keptTriangles m → twoEqual (kth (trianglesIn (tidied m)) k) ≡ false
         unequal k l =
@@ -206,24 +171,21 @@ module _ (m : Mesh) where
             let i : j < keptTriangles m = omega arith in
             ap₂ sameNumbers (triangle-of j i) (triangle-of k l)
             ∙ same-numbers-renumbered Had (numberOf m) apart (merged m (triangleFrom m j)) (merged m (triangleFrom m k)) (had j i) (had k l)
-            ∙ stood k l .new (triangleFrom m j) (triangle-up j k w l)
+            ∙ stood k l .new (triangleFrom m j) (triangles-in-turn .order j k w l)
 
         -- the kept triangle that has a given vertex has it in its new place, under its new number
         held : (i : ℕ) → i < keptVertices m → Uses m (vertexFrom m i)
             → (k : ℕ) × (k < triangleTotal (tidied m)) × (hasNumber (kth (trianglesIn (tidied m)) k) i ≡ true)
-        held i l u = (at, omega (arith, triangles-long, below), holds)
+        held i l u = go (triangles-in-turn .each (u .at) (u .below) (u .stays))
           where
-            at : ℕ
-            at = countBelow (kept m) (u .at)
-
-            below : at < keptTriangles m
-            below = place-below (u .at) (u .below) (u .stays)
-
-            holds : hasNumber (kth (trianglesIn (tidied m)) at) i ≡ true
-            holds =
-                let r = vertex-from i l in
-                ap₂ hasNumber (triangle-of at below) (sym (number-from i l))
-                ∙ has-renumbered Had (numberOf m) apart (merged m (triangleFrom m at)) (vertexFrom m i) (had at below)
-                (record { below = r .below; in-use = r .passes })
-                ∙ ap (λ (k : ℕ). hasNumber (merged m k) (vertexFrom m i)) (from-place (u .at) (u .below) (u .stays))
-                ∙ u .holds
+            go : (k : ℕ) × (k < keptTriangles m) × (triangleFrom m k ≡ u .at)
+                → (k : ℕ) × (k < triangleTotal (tidied m)) × (hasNumber (kth (trianglesIn (tidied m)) k) i ≡ true)
+            go (k, h, e) = (
+              k,
+              omega (arith, triangles-long, h),
+              ap₂ hasNumber (triangle-of k h) (sym (number-from i l))
+                  ∙ has-renumbered Had (numberOf m) apart (merged m (triangleFrom m k)) (vertexFrom m i) (had k h)
+                  (record { below = vertices-in-turn .below i l; in-use = vertices-in-turn .passes i l })
+                  ∙ ap (λ (j : ℕ). hasNumber (merged m j) (vertexFrom m i)) e
+                  ∙ u .holds,
+            )

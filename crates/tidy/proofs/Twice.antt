@@ -1,64 +1,41 @@
--- A clean mesh loses nothing: each vertex is its own first and used, each triangle is kept, so each keeps its number and its place. The
--- tidied mesh is clean, so tidying it once more gives it again. Assumes nothing.
-use Prim.Native.Nat.{ℕ, suc, _*_, _/_, _<_}
-use native.Mathlib.Numerals.{add-one, add-two}
+-- A clean mesh loses nothing: each vertex is its own first and used, and each triangle is kept. So all that is asked of what it is tidied
+-- to holds of the mesh itself, and there is one outcome. The tidied mesh is clean, so tidying it once more gives it again. Assumes nothing.
+use Prim.Native.Nat.{ℕ, _<_}
 use native.Mathlib.Omega.{arith}
-use mathlib.Core.Path.{_≡_, sym, ap, ap₂, _∙_}
-use mathlib.Core.Bool.{true}
-use mathlib.Core.List.{List}
-use lib.ListN.{length, take, drop}
-use lib.Seq.{drop-cons, take-all}
-use lib.Ieee.{Float, nan}
-use Rattle.lists.proofs.Table.{is-table, table-same, table-replicate}
-use Rattle.lists.proofs.Joined.{joined-same, joined-parts}
-use Rattle.picks.proofs.Picks.{count-all, select-all}
+use mathlib.Core.Path.{_≡_, refl, sym, ap, ap₂, _∙_}
+use mathlib.Core.Bool.{Bool, true}
+use Rattle.lists.proofs.Table.{table-same, table-replicate}
+use Rattle.picks.specs.Picks.{InTurn}
+use Rattle.picks.proofs.Picks.{count-all}
 use Rattle.mesh_topology.specs.declared.Triangle.{Triangle}
-use Rattle.mesh_topology.specs.declared.Topology.the-variants.{TriangleList}
-use Rattle.mesh_topology.specs.declared.Indices.the-variants.{Given}
-use Rattle.mesh_topology.specs.Topology.{triangle, kth}
-use Rattle.mesh_explicit.specs.Explicit.{explicit}
-use Rattle.mesh.specs.Mesh.{Mesh, meshOf, trianglesIn}
-use Rattle.tidy.specs.Numbers.{renumbered, twoEqual, sameNumbers, hasNumber}
-use Rattle.tidy.specs.Tidy.{coordinatesAt, vertexTotal, triangleTotal, firstOf, merged, cause, kept, used, numberOf, keptVertices, keptTriangles, vertexFrom, triangleFrom, tidiedCoordinates, tidiedTriangles, tidied}
-use Rattle.tidy.specs.Meaning.{Valid, Clean, NothingGoes}
+use Rattle.mesh_topology.specs.Topology.{kth}
+use Rattle.mesh.specs.Mesh.{Mesh, trianglesIn}
+use Rattle.tidy.specs.Numbers.{twoEqual, sameNumbers, hasNumber}
+use Rattle.tidy.specs.Tidy.{vertexTotal, triangleTotal, firstOf, merged, cause, kept, used, keptVertices, keptTriangles, tidied}
+use Rattle.tidy.specs.Meaning.{Valid, Clean, Retained, Squeezed, ByIndices, NothingGoes}
 use Rattle.tidy.proofs.Numbers.{on-of, renumbered-stays}
 use Rattle.tidy.proofs.Kept.{first-own, stays-kept, kept-cause, uses-used}
-use Rattle.tidy.proofs.Tidied.{given-below, coordinates-long, triangles-are, tidied-valid, clean}
-
--- the coordinates of vertex v are its three of the row
-coordinates-part : (vs : List Float) (v : ℕ) → v < length vs / 3 → coordinatesAt vs v ≡ take 3 (drop (3 * v) vs)
-coordinates-part vs v h =
-    rw (
-      add-one,
-      add-two,
-      drop-cons vs (3 * v) nan (omega arith),
-      drop-cons vs (suc (3 * v)) nan (omega arith),
-      drop-cons vs (suc (suc (3 * v))) nan (omega arith),
-    )
+use Rattle.tidy.proofs.Tidied.{vertices-long, triangles-long, given-below, tidied-valid, clean}
+use Rattle.tidy.proofs.One.{by-indices, one-outcome}
 
 module _ (m : Mesh) (ok : Valid m) (c : Clean m) where
-  -- a renumbering that leaves each vertex leaves each triangle
-  stays : (f : ℕ → ℕ) → ((v : ℕ) → v < vertexTotal m → f v ≡ v) → (k : ℕ) → k < triangleTotal m
-      → renumbered f (kth (trianglesIn m) k) ≡ kth (trianglesIn m) k
-  stays f h k l =
-      renumbered-stays f (kth (trianglesIn m) k)
-      (on-of (λ v. v < vertexTotal m) (λ v. f v ≡ v) (kth (trianglesIn m) k) h (given-below m ok k l))
-
-  firsts-own : (v : ℕ) → v < vertexTotal m → firstOf m v ≡ v
+  pub firsts-own : (v : ℕ) → v < vertexTotal m → firstOf m v ≡ v
   firsts-own v h = first-own m v (λ w l e. c .apart w v l h e)
 
   merged-own : (k : ℕ) → k < triangleTotal m → merged m k ≡ kth (trianglesIn m) k
   unfolding merged
-  merged-own k l = stays (firstOf m) firsts-own k l
+  merged-own k l =
+      let t = kth (trianglesIn m) k in
+      renumbered-stays (firstOf m) t (on-of (λ v. v < vertexTotal m) (λ v. firstOf m v ≡ v) t firsts-own (given-below m ok k l))
 
-  all-kept : (k : ℕ) → k < triangleTotal m → kept m k ≡ true
+  pub all-kept : (k : ℕ) → k < triangleTotal m → kept m k ≡ true
   all-kept k l =
       stays-kept m k (record {
         unequal = ap twoEqual (merged-own k l) ∙ c .unequal k l;
         new = λ j w. ap₂ sameNumbers (merged-own j (omega arith)) (merged-own k l) ∙ c .new j k w l;
       })
 
-  all-used : (v : ℕ) → v < vertexTotal m → used m v ≡ true
+  pub all-used : (v : ℕ) → v < vertexTotal m → used m v ≡ true
   all-used v l =
       let u = c .in-use v l in
       uses-used m v (record {
@@ -67,10 +44,6 @@ module _ (m : Mesh) (ok : Valid m) (c : Clean m) where
         stays = all-kept (u .0) (u .1);
         holds = ap (λ (t : Triangle). hasNumber t v) (merged-own (u .0) (u .1)) ∙ u .2;
       })
-
-  numbers-own : (v : ℕ) → v < vertexTotal m → numberOf m v ≡ v
-  unfolding numberOf
-  numbers-own v l = count-all (used m) v (λ i w. all-used i (omega arith))
 
   pub nothing-goes : NothingGoes m
   unfolding keptVertices keptTriangles
@@ -83,25 +56,23 @@ module _ (m : Mesh) (ok : Valid m) (c : Clean m) where
         triangles-stay = count-all (kept m) (triangleTotal m) all-kept;
       }
 
-  -- its triangles are the given ones, and so are its coordinates, where none is left over
-  pub same-triangles : tidiedTriangles m ≡ trianglesIn m
-  unfolding tidiedTriangles triangleFrom
-  same-triangles =
-      sym (is-table (triangle 0 0 0) (λ k. renumbered (numberOf m) (merged m (triangleFrom m k))) (keptTriangles m) (trianglesIn m)
-      (sym (nothing-goes .triangles-stay)) (λ k h.
-      let l : k < triangleTotal m = omega (arith, nothing-goes .triangles-stay) in
-      sym (ap (λ (j : ℕ). renumbered (numberOf m) (merged m j)) (select-all (kept m) (triangleTotal m) k all-kept l)
-      ∙ ap (renumbered (numberOf m)) (merged-own k l)
-      ∙ stays (numberOf m) numbers-own k l)))
+  -- so it is what it is tidied to, where it is given as that is: a list with indices, and nothing left over
+  pub clean-stays : ByIndices m → tidied m ≡ m
+  clean-stays form = sym (one-outcome m m ok (record { by-indices = form; valid = ok; retained = retained; squeezed = squeezed }))
+    where
+      own : (p : ℕ → Bool) (n : ℕ) → ((i : ℕ) → i < n → p i ≡ true) → InTurn p n n (λ i. i)
+      own p n h = record { below = λ i l. l; passes = h; order = λ i j w l. w; each = λ j l e. (j, l, refl) }
 
-  pub same-coordinates : length (m .vertices) ≡ 3 * vertexTotal m → tidiedCoordinates m ≡ m .vertices
-  unfolding tidiedCoordinates vertexFrom
-  same-coordinates whole =
-      joined-same (λ i. coordinatesAt (m .vertices) (vertexFrom m i)) (λ i. take 3 (drop (3 * i) (m .vertices))) (keptVertices m) (λ i h.
-      let l : i < vertexTotal m = omega (arith, nothing-goes .vertices-stay) in
-      ap (coordinatesAt (m .vertices)) (select-all (used m) (vertexTotal m) i all-used l) ∙ coordinates-part (m .vertices) i l)
-      ∙ joined-parts 3 (keptVertices m) (m .vertices)
-      ∙ take-all (3 * keptVertices m) (m .vertices) (omega (arith, nothing-goes .vertices-stay))
+      retained : Retained m m
+      retained =
+          record {
+            from = λ k. k;
+            order = own (kept m) (triangleTotal m) all-kept;
+            corners = λ k l. record { a = refl; b = refl; c = refl };
+          }
+
+      squeezed : Squeezed m m
+      squeezed = record { from = λ v. v; order = own (used m) (vertexTotal m) all-used; coordinates = λ v l. refl }
 
 -- ---- the tidied mesh
 
@@ -110,9 +81,9 @@ module _ (m : Mesh) (ok : Valid m) where
   pub nothing-more : NothingGoes (tidied m)
   nothing-more = nothing-goes (tidied m) (tidied-valid m ok) (clean m ok)
 
+  -- both counts are what they were
+  pub counts-stay : (keptVertices (tidied m) ≡ keptVertices m) × (keptTriangles (tidied m) ≡ keptTriangles m)
+  counts-stay = (nothing-more .vertices-stay ∙ vertices-long m, nothing-more .triangles-stay ∙ triangles-long m)
+
   pub twice : tidied (tidied m) ≡ tidied m
-  unfolding tidied
-  twice =
-      ap₂ (λ (vs : List Float) (ts : List Triangle). meshOf vs TriangleList Given (explicit ts))
-      (same-coordinates (tidied m) (tidied-valid m ok) (clean m ok) (omega (arith, coordinates-long m)))
-      (same-triangles (tidied m) (tidied-valid m ok) (clean m ok) ∙ triangles-are m)
+  twice = clean-stays (tidied m) (tidied-valid m ok) (clean m ok) (by-indices m)

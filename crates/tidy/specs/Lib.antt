@@ -3,3 +3,4 @@ pub mod Numbers
 pub mod Tidy
 pub mod Ascending
 pub mod Meaning
+pub mod Padded

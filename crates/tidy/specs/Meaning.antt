@@ -1,17 +1,22 @@
 -- "Prove: nothing that has such a cause to go is kept, kept triangles retain their corner bits and order, each dropped one is listed with a
--- true cause, and tidying twice changes nothing." (document 02, §10): what each of these says. proofs/Laws.antt has that they hold of every
--- mesh that refusal 4 leaves. Definitions only.
-use Prim.Native.Nat.{ℕ, _≤_, _<_}
+-- true cause, and tidying twice changes nothing." (document 02, §10): what each of these says. They are proved of every mesh that refusal 4
+-- leaves: `clean` (proofs/Tidied.antt), `retained`, `squeezed`, `firsts-true`, `causes-true` (Laws), `twice`, `nothing-more` (Twice), and
+-- `one-outcome` (One). Definitions only.
+use Prim.Native.Nat.{ℕ, _*_, _≤_, _<_}
 use mathlib.Core.Path.{_≡_}
 use mathlib.Core.Bool.{true, false}
-use lib.ListN.{replicate}
+use lib.ListN.{length, replicate}
 use Rattle.lists.specs.Table.{table}
+use Rattle.picks.specs.Picks.{InTurn}
 use Rattle.mesh_topology.specs.declared.Triangle.{Triangle}
+use Rattle.mesh_topology.specs.declared.Topology.the-variants.{TriangleList}
+use Rattle.mesh_topology.specs.declared.Indices.the-variants.{Given}
 use Rattle.mesh_topology.specs.Topology.{kth}
 use Rattle.mesh_topology.specs.Refusals.{allBelowCount}
+use Rattle.mesh_explicit.specs.Explicit.{explicit}
 use Rattle.mesh.specs.Mesh.{Mesh, trianglesIn}
 use Rattle.tidy.specs.Numbers.{twoEqual, sameNumbers, hasNumber}
-use Rattle.tidy.specs.Tidy.{bitsAt, vertexTotal, triangleTotal, merged, cause, used, keptVertices, keptTriangles, firsts, causes}
+use Rattle.tidy.specs.Tidy.{bitsAt, coordinatesAt, vertexTotal, triangleTotal, merged, kept, used, keptVertices, keptTriangles, firsts, causes}
 
 -- what refusal 4 leaves: each number of a triangle is a vertex's
 abbrev pub Valid : Mesh → Type 0
@@ -64,24 +69,28 @@ pub record SameCorners (m : Mesh) (s : Triangle) (n : Mesh) (t : Triangle) : Typ
   pub b : bitsAt (n .vertices) (t .b) ≡ bitsAt (m .vertices) (s .b)
   pub c : bitsAt (n .vertices) (t .c) ≡ bitsAt (m .vertices) (s .c)
 
--- the triangles of n are those of m that are kept, in their order
+-- the triangles of n are those of m that are kept, in their order: triangle k of n is triangle `from k` of m
 pub record Retained (m n : Mesh) : Type 0 where
-  -- which triangle of m is triangle k of n
   pub from : ℕ → ℕ
-  pub given : (k : ℕ) → k < triangleTotal n → from k < triangleTotal m
-  pub kept : (k : ℕ) → k < triangleTotal n → cause m (from k) ≡ 0
+  pub order : InTurn (kept m) (triangleTotal m) (triangleTotal n) from
   pub corners : (k : ℕ) → k < triangleTotal n → SameCorners m (kth (trianglesIn m) (from k)) n (kth (trianglesIn n) k)
-  pub order : (j k : ℕ) → j < k → k < triangleTotal n → from j < from k
-  pub each : (k : ℕ) → k < triangleTotal m → cause m k ≡ 0 → (j : ℕ) × (j < triangleTotal n) × (from j ≡ k)
 
--- and its vertices those of m that are used, in theirs
+-- ---- "squeezes out unused vertices"
+
+-- the vertices of n are those of m that are used, in their order
 pub record Squeezed (m n : Mesh) : Type 0 where
   pub from : ℕ → ℕ
-  pub given : (v : ℕ) → v < vertexTotal n → from v < vertexTotal m
-  pub in-use : (v : ℕ) → v < vertexTotal n → used m (from v) ≡ true
-  pub bits : (v : ℕ) → v < vertexTotal n → bitsAt (n .vertices) v ≡ bitsAt (m .vertices) (from v)
-  pub order : (v w : ℕ) → v < w → w < vertexTotal n → from v < from w
-  pub each : (v : ℕ) → v < vertexTotal m → used m v ≡ true → (w : ℕ) × (w < vertexTotal n) × (from w ≡ v)
+  pub order : InTurn (used m) (vertexTotal m) (vertexTotal n) from
+  pub coordinates : (v : ℕ) → v < vertexTotal n → coordinatesAt (n .vertices) v ≡ coordinatesAt (m .vertices) (from v)
+
+-- ---- "with explicit indices"
+
+-- a list with indices; no index and no coordinate is left over
+pub record ByIndices (m : Mesh) : Type 0 where
+  pub is-list : m .topology ≡ TriangleList
+  pub has-indices : m .given ≡ Given
+  pub no-index-over : m .indices ≡ explicit (trianglesIn m)
+  pub no-coordinate-over : length (m .vertices) ≡ 3 * vertexTotal m
 
 -- ---- "tidying twice changes nothing"
 
@@ -91,3 +100,12 @@ pub record NothingGoes (m : Mesh) : Type 0 where
   pub none-dropped : causes m ≡ replicate (triangleTotal m) 0
   pub vertices-stay : keptVertices m ≡ vertexTotal m
   pub triangles-stay : keptTriangles m ≡ triangleTotal m
+
+-- ---- one outcome
+
+-- all that is asked of what m is tidied to. No other mesh is this (`one-outcome`).
+pub record IsTidied (m n : Mesh) : Type 0 where
+  pub by-indices : ByIndices n
+  pub valid : Valid n
+  pub retained : Retained m n
+  pub squeezed : Squeezed m n

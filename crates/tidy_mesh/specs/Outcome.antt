@@ -1,19 +1,22 @@
 -- What tidying a mesh comes to as a call (document 02, §10): "Refusals: 2, 13, 3, 4, then 5 for lent lengths, all before any change";
 -- "Both kept counts are returned. Lent outputs: coordinates as given, three indices a triangle, tails zero; a u32 a vertex (its first) and
 -- a triangle (0 kept, or the cause)." It is one function of the mesh and of the outputs as they are lent. Definitions only.
-use Prim.Native.Nat.{ℕ, zero, suc, _*_, _-_}
+use Prim.Native.Nat.{ℕ, zero, suc, _*_, _%_, _≤_}
 use mathlib.Core.Path.{_≡_}
 use mathlib.Core.Bool.{Bool, not, _||_}
 use mathlib.Core.List.{List, [], _∷_, _++_}
 use lib.Dec.{eqb}
-use lib.ListN.{length, replicate}
-use lib.Ieee.{Float, binary32, ofBits}
+use lib.ListN.{length}
+use lib.Ieee.{Float}
 use Rattle.lists.specs.Checks.{Check, firstThatApplies}
 use Rattle.mesh.specs.Mesh.{Mesh}
 use Rattle.mesh_explicit.specs.Explicit.{explicit}
 use Rattle.job_checks.specs.Refusals.{meshChecks}
+use Rattle.tidy.specs.Padded.{padded, plusZero}
 use Rattle.tidy.specs.Tidy.{vertexTotal, triangleTotal, keptVertices, keptTriangles, tidiedCoordinates, tidiedTriangles, firsts, causes}
+use Rattle.tidy.specs.Meaning.{Valid}
 use Rattle.tidy_mesh.specs.declared.Kept.{Kept}
+use Rattle.tidy_mesh.specs.declared.Outputs.{Outputs}
 use Rattle.tidy_mesh.specs.declared.TidyAnswer.{TidyAnswer}
 use Rattle.tidy_mesh.specs.declared.TidyAnswer.the-variants.{Refused, Tidied}
 
@@ -29,30 +32,32 @@ tidyLentOf coordinates indices firsts causes = record { coordinates = coordinate
 
 -- ---- the refusals
 
--- 5: coordinates not as many as given, indices not three a triangle, firsts not one a vertex, causes not one a triangle
-abbrev pub wrongOutputs : Mesh → TidyLent → Bool
-wrongOutputs m b =
-    not (eqb (length (b .coordinates)) (length (m .vertices)))
-    || not (eqb (length (b .indices)) (3 * triangleTotal m))
-    || not (eqb (length (b .firsts)) (vertexTotal m))
-    || not (eqb (length (b .causes)) (triangleTotal m))
+-- how long they are
+abbrev pub outputsOf : TidyLent → Outputs
+outputsOf b =
+    record {
+      coordinates = length (b .coordinates);
+      indices = length (b .indices);
+      firsts = length (b .firsts);
+      causes = length (b .causes);
+    }
 
-abbrev pub outputChecks : Mesh → TidyLent → List Check
-outputChecks m b = record { applies = wrongOutputs m b; number = 5 } ∷ []
+-- 5: coordinates not as many as given, indices not three a triangle, firsts not one a vertex, causes not one a triangle
+abbrev pub wrongOutputs : Mesh → Outputs → Bool
+wrongOutputs m l =
+    not (eqb (l .coordinates) (length (m .vertices)))
+    || not (eqb (l .indices) (3 * triangleTotal m))
+    || not (eqb (l .firsts) (vertexTotal m))
+    || not (eqb (l .causes) (triangleTotal m))
 
 -- "2, 13, 3, 4", which are the job's own checks of a mesh, "then 5"
+abbrev pub tidyChecks : Mesh → TidyLent → List Check
+tidyChecks m b = meshChecks m ++ record { applies = wrongOutputs m (outputsOf b); number = 5 } ∷ []
+
 unfoldable pub tidyRefusal : Mesh → TidyLent → ℕ
-tidyRefusal m b = firstThatApplies (meshChecks m ++ outputChecks m b)
+tidyRefusal m b = firstThatApplies (tidyChecks m b)
 
 -- ---- the outcome
-
--- "tails zero": l, and the zero behind it to a length of n
-abbrev pub padded : {A : Type 0} → A → ℕ → List A → List A
-padded z n l = l ++ replicate (n - length l) z
-
--- +0, whose bits are all 0
-abbrev pub plusZero : Float
-plusZero = ofBits binary32 0
 
 abbrev pub tidyLeft : Mesh → TidyLent
 tidyLeft m =
@@ -100,3 +105,15 @@ pub record GivesTidy (o : TidyOutcome) (answer : TidyAnswer) (left : TidyLent) :
   pub vertices : verticesKept answer ≡ verticesKept (o .answer)
   pub triangles : trianglesKept answer ≡ trianglesKept (o .answer)
   pub leaves : left ≡ o .left
+
+-- ---- between the functions: what is known of a mesh that is tidied, and of the lent outputs
+
+pub record Tidyable (m : Mesh) (b : TidyLent) : Type 0 where
+  pub valid : Valid m
+  pub threes : length (m .vertices) % 3 ≡ 0
+  pub few-vertices : vertexTotal m ≤ 393216
+  pub few-triangles : triangleTotal m ≤ 131072
+  pub coordinates : length (b .coordinates) ≡ length (m .vertices)
+  pub indices : length (b .indices) ≡ 3 * triangleTotal m
+  pub firsts : length (b .firsts) ≡ vertexTotal m
+  pub causes : length (b .causes) ≡ triangleTotal m

@@ -1,0 +1,2 @@
+-- What the parts leave, in the words of the tidied mesh.
+pub mod Agree
