@@ -22,7 +22,7 @@ use Rattle.mesh_topology.specs.declared.Indices.the-variants.{Given}
 use Rattle.mesh.specs.Mesh.{Mesh, meshOf}
 use Rattle.tidy.specs.declared.Three.{Three as Bits}
 use Rattle.tidy.specs.Tidy.{bitsAt, vertexTotal, keptVertices, vertexFrom, tidied}
-use Rattle.tidy.proofs.Tidied.{coordinates-long, vertex-of, vertex-from}
+use Rattle.tidy.proofs.Tidied.{coordinates-long, bits-of, vertices-in-turn}
 use Rattle.tidy.proofs.Again.{coordinates-pass}
 use Rattle.text.specs.declared.Three.{Three}
 use Rattle.text.specs.TextJob.{TextJob, Word, Words, All, Readable, flat}
@@ -126,8 +126,8 @@ module _ (j : TextJob) (r : Readable j) (z : meshRefusal (meshAsked j) ≡ 0) wh
   pub vertices-as-given : (d : Three) → tidiedJob j .vertices ≡ table (λ i. getD (j .vertices) (vertexFrom m i) d) (keptVertices m)
   vertices-as-given d =
       table-same (vertexSaid (tidied m .vertices)) (λ i. getD (j .vertices) (vertexFrom m i) d) (keptVertices m) (λ i h.
-      ap (λ (b : Bits). three (b .a) (b .b) (b .c)) (vertex-of m i h)
-      ∙ said-back d (vertexFrom m i) (omega (arith, vertex-from m i h .below, vertices-counted)))
+      ap (λ (b : Bits). three (b .a) (b .b) (b .c)) (bits-of m i h)
+      ∙ said-back d (vertexFrom m i) (omega (arith, vertices-in-turn m .below i h, vertices-counted)))
 
   -- as a row they are the bits of the tidied coordinates
   tidied-row : flat (tidiedJob j .vertices) ≡ bitsOf (tidied m .vertices)

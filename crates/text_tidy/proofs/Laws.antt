@@ -16,17 +16,18 @@ use Rattle.mesh_topology.specs.declared.Triangle.{Triangle}
 use Rattle.mesh_topology.specs.Topology.{kth}
 use Rattle.mesh_explicit.specs.Explicit.{explicit}
 use Rattle.mesh_explicit.proofs.Laws.{explicit-long}
-use Rattle.mesh.specs.Mesh.{Mesh, trianglesIn}
+use Rattle.mesh.specs.Mesh.{Mesh, meshOf, trianglesIn}
+use Rattle.float_bits.specs.Patterns.{floatsOf}
 use Rattle.grid_axis.specs.AxisBounds.{isCoordinate}
 use Rattle.job_checks.specs.Refusals.{meshChecks}
 use Rattle.tidy.specs.Meaning.{NothingGoes}
 use Rattle.tidy.specs.Tidy.{vertexTotal, triangleTotal, firstOf, cause, keptVertices, keptTriangles, vertexFrom, tidiedTriangles, tidied}
 use Rattle.tidy.proofs.Numbers.{On, on-of}
-use Rattle.tidy.proofs.Tidied.{vertices-long, triangles-are, triangles-long, vertex-from, tidied-below, tidied-valid}
+use Rattle.tidy.proofs.Tidied.{triangles-are, triangles-long, vertices-in-turn, tidied-below, tidied-valid}
 use Rattle.tidy.proofs.Again.{no-more-vertices, no-more-triangles, vertices-fit, by-threes, coordinates-pass, is-list, triangles-fit}
-use Rattle.tidy.proofs.Twice.{nothing-more, twice}
+use Rattle.tidy.proofs.Twice.{nothing-more, counts-stay, twice}
 use Rattle.text.specs.Limits.{mostVertices, mostIndices}
-use Rattle.text.specs.TextJob.{TextJob, Word, Words, All, IndicesFit, Readable, indexList, givenOf, jobText, these}
+use Rattle.text.specs.TextJob.{TextJob, Word, Words, All, IndicesFit, Readable, indexList, givenOf, flat, jobText, these}
 use Rattle.text.specs.Reader.{three, assembled}
 use Rattle.text.proofs.Job.{one-job}
 use Rattle.text_tidy.specs.declared.Went.{Went}
@@ -49,6 +50,11 @@ one-tidying o p (no-job n u) (no-job l v) = u ∙ sym v
 -- "Refusals: 2, 13, 3, 4": no other number is printed for a job. (5 is `never-five` in Left.)
 pub refused-by : (m : Mesh) → (meshRefusal m ≡ 0) ⊎ List·Memᴰ (meshRefusal m) (2 ∷ 13 ∷ 3 ∷ 4 ∷ [])
 refused-by m = first-is (meshChecks m)
+
+-- No grid is looked at: what is printed but for the other lines goes by the mesh alone, and jobs of one topology, with the same vertices and
+-- indices, have one mesh, whatever their grids.
+pub grid-not-asked : (j k : TextJob) → j .head .topology ≡ k .head .topology → j .vertices ≡ k .vertices → j .indices ≡ k .indices → meshAsked j ≡ meshAsked k
+grid-not-asked j k t vs is = λ i. meshOf (floatsOf (flat (vs i))) (t i) (givenOf (is i)) (indexList (is i))
 
 -- ---- of the tidied job
 
@@ -104,7 +110,7 @@ module _ (j : TextJob) (r : Readable j) (z : meshRefusal (meshAsked j) ≡ 0) wh
           few = omega (arith, length-table (vertexSaid (tidied m .vertices)) (keptVertices m), few-kept);
           fit = subst (All Words) (sym (vertices-as-given j r z d))
               (table-all Words (λ i. getD (j .vertices) (vertexFrom m i) d) (keptVertices m) (λ i h.
-              all-at Words d (j .vertices) (vertexFrom m i) (r .vertices-fit .fit) (omega (arith, vertex-from m i h .below, vertices-counted j r z))));
+              all-at Words d (j .vertices) (vertexFrom m i) (r .vertices-fit .fit) (omega (arith, vertices-in-turn m .below i h, vertices-counted j r z))));
         };
         indices-fit = indices-fit;
         tail-fits = r .tail-fits;
@@ -149,7 +155,7 @@ module _ (j : TextJob) (r : Readable j) (z : meshRefusal (meshAsked j) ≡ 0) wh
       let m = meshAsked j in
       let ok = passed m z .indices in
       let again = ap (λ (n : Mesh). tidiedBy (j .head) n (j .tail)) (asks-for-tidied j r z) in
-      let count = nothing-more m ok .vertices-stay ∙ vertices-long m in
+      let count = counts-stay m ok .0 in
       again ∙ (λ i. assembled (j .head) (table (vertexSaid (twice m ok i .vertices)) (count i)) (these (twice m ok i .indices)) (j .tail))
 
   -- its text is printed as it is, with no merge and no drop

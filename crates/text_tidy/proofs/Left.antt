@@ -5,12 +5,13 @@ use native.Mathlib.Decide.{ℕ-discrete}
 use native.Mathlib.Omega.{arith}
 use mathlib.Core.Path.{_≡_, refl, sym, ap, ap₂, _∙_}
 use mathlib.Core.Bool.{Bool, true, false, cond}
-use mathlib.Core.List.{List, _++_}
+use mathlib.Core.List.{List, [], _∷_, _++_}
 use lib.ListN.{length, getD, take, replicate, length-append, length-replicate, List·getD-append}
 use lib.Seq.{take-at}
 use lib.Ieee.{Float, nan}
 use borrow.Author.Tests.{eq-eqb}
 use Rattle.lists.specs.Table.{table}
+use Rattle.lists.specs.Checks.{Check}
 use Rattle.lists.proofs.Checks.{past-group, by-group}
 use Rattle.lists.proofs.Joined.{joined-same}
 use Rattle.lists.proofs.Table.{length-table, table-at, table-same}
@@ -20,6 +21,7 @@ use Rattle.mesh_explicit.proofs.Laws.{explicit-long}
 use Rattle.mesh.specs.Mesh.{Mesh}
 use Rattle.job_checks.specs.Refusals.{meshChecks}
 use Rattle.picks.specs.Picks.{some}
+use Rattle.tidy.specs.Padded.{padded, plusZero}
 use Rattle.tidy.specs.Numbers.{twoEqual, sameNumbers}
 use Rattle.tidy.specs.Tidy.{bitsAt, vertexTotal, triangleTotal, firstOf, merged, cause, keptVertices, keptTriangles, tidiedCoordinates, tidiedTriangles, tidied}
 use Rattle.tidy.proofs.Kept.{first}
@@ -28,7 +30,7 @@ use Rattle.tidy.proofs.Again.{no-more-vertices, no-more-triangles}
 use Rattle.tidy_mesh.specs.declared.Kept.{Kept}
 use Rattle.tidy_mesh.specs.declared.TidyAnswer.{TidyAnswer}
 use Rattle.tidy_mesh.specs.declared.TidyAnswer.the-variants.{Refused, Tidied}
-use Rattle.tidy_mesh.specs.Outcome.{TidyLent, wrongOutputs, outputChecks, tidyRefusal, padded, plusZero, tidyLeft, keptOf, tidyBy, tidyOutcome, GivesTidy}
+use Rattle.tidy_mesh.specs.Outcome.{TidyLent, outputsOf, wrongOutputs, tidyRefusal, tidyLeft, keptOf, tidyBy, tidyOutcome, GivesTidy}
 use Rattle.text.specs.declared.Head.{Head}
 use Rattle.text.specs.declared.Tail.{Tail}
 use Rattle.text.specs.TextJob.{these, jobText}
@@ -128,18 +130,21 @@ module _ (m : Mesh) where
 -- ---- the answer
 
 module _ {m : Mesh} {lent : TidyLent} {out : List ℕ} (r : RightlyLent m lent out) where
-  right-lengths : wrongOutputs m lent ≡ false
+  right-lengths : wrongOutputs m (outputsOf lent) ≡ false
   right-lengths =
       rw (eq-eqb _ _ (r .coordinates-long), eq-eqb _ _ (r .indices-long), eq-eqb _ _ (r .firsts-long), eq-eqb _ _ (r .causes-long))
 
   -- "then 5 for lent lengths", which are right
+  abbrev lengths : List Check
+  lengths = record { applies = wrongOutputs m (outputsOf lent); number = 5 } ∷ []
+
   pub never-five : tidyRefusal m lent ≡ meshRefusal m
   unfolding tidyRefusal
   never-five = by (ℕ-discrete (meshRefusal m) 0)
     where
       by : Dec (meshRefusal m ≡ 0) → tidyRefusal m lent ≡ meshRefusal m
-      by (yes z) = past-group (meshChecks m) (outputChecks m lent) (omega arith) z ∙ ap (λ (b : Bool). cond b 5 0) right-lengths ∙ sym z
-      by (no z) = by-group (meshChecks m) (outputChecks m lent) z
+      by (yes z) = past-group (meshChecks m) lengths (omega arith) z ∙ ap (λ (b : Bool). cond b 5 0) right-lengths ∙ sym z
+      by (no z) = by-group (meshChecks m) lengths z
 
   module _ {answer : TidyAnswer} {left : TidyLent} (g : GivesTidy (tidyOutcome m lent) answer left) where
     answers-so : answer ≡ tidyBy (meshRefusal m) m lent .answer

@@ -31,7 +31,7 @@ abbrev pub meshAsked : TextJob → Mesh
 meshAsked j = askedJob j .mesh
 
 -- "Refusals: 2, 13, 3, 4", the job's own checks of a mesh: the first that applies, and 0 where none does. 5, "for lent lengths", cannot come,
--- since the program lends the right ones (`never-five`, proofs/Laws.antt).
+-- since the program lends the right ones (`never-five`, proofs/Left.antt).
 abbrev pub meshRefusal : Mesh → ℕ
 meshRefusal m = firstThatApplies (meshChecks m)
 
