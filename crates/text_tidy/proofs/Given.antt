@@ -1,5 +1,5 @@
--- The vertices of the tidied job are given ones, bit for bit, and its mesh is the tidied mesh. For a pattern that stands for no NaN is the pattern of
--- its float, and a float for which a pattern stands is the float of its pattern. Assumes nothing.
+-- The vertices of the tidied job are given ones, bit for bit, and its mesh is the tidied mesh. For a pattern that stands for no NaN is the
+-- pattern of its float, and a float for which a pattern stands is the float of its pattern. Assumes nothing.
 use Prim.Native.Nat.{ℕ, zero, suc, _+_, _*_, _<_}
 use native.Mathlib.Omega.{arith}
 use native.Mathlib.Nat.{not-suc-le-zero, le-of-suc-le-suc}
@@ -51,7 +51,8 @@ pattern-back : (l : List ℕ) (i : ℕ) → i < length l → Word (getD l i 0) �
     → toBits binary32 (getD (floatsOf l) i nan) ≡ getD l i 0
 pattern-back l i h w c =
     let e : getD (floatsOf l) i nan ≡ ofBits binary32 (getD l i 0) =
-    getD-any (floatsOf l) i nan (ofBits binary32 0) (omega (arith, length-map l (ofBits binary32))) ∙ List·getD-map (ofBits binary32) l i 0 in
+    getD-any (floatsOf l) i nan (ofBits binary32 0) (omega (arith, length-map l (ofBits binary32)))
+    ∙ List·getD-map (ofBits binary32) l i 0 in
     ap (toBits binary32) e
     ∙ toBits-ofBits binary32 (getD l i 0) w (subst (λ (x : Float). T (not (isNan x))) e (no-nan (getD (floatsOf l) i nan) c))
 
@@ -69,7 +70,8 @@ floats-back (x ∷ l) h =
 floats-fit : (l : List ℕ) → every (fits binary32) (floatsOf l) ≡ true
 unfolding every
 floats-fit [] = refl
-floats-fit (b ∷ l) = ap₂ (λ (p : Bool) (q : Bool). p && q) (is-true (fits binary32 (ofBits binary32 b)) (ofBits-fits binary32 b)) (floats-fit l)
+floats-fit (b ∷ l) =
+    ap₂ (λ (p : Bool) (q : Bool). p && q) (is-true (fits binary32 (ofBits binary32 b)) (ofBits-fits binary32 b)) (floats-fit l)
 
 -- ---- the vertices of a text, by their numbers
 
@@ -142,6 +144,7 @@ module _ (j : TextJob) (r : Readable j) (z : meshRefusal (meshAsked j) ≡ 0) wh
   pub asks-for-tidied : meshAsked (tidiedJob j) ≡ tidied m
   unfolding tidied
   asks-for-tidied =
-      let vs = ap floatsOf tidied-row ∙ floats-back (tidied m .vertices) (coordinates-pass m (fits binary32) (floats-fit (flat (j .vertices)))) in
+      let fit = coordinates-pass m (fits binary32) (floats-fit (flat (j .vertices))) in
+      let vs = ap floatsOf tidied-row ∙ floats-back (tidied m .vertices) fit in
       let t = passed m z .a-list in
       λ i. meshOf (vs i) (t i) Given (tidied m .indices)

@@ -1,5 +1,5 @@
--- What is kept of a mesh, as a record and slices hold it, is the job that is printed of it: its vertices, three patterns each, are the front of
--- the slice. It can be written where there is room for any text. By induction over the vertices. Assumes nothing.
+-- What is kept of a mesh, as a record and slices hold it, is the job that is printed of it: its vertices, three patterns each, are the
+-- front of the slice. It can be written where there is room for any text. By induction over the vertices. Assumes nothing.
 use Prim.Native.Nat.{ℕ, zero, suc, _+_, _*_, _≤_, _<_}
 use native.Mathlib.Omega.{arith}
 use mathlib.Core.Path.{_≡_, refl, sym, ap, ap₂, _∙_}
@@ -46,7 +46,8 @@ module _ (coordinates : List Float) (rest : List ℕ) where
       let x = pattern-at (3 * n) (omega arith) in
       let y = pattern-at (3 * n + 1) (omega arith) in
       let z = pattern-at (3 * n + 2) (omega arith) in
-      ap₂ (λ (l : List Three) (v : Three). l ++ v ∷ []) (threes-said n (omega arith)) (λ i. three (x i) (y i) (z i)) ∙ sym (table-last (vertexSaid coordinates) n)
+      ap₂ (λ (l : List Three) (v : Three). l ++ v ∷ []) (threes-said n (omega arith)) (λ i. three (x i) (y i) (z i))
+      ∙ sym (table-last (vertexSaid coordinates) n)
 
   module _ {a : Asked} {k : Kept} {indices : List ℕ} {at : ℕ} {out : List ℕ} (r : RoomForKept a k coordinates indices at out) where
     pub kept-is : jobIn (keptAsked a k) patterns indices ≡ keptJob a k coordinates indices
@@ -59,7 +60,8 @@ module _ (coordinates : List Float) (rest : List ℕ) where
         record {
           room = room;
           vertices-few = r .vertices-few;
-          vertices-held = omega (arith, r .vertices-held, length-append (bitsOf coordinates) rest, length-map coordinates (toBits binary32));
+          vertices-held =
+              omega (arith, r .vertices-held, length-append (bitsOf coordinates) rest, length-map coordinates (toBits binary32));
           indices-few = r .indices-few;
           indices-held = r .indices-held;
         }

@@ -1,6 +1,6 @@
--- What is known of the tidier's output: an input has one; a refusal is by 2, 13, 3 or 4; the tidied job says what the job said besides its mesh, is
--- within the limits, and is printed again as it is, with no merge and no drop. The last is from crate `tidy`: the tidied mesh passes the checks, and
--- tidying it once more loses nothing. Assumes nothing.
+-- What is known of the tidier's output: an input has one; a refusal is by 2, 13, 3 or 4; the tidied job says what the job said besides its
+-- mesh, is within the limits, and is printed again as it is, with no merge and no drop. The last is from crate `tidy`: the tidied mesh
+-- passes the checks, and tidying it once more loses nothing. Assumes nothing.
 use Prim.Native.Nat.{ℕ, zero, suc, _≤_, _<_}
 use native.Mathlib.Omega.{arith}
 use mathlib.Core.Path.{_≡_, refl, sym, ap, ap₂, _∙_, subst}
@@ -32,7 +32,8 @@ use Rattle.text.specs.Reader.{three, assembled}
 use Rattle.text.proofs.Job.{one-job}
 use Rattle.text_tidy.specs.declared.Went.{Went}
 use Rattle.text_tidy.specs.declared.Went.the-variants.{Merged, Dropped}
-use Rattle.text_tidy.specs.Tidied.{meshAsked, meshRefusal, staying, wentLines, mergeLines, dropLines, vertexSaid, tidiedBy, tidiedJob, printedBy, printed, Tidies, tidying-of, no-job}
+use Rattle.text_tidy.specs.Tidied.{meshAsked, meshRefusal, staying, wentLines, mergeLines, dropLines, vertexSaid, tidiedBy, tidiedJob}
+use Rattle.text_tidy.specs.Tidied.{printedBy, printed, Tidies, tidying-of, no-job}
 use Rattle.text_tidy.proofs.Line.{stayed}
 use Rattle.text_tidy.proofs.Passed.{passed, passing}
 use Rattle.text_tidy.proofs.Read.{few-triangles}
@@ -51,9 +52,10 @@ one-tidying o p (no-job n u) (no-job l v) = u ∙ sym v
 pub refused-by : (m : Mesh) → (meshRefusal m ≡ 0) ⊎ List·Memᴰ (meshRefusal m) (2 ∷ 13 ∷ 3 ∷ 4 ∷ [])
 refused-by m = first-is (meshChecks m)
 
--- No grid is looked at: what is printed but for the other lines goes by the mesh alone, and jobs of one topology, with the same vertices and
--- indices, have one mesh, whatever their grids.
-pub grid-not-asked : (j k : TextJob) → j .head .topology ≡ k .head .topology → j .vertices ≡ k .vertices → j .indices ≡ k .indices → meshAsked j ≡ meshAsked k
+-- No grid is looked at: what is printed but for the other lines goes by the mesh alone, and jobs of one topology, with the same vertices
+-- and indices, have one mesh, whatever their grids.
+pub grid-not-asked : (j k : TextJob) → j .head .topology ≡ k .head .topology → j .vertices ≡ k .vertices → j .indices ≡ k .indices
+    → meshAsked j ≡ meshAsked k
 grid-not-asked j k t vs is = λ i. meshOf (floatsOf (flat (vs i))) (t i) (givenOf (is i)) (indexList (is i))
 
 -- ---- of the tidied job
@@ -95,10 +97,16 @@ module _ (j : TextJob) (r : Readable j) (z : meshRefusal (meshAsked j) ≡ 0) wh
       let few = few-triangles (j .head .topology) (givenOf (j .indices)) (indexList (j .indices)) (vertexTotal m) (r .indices-fit .few)
       (omega (arith, vertices-counted j r z, r .vertices-fit .few)) in
       let below : (k : ℕ) → k < length ts → On Word (kth (trianglesIn (tidied m)) k) =
-      λ k h. on-of (λ v. v < keptVertices m) Word (kth (trianglesIn (tidied m)) k) (λ v l. omega (arith, l, few-kept)) (tidied-below m (passed m z .indices) k (omega arith)) in
+      λ k h.
+      on-of (λ v. v < keptVertices m) Word (kth (trianglesIn (tidied m)) k) (λ v l. omega (arith, l, few-kept))
+      (tidied-below m (passed m z .indices) k (omega arith)) in
       record {
-        few = subst (λ (t : Topology). length (tidied m .indices) ≤ mostIndices t) (sym (passed m z .a-list)) (omega (arith, ap length indices-are, explicit-long ts, no-more-triangles m));
-        fit = subst (All Word) (sym indices-are) (explicit-all Word ts (λ k h. subst (λ (l : List Triangle). On Word (kth l k)) (triangles-are m) (below k h)));
+        few =
+            subst (λ (t : Topology). length (tidied m .indices) ≤ mostIndices t) (sym (passed m z .a-list))
+            (omega (arith, ap length indices-are, explicit-long ts, no-more-triangles m));
+        fit =
+            subst (All Word) (sym indices-are)
+            (explicit-all Word ts (λ k h. subst (λ (l : List Triangle). On Word (kth l k)) (triangles-are m) (below k h)));
       }
 
   pub still-readable : Readable (tidiedJob j)
@@ -110,7 +118,8 @@ module _ (j : TextJob) (r : Readable j) (z : meshRefusal (meshAsked j) ≡ 0) wh
           few = omega (arith, length-table (vertexSaid (tidied m .vertices)) (keptVertices m), few-kept);
           fit = subst (All Words) (sym (vertices-as-given j r z d))
               (table-all Words (λ i. getD (j .vertices) (vertexFrom m i) d) (keptVertices m) (λ i h.
-              all-at Words d (j .vertices) (vertexFrom m i) (r .vertices-fit .fit) (omega (arith, vertices-in-turn m .below i h, vertices-counted j r z))));
+              all-at Words d (j .vertices) (vertexFrom m i) (r .vertices-fit .fit)
+              (omega (arith, vertices-in-turn m .below i h, vertices-counted j r z))));
         };
         indices-fit = indices-fit;
         tail-fits = r .tail-fits;
@@ -128,12 +137,16 @@ none-went w value (suc n) h =
 pub no-merges : (m : Mesh) → NothingGoes m → mergeLines m ≡ []
 no-merges m g =
     none-went Merged (firstOf m) (vertexTotal m) (λ v h.
-    sym (table-at (firstOf m) (vertexTotal m) v 0 h) ∙ ap (λ (l : List ℕ). getD l v 0) (g .none-merged) ∙ table-at (λ v. v) (vertexTotal m) v 0 h)
+    sym (table-at (firstOf m) (vertexTotal m) v 0 h)
+    ∙ ap (λ (l : List ℕ). getD l v 0) (g .none-merged)
+    ∙ table-at (λ v. v) (vertexTotal m) v 0 h)
 
 pub no-drops : (m : Mesh) → NothingGoes m → dropLines m ≡ []
 no-drops m g =
     none-went Dropped (cause m) (triangleTotal m) (λ k h.
-    sym (table-at (cause m) (triangleTotal m) k 0 h) ∙ ap (λ (l : List ℕ). getD l k 0) (g .none-dropped) ∙ getD-replicate (triangleTotal m) k 0 0 h)
+    sym (table-at (cause m) (triangleTotal m) k 0 h)
+    ∙ ap (λ (l : List ℕ). getD l k 0) (g .none-dropped)
+    ∙ getD-replicate (triangleTotal m) k 0 0 h)
 
 -- the tidied mesh passes the checks that the mesh passed
 pub tidied-passes : (m : Mesh) → meshRefusal m ≡ 0 → meshRefusal (tidied m) ≡ 0

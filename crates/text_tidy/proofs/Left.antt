@@ -1,5 +1,5 @@
--- What the call comes to over outputs of the right lengths, printed, is what is owed. 5 cannot come, so it is refused by the mesh's own checks, or
--- its outputs hold the tidied mesh in front of zeros, with the firsts and the causes, which are few and small. Assumes nothing.
+-- What the call comes to over outputs of the right lengths, printed, is what is owed. 5 cannot come, so it is refused by the mesh's own
+-- checks, or its outputs hold the tidied mesh in front of zeros, with the firsts and the causes, which are few and small. Assumes nothing.
 use Prim.Native.Nat.{ℕ, zero, suc, _+_, _-_, _*_, _≤_, _<_}
 use native.Mathlib.Decide.{ℕ-discrete}
 use native.Mathlib.Omega.{arith}
@@ -23,7 +23,8 @@ use Rattle.job_checks.specs.Refusals.{meshChecks}
 use Rattle.picks.specs.Picks.{some}
 use Rattle.tidy.specs.Padded.{padded, plusZero}
 use Rattle.tidy.specs.Numbers.{twoEqual, sameNumbers}
-use Rattle.tidy.specs.Tidy.{bitsAt, vertexTotal, triangleTotal, firstOf, merged, cause, keptVertices, keptTriangles, tidiedCoordinates, tidiedTriangles, tidied}
+use Rattle.tidy.specs.Tidy.{bitsAt, vertexTotal, triangleTotal, firstOf, merged, cause, keptVertices, keptTriangles}
+use Rattle.tidy.specs.Tidy.{tidiedCoordinates, tidiedTriangles, tidied}
 use Rattle.tidy.proofs.Kept.{first}
 use Rattle.tidy.proofs.Tidied.{vertices-are, coordinates-long, triangles-are, triangles-long}
 use Rattle.tidy.proofs.Again.{no-more-vertices, no-more-triangles}
@@ -50,11 +51,13 @@ table-lines : (w : Went) (f : ℕ → ℕ) (n : ℕ) → wentLines w (λ i. getD
 unfolding wentLine
 table-lines w f n =
     ap (wentLines w (λ i. getD (table f n) i 0)) (length-table f n)
-    ∙ joined-same (wentLine w (λ i. getD (table f n) i 0)) (wentLine w f) n (λ i h. ap (λ (v : ℕ). wentLine w (λ _. v) i) (table-at f n i 0 h))
+    ∙ joined-same (wentLine w (λ i. getD (table f n) i 0)) (wentLine w f) n (λ i h.
+    ap (λ (v : ℕ). wentLine w (λ _. v) i) (table-at f n i 0 h))
 
 module _ (m : Mesh) where
   -- the tidied coordinates and what stands behind them
-  vertex-in-front : (rest : List Float) (i : ℕ) → i < keptVertices m → vertexSaid (tidied m .vertices ++ rest) i ≡ vertexSaid (tidied m .vertices) i
+  vertex-in-front : (rest : List Float) (i : ℕ) → i < keptVertices m
+      → vertexSaid (tidied m .vertices ++ rest) i ≡ vertexSaid (tidied m .vertices) i
   unfolding bitsAt
   vertex-in-front rest i h =
       let at : (j : ℕ) → j < 3 * keptVertices m → getD (tidied m .vertices ++ rest) j nan ≡ getD (tidied m .vertices) j nan =
@@ -62,7 +65,8 @@ module _ (m : Mesh) where
       rw (at (3 * i) (omega arith), at (3 * i + 1) (omega arith), at (3 * i + 2) (omega arith))
 
   -- in front of zeros
-  vertices-left : (n : ℕ) → table (vertexSaid (padded plusZero n (tidiedCoordinates m))) (keptVertices m) ≡ table (vertexSaid (tidied m .vertices)) (keptVertices m)
+  vertices-left : (n : ℕ) → let zeros-behind = padded plusZero n (tidiedCoordinates m) in
+      table (vertexSaid zeros-behind) (keptVertices m) ≡ table (vertexSaid (tidied m .vertices)) (keptVertices m)
   vertices-left n =
       let rest = replicate (n - length (tidiedCoordinates m)) plusZero in
       ap (λ (l : List Float). table (vertexSaid (l ++ rest)) (keptVertices m)) (sym (vertices-are m))
@@ -74,7 +78,9 @@ module _ (m : Mesh) where
 
   indices-left : (n : ℕ) → take (3 * keptTriangles m) (padded 0 n (explicit (tidiedTriangles m))) ≡ tidied m .indices
   unfolding tidied
-  indices-left n = take-at (explicit (tidiedTriangles m)) (replicate (n - length (explicit (tidiedTriangles m))) 0) (3 * keptTriangles m) indices-long
+  indices-left n =
+      let is = explicit (tidiedTriangles m) in
+      take-at is (replicate (n - length is) 0) (3 * keptTriangles m) indices-long
 
   left-is : (a : Asked) → leftText a (keptOf m) (tidyLeft m) ≡ mergeLines m ++ dropLines m ++ jobText (tidiedBy (a .head) m (a .tail))
   left-is a =
@@ -111,11 +117,13 @@ module _ (m : Mesh) where
         let few-vertices = no-more-vertices m in
         let few-triangles = no-more-triangles m in
         let coordinates : length (tidiedCoordinates m) ≡ 3 * keptVertices m = sym (ap length (vertices-are m)) ∙ coordinates-long m in
-        let padded-coordinates = length-append (tidiedCoordinates m) (replicate (length (m .vertices) - length (tidiedCoordinates m)) plusZero) in
-        let zeros = length-replicate (length (m .vertices) - length (tidiedCoordinates m)) plusZero in
+        let tail = length (m .vertices) - length (tidiedCoordinates m) in
+        let padded-coordinates = length-append (tidiedCoordinates m) (replicate tail plusZero) in
+        let zeros = length-replicate tail plusZero in
         let padded-indices = length-append (explicit (tidiedTriangles m)) (replicate (3 * t - length (explicit (tidiedTriangles m))) 0) in
         record {
-          merges-short = table-short (firstOf m) n (omega (arith, r .vertices-few)) (λ i h. omega (arith, first m i .not-after, r .vertices-few));
+          merges-short =
+              table-short (firstOf m) n (omega (arith, r .vertices-few)) (λ i h. omega (arith, first m i .not-after, r .vertices-few));
           drops-short = table-short (cause m) t (omega (arith, r .triangles-few)) (λ i h. cause-small i);
           kept-fits = record {
             room = omega (arith, length-table (firstOf m) n, length-table (cause m) t, r .vertices-few, r .triangles-few, r .room);

@@ -1,4 +1,5 @@
--- The line of a number and its value: none where the number stays, and short where both are below 1,000. By the definitions. Assumes nothing.
+-- The line of a number and its value: none where the number stays, and short where both are below 1,000. By the definitions. Assumes
+-- nothing.
 use Prim.Native.Nat.{ℕ, _+_, _≤_, _<_}
 use native.Mathlib.Omega.{arith}
 use mathlib.Core.Path.{_≡_, refl, sym, ap, _∙_}
@@ -22,6 +23,11 @@ stayed w value i e = rw (eq-eqb (value i) (staying w i) e)
 abbrev lineOf : Went → ℕ → ℕ → List ℕ
 lineOf w i v = line (keyOf w) (decimal i ++ space ∷ decimal v)
 
+-- which one that does not stay has
+went-so : (w : Went) (value : ℕ → ℕ) (i : ℕ) → (value i ≡ staying w i → ⊥) → wentLine w value i ≡ lineOf w i (value i)
+unfolding wentLine
+went-so w value i n = rw (ne-eqb (value i) (staying w i) n)
+
 key-short : (w : Went) → length (bytes (keyOf w)) ≤ 6
 key-short Merged = omega arith
 key-short Dropped = omega arith
@@ -34,6 +40,6 @@ line-short w i v h l =
 pub line-put : {old new : List ℕ} {at r : ℕ} (w k : Went) (i v : ℕ) → w ≡ k → (v ≡ staying w i → ⊥) → i < 1000 → v < 1000
     → Put old at (lineOf k i v) new r
     → Put old at (wentLine w (λ _. v) i) new r × (r ≤ at + 14)
-unfolding wentLine
 line-put w k i v e n h l p =
-    (said (ap (λ (z : Went). lineOf z i v) (sym e) ∙ sym (rw (ne-eqb v (staying w i) n))) refl p, omega (arith, p .next, line-short k i v h l))
+    let is = ap (λ (z : Went). lineOf z i v) (sym e) ∙ sym (went-so w (λ _. v) i n) in
+    (said is refl p, omega (arith, p .next, line-short k i v h l))

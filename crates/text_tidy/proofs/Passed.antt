@@ -1,5 +1,5 @@
--- What a mesh that no check refuses is known to be, and that what is known so is not refused: each test that did not apply is a fact, and each fact
--- a test that does not apply. Assumes nothing.
+-- What a mesh that no check refuses is known to be, and that what is known so is not refused: each test that did not apply is a fact, and
+-- each fact a test that does not apply. Assumes nothing.
 use Prim.Native.Nat.{_%_, _≤_}
 use native.Mathlib.Omega.{arith}
 use mathlib.Core.Path.{_≡_, refl, ap}
@@ -62,4 +62,5 @@ pub passing : (m : Mesh) → Passed m → meshRefusal m ≡ 0
 passing m p =
     let vertices-right : wrongVertices (m .vertices) ≡ false =
     rw (eq-eqb (length (m .vertices) % 3) 0 (p .by-threes), le-ltb 393216 (vertexCount (m .vertices)) (p .vertices-few), p .coordinates) in
-    none-given (meshChecks m) (vertices-right, (ap isStrip (p .a-list), (le-ltb 131072 (length (trianglesIn m)) (p .triangles-few), (ap not (p .indices), tt))))
+    let triangles-right = le-ltb 131072 (length (trianglesIn m)) (p .triangles-few) in
+    none-given (meshChecks m) (vertices-right, (ap isStrip (p .a-list), (triangles-right, (ap not (p .indices), tt))))

@@ -9,7 +9,9 @@ use borrow.Rule.Slice.PartMut.{midOf, postOf, putMid, same-len-mid, take-put}
 use Rattle.lists.specs.Put.{Put}
 use Rattle.lists.proofs.Puts.{inside}
 
-pub within : {A : Type 0} (old part xs : List A) (at k r : ℕ) → at ≤ length old → Put (midOf at k old) 0 xs part r → Put old at xs (putMid at k old part) (at + r)
+pub within : {A : Type 0} (old part xs : List A) (at k r : ℕ) → at ≤ length old
+    → Put (midOf at k old) 0 xs part r
+    → Put old at xs (putMid at k old part) (at + r)
 within {A} old part xs at k r h p =
     record {
       next = omega (arith, p .next);

@@ -1,6 +1,6 @@
--- "It reads a job and prints `merge=` (vertex, its first) for each merge, `drop=` (triangle; 1 for equal numbers, else 2) for each drop, both
--- ascending, then the tidied job with explicit indices. .. Refusals: 2, 13, 3, 4" (document 02, §10). What merges, drops and the tidied mesh are
--- is crate `tidy`'s to say. No grid is looked at. Definitions only.
+-- "It reads a job and prints `merge=` (vertex, its first) for each merge, `drop=` (triangle; 1 for equal numbers, else 2) for each drop,
+-- both ascending, then the tidied job with explicit indices. .. Refusals: 2, 13, 3, 4" (document 02, §10). What merges, drops and the
+-- tidied mesh are is crate `tidy`'s to say. No grid is looked at. Definitions only.
 use Prim.Native.Nat.{ℕ, zero, suc}
 use Prim.Native.String.{String}
 use mathlib.Core.Path.{_≡_}
@@ -30,8 +30,8 @@ use Rattle.text_tidy.specs.declared.Went.the-variants.{Merged, Dropped}
 abbrev pub meshAsked : TextJob → Mesh
 meshAsked j = askedJob j .mesh
 
--- "Refusals: 2, 13, 3, 4", the job's own checks of a mesh: the first that applies, and 0 where none does. 5, "for lent lengths", cannot come,
--- since the program lends the right ones (`never-five`, proofs/Left.antt).
+-- "Refusals: 2, 13, 3, 4", the job's own checks of a mesh: the first that applies, and 0 where none does. 5, "for lent lengths", cannot
+-- come, since the program lends the right ones (`never-five`, proofs/Left.antt).
 abbrev pub meshRefusal : Mesh → ℕ
 meshRefusal m = firstThatApplies (meshChecks m)
 
@@ -90,13 +90,14 @@ printedBy (suc n) h m t = answerLine (suc n)
 abbrev pub printed : TextJob → List ℕ
 printed j = printedBy (meshRefusal (meshAsked j)) (j .head) (meshAsked j) (j .tail)
 
--- Input and output of the program: what is printed for the job that the input is the text of, or `answer=9` where it is the text of no job within
--- the job program's limits. A text is that of one job at most (`one-job`, crates/text/proofs/Job.antt), so an input has one output.
+-- Input and output of the program: what is printed for the job that the input is the text of, or `answer=9` where it is the text of no
+-- job within the job program's limits. A text is that of one job at most (`one-job`, crates/text/proofs/Job.antt), so an input has one
+-- output.
 pub data Tidies (input output : List ℕ) : Type 0 where
   tidying-of : (j : TextJob) → Readable j → input ≡ jobText j → output ≡ printed j → Tidies input output
   no-job : ((j : TextJob) → Readable j → input ≡ jobText j → ⊥) → output ≡ answerLine 9 → Tidies input output
 
--- The bytes that must be lent: as many as a program's large buffer has, and more than the longest output needs. That has 255 lines of merges, of at
--- most 14 bytes, 766 of drops, of at most 11, and a job's text, for which 40,960 are lent (`textRoom`).
+-- The bytes that must be lent: as many as a program's large buffer has, and more than the longest output needs. That has 255 lines of
+-- merges, of at most 14 bytes, 766 of drops, of at most 11, and a job's text, for which 40,960 are lent (`textRoom`).
 abbrev pub tidyRoom : ℕ
 tidyRoom = 65536

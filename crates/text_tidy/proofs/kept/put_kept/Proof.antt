@@ -1,5 +1,5 @@
--- `text_tidy::kept::put_kept` meets its contract: what is put into the lent part is the text of the job that the record and the slices hold.
--- Assumes nothing.
+-- `text_tidy::kept::put_kept` meets its contract: what is put into the lent part is the text of the job that the record and the slices
+-- hold. Assumes nothing.
 use Prim.Native.Nat.{ℕ, _+_, _-_}
 use native.Mathlib.Omega.{arith}
 use mathlib.Core.Path.{_≡_, refl, sym, ap, ap₂, _∙_}
@@ -29,19 +29,21 @@ words f = f .before .before
 abbrev behind : tie.After-coordinate-words → List ℕ
 behind w = drop (length (entry w .args .coordinates .now)) (w .coordinate-words .result)
 
-front-long : (w : tie.After-coordinate-words) → let n = length (entry w .args .coordinates .now) in length (take n (w .coordinate-words .result)) ≡ n
+front-long : (w : tie.After-coordinate-words) → let n = length (entry w .args .coordinates .now) in
+    length (take n (w .coordinate-words .result)) ≡ n
 front-long w = length-take-le _ (w .coordinate-words .result) (omega (arith, entry w .pre .coordinates-few, w .coordinate-words .ensures))
 
 -- the patterns are there
-filled : (f : tie.After-fill-bits) → f .fill-bits .last .1 .0 ++ behind (words f) ≡ patterns (entry (words f) .args .coordinates .now) (behind (words f))
+filled : (f : tie.After-fill-bits) → let w = words f in
+    f .fill-bits .last .1 .0 ++ behind w ≡ patterns (entry w .args .coordinates .now) (behind w)
 filled f = ap (λ (l : List ℕ). l ++ behind (words f)) (f .fill-bits .ensures)
 
 bits-long : tie.Need-slice-aggregate-put-job
 bits-long c =
     let f : tie.After-fill-bits = search in
     let w = words f in
-    w .coordinate-words .ensures
-    ∙ sym (length-front (w .coordinate-words .result) (f .fill-bits .last .1 .0) (length (entry w .args .coordinates .now)) (f .fill-bits .kept .1 .0))
+    let n = length (entry w .args .coordinates .now) in
+    w .coordinate-words .ensures ∙ sym (length-front (w .coordinate-words .result) (f .fill-bits .last .1 .0) n (f .fill-bits .kept .1 .0))
 
 put-job-requires : tie.Need-put-job-requires
 put-job-requires c κs =
@@ -51,18 +53,22 @@ put-job-requires c κs =
     let long = mid-len (s .args .at) (length (s .args .out .now)) (s .args .out .now) (omega arith) in
     rw (k .kept-asked .ensures, filled f) (kept-fits _ (behind (words f)) (s .pre) (omega (arith, long, s .pre .room)))
 
+abbrev before : tie.After-put-job → tie.After-fill-bits
+before p = p .before .before .before .before .before
+
 -- the text stands in the lent part, and so where that begins
-text-put : (p : tie.After-put-job) → let f : tie.After-fill-bits = p .before .before .before .before .before in let a = entry (words f) .args in
+text-put : (p : tie.After-put-job) → let a = entry (words (before p)) .args in
     Put (a .out .now) (a .at) (jobText (keptJob (a .asked) (a .kept) (a .coordinates .now) (a .indices .now)))
     (putMid (a .at) (length (a .out .now) - a .at) (a .out .now) (p .put-job .last .0))
     (a .at + p .put-job .result)
 text-put p =
-    let f : tie.After-fill-bits = p .before .before .before .before .before in
+    let f = before p in
     let k : tie.After-kept-asked = search in
     let s = entry (words f) in
     let a = s .args in
     let is =
-    ap₂ (λ (z : Asked) (l : List ℕ). jobIn z l (a .indices .now)) (k .kept-asked .ensures) (filled f) ∙ kept-is _ (behind (words f)) (s .pre) in
+    ap₂ (λ (z : Asked) (l : List ℕ). jobIn z l (a .indices .now)) (k .kept-asked .ensures) (filled f)
+    ∙ kept-is _ (behind (words f)) (s .pre) in
     within (a .out .now) (p .put-job .last .0) _ (a .at) (length (a .out .now) - a .at) _ (omega (arith, s .pre .room))
     (said (ap jobText is) refl (p .put-job .ensures))
 

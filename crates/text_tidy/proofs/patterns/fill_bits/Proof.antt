@@ -27,13 +27,15 @@ loop-again : tie.Need-loop-again Inv-loop μ-loop
 loop-again c =
     let s : tie.Start Inv-loop μ-loop = search in
     let l : tie.At-loop Inv-loop μ-loop = search in
-    (l .loop .inv .0, filled-more 0 (λ k. toBits binary32 (getD (s .args .floats .now) k nan)) (s .args .bits .now) (l .loop .i) (l .loop .bits) (c .bits-of .result) (omega (arith, l .loop .inv .0)) (c .bits-of .ensures) (l .loop .inv .1))
+    let inv = l .loop .inv in
+    (inv .0, filled-more 0 _ (s .args .bits .now) _ _ (c .bits-of .result) (omega (arith, inv .0)) (c .bits-of .ensures) (inv .1))
 
 returns : tie.Need-returns Inv-loop μ-loop
 returns c =
     let s : tie.Start Inv-loop μ-loop = search in
     let inv = c .before .loop .inv in
-    filled-all 0 _ _ _ _ _ (sym (inv .0)) (c .loop-test .left) (inv .1) ∙ sym (map-is-table (toBits binary32) nan (s .args .floats .now) _ refl)
+    filled-all 0 _ _ _ _ _ (sym (inv .0)) (c .loop-test .left) (inv .1)
+    ∙ sym (map-is-table (toBits binary32) nan (s .args .floats .now) _ refl)
 
 pub fill-bits-spec : {M : Type 1} → statement M
 fill-bits-spec =
