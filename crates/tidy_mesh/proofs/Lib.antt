@@ -1,2 +1,4 @@
--- What the parts leave, in the words of the tidied mesh.
+-- What the parts leave, in the words of the tidied mesh, and what they ask for.
 pub mod Agree
+pub mod Parts
+pub mod Whole

@@ -117,3 +117,8 @@ pub record Tidyable (m : Mesh) (b : TidyLent) : Type 0 where
   pub indices : length (b .indices) ≡ 3 * triangleTotal m
   pub firsts : length (b .firsts) ≡ vertexTotal m
   pub causes : length (b .causes) ≡ triangleTotal m
+
+-- and of the firsts and the causes, when they are found
+pub record Found (m : Mesh) (fs cs : List ℕ) : Type 0 where
+  pub firsts-are : fs ≡ firsts m
+  pub causes-are : cs ≡ causes m

@@ -7,7 +7,7 @@ ghost use mathlib.Core.Path.{_≡_};
 ghost use Prim.Native.Nat.{_≤_};
 ghost use Rattle.tidy.specs.Tidy.{triangleTotal};
 ghost use Rattle.mesh.specs.Mesh.{meshOf};
-ghost use Rattle.tidy_mesh.specs.Outcome.{tidyLentOf, outputsOf, wrongOutputs, Tidyable, tidyLeft, keptOf, tidyOutcome, GivesTidy};
+ghost use Rattle.tidy_mesh.specs.Outcome.{tidyLentOf, outputsOf, wrongOutputs, Tidyable, Found, tidyLeft, keptOf, tidyOutcome, GivesTidy};
 
 // How many vertices and triangles are kept.
 pub struct Kept {
@@ -50,28 +50,25 @@ fn wrong_outputs(
         | (l.causes != triangles)
 }
 
-// Tidies a mesh that is not refused.
-fn tidy_accepted(
+// Puts what is kept together, by the firsts and the causes.
+fn squeeze(
     vertices: &[f32],
     topology: Topology,
     given: Indices,
     indices: &[u32],
+    firsts: &[u32],
+    causes: &[u32],
     coordinates: &mut [f32],
     listed: &mut [u32],
-    firsts: &mut [u32],
-    causes: &mut [u32],
 ) -> Kept
-    requires {
-        let m = meshOf (now vertices) topology given (now indices) in
+    requires { let m = meshOf (now vertices) topology given (now indices) in
         ⌜ Tidyable m (tidyLentOf (now coordinates) (now listed) (now firsts) (now causes)) ⌝ }
+    requires { ⌜ Found (meshOf (now vertices) topology given (now indices)) (now firsts) (now causes) ⌝ }
     ensures { λ r. ⌜ r ≡ keptOf (meshOf (now (vertices .entry)) topology given (now (indices .entry))) ⌝ }
     ensures { λ _.
         let m = meshOf (now (vertices .entry)) topology given (now (indices .entry)) in
-        let left = tidyLentOf (now (coordinates .exit)) (now (listed .exit)) (now (firsts .exit)) (now (causes .exit)) in
-        ⌜ left ≡ tidyLeft m ⌝ }
+        ⌜ (now (coordinates .exit) ≡ tidyLeft m .coordinates) × (now (listed .exit) ≡ tidyLeft m .indices) ⌝ }
 {
-    tidy_firsts::find_firsts(vertices, coordinates, firsts);
-    tidy_causes::find_causes(topology, given, indices, firsts, listed, causes);
     tidy_marks::mark_used(topology, given, indices, firsts, causes, coordinates);
     let n = firsts.len();
     let kept_vertices = tidy_marks::number_marked(coordinates, n);
@@ -89,6 +86,39 @@ fn tidy_accepted(
         vertices: kept_vertices,
         triangles: kept_triangles as u32,
     }
+}
+
+// Tidies a mesh that is not refused.
+fn tidy_accepted(
+    vertices: &[f32],
+    topology: Topology,
+    given: Indices,
+    indices: &[u32],
+    coordinates: &mut [f32],
+    listed: &mut [u32],
+    firsts: &mut [u32],
+    causes: &mut [u32],
+) -> Kept
+    requires { let m = meshOf (now vertices) topology given (now indices) in
+        ⌜ Tidyable m (tidyLentOf (now coordinates) (now listed) (now firsts) (now causes)) ⌝ }
+    ensures { λ r. ⌜ r ≡ keptOf (meshOf (now (vertices .entry)) topology given (now (indices .entry))) ⌝ }
+    ensures { λ _.
+        let m = meshOf (now (vertices .entry)) topology given (now (indices .entry)) in
+        let left = tidyLentOf (now (coordinates .exit)) (now (listed .exit)) (now (firsts .exit)) (now (causes .exit)) in
+        ⌜ left ≡ tidyLeft m ⌝ }
+{
+    tidy_firsts::find_firsts(vertices, coordinates, firsts);
+    tidy_causes::find_causes(topology, given, indices, firsts, listed, causes);
+    squeeze(
+        vertices,
+        topology,
+        given,
+        indices,
+        firsts,
+        causes,
+        coordinates,
+        listed,
+    )
 }
 
 // Tidies a mesh: merges vertices of identical bits into the first, drops triangles with two equal numbers and later ones
