@@ -1,6 +1,6 @@
 -- What a job that is not refused before the run is known to be. Each test of the list that did not apply is a fact. Assumes nothing.
-use mathlib.Core.Path.{_≡_, refl}
-use mathlib.Core.Bool.{Bool, true, false, not, _||_, true≢false}
+use mathlib.Core.Path.{_≡_}
+use mathlib.Core.Bool.{Bool, true, false, not, _||_}
 use mathlib.Core.List.{List}
 use Prim.Native.Nat.{ℕ, _*_, _%_, _≤_}
 use native.Mathlib.Omega.{arith}
@@ -14,17 +14,13 @@ use Rattle.grid.specs.Index.{total}
 use Rattle.grid.specs.Layers.{layers}
 use Rattle.grid.specs.Bounds.{inBounds}
 use Rattle.mesh.specs.Mesh.{Mesh, Sound, vertexCount, trianglesIn}
-use Rattle.mesh_topology.specs.declared.Topology.{Topology}
-use Rattle.mesh_topology.specs.declared.Topology.the-variants.{TriangleList, TriangleStrip}
-use Rattle.mesh_topology.specs.Refusals.{isStrip, allBelowCount}
+use Rattle.mesh_topology.specs.declared.Topology.the-variants.{TriangleList}
+use Rattle.mesh_topology.specs.Refusals.{allBelowCount}
 use Rattle.mesh_off_grid.specs.OffGrid.{allOnGrid}
 use Rattle.run_state.specs.Told.{Fit}
 use Rattle.job_checks.specs.declared.Lengths.{Lengths}
 use Rattle.job_checks.specs.Refusals.{allCoordinates, wrongGrid, wrongVertices, wrongTopology, wrongTriangles, wrongIndices, wrongPlaces, wrongLengths, checks, refusalBy}
-
-neither : (a b : Bool) → (a || b) ≡ false → (a ≡ false) × (b ≡ false)
-neither true b h = absurd (true≢false h)
-neither false b h = (refl, h)
+use Rattle.job_checks.proofs.MeshPassed.{neither, no-strip}
 
 pub few-vertices : (vs : List Float) → wrongVertices vs ≡ false → vertexCount vs ≤ 393216
 few-vertices vs h =
@@ -81,10 +77,6 @@ pub record Accepted (g : Grid) (m : Mesh) (l : Lengths) : Type 0 where
   pub fit : Fit g m
   pub on-grid : allOnGrid g m ≡ true
   pub long : Fits g l
-
-no-strip : (t : Topology) → isStrip t ≡ false → t ≡ TriangleList
-no-strip TriangleList h = refl
-no-strip TriangleStrip h = absurd (true≢false h)
 
 -- no check has the number 0
 numbered : (g : Grid) (m : Mesh) (l : Lengths) → Numbered (checks g m l)

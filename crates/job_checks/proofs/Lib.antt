@@ -1,3 +1,4 @@
 -- Laws that the crates above cite.
+pub mod MeshPassed
 pub mod Accepted
 mod Groups

@@ -1,4 +1,5 @@
--- What the parts leave, in the words of the tidied mesh, and what they ask for.
+-- What the parts leave, in the words of the tidied mesh, and what they ask for; the outcome by its number.
 pub mod Agree
 pub mod Parts
 pub mod Whole
+pub mod Refused
