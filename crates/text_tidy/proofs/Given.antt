@@ -20,6 +20,7 @@ use Rattle.float_bits.specs.Patterns.{floatsOf, bitsOf}
 use Rattle.grid_axis.specs.AxisBounds.{isCoordinate}
 use Rattle.mesh_topology.specs.declared.Indices.the-variants.{Given}
 use Rattle.mesh.specs.Mesh.{Mesh, meshOf}
+use Rattle.job_checks.proofs.MeshPassed.{mesh-passed}
 use Rattle.tidy.specs.declared.Three.{Three as Bits}
 use Rattle.tidy.specs.Tidy.{bitsAt, vertexTotal, keptVertices, vertexFrom, tidied}
 use Rattle.tidy.proofs.Tidied.{coordinates-long, bits-of, vertices-in-turn}
@@ -30,7 +31,6 @@ use Rattle.text.specs.Reader.{three}
 use Rattle.text_read_parts.proofs.Threes.{threes-flat}
 use Rattle.text_tidy.specs.Tidied.{meshAsked, meshRefusal, vertexSaid, tidiedJob}
 use Rattle.text_tidy.proofs.Held.{patterns, threes-said}
-use Rattle.text_tidy.proofs.Passed.{passed}
 
 -- ---- patterns and floats
 
@@ -114,7 +114,7 @@ module _ (j : TextJob) (r : Readable j) (z : meshRefusal (meshAsked j) ≡ 0) wh
       let l = flat (j .vertices) in
       let back : (i : ℕ) → i < length l → toBits binary32 (getD (m .vertices) i nan) ≡ getD l i 0 =
       λ i w. pattern-back l i w (all-at Word 0 l i (flat-words (j .vertices) (r .vertices-fit .fit)) w)
-      (every-at isCoordinate nan (m .vertices) i (passed m z .coordinates) (omega (arith, length-map l (ofBits binary32)))) in
+      (every-at isCoordinate nan (m .vertices) i (mesh-passed m z .coordinates) (omega (arith, length-map l (ofBits binary32)))) in
       let x = back (3 * v) (omega (arith, flat-long (j .vertices))) in
       let y = back (3 * v + 1) (omega (arith, flat-long (j .vertices))) in
       let w = back (3 * v + 2) (omega (arith, flat-long (j .vertices))) in
@@ -146,5 +146,5 @@ module _ (j : TextJob) (r : Readable j) (z : meshRefusal (meshAsked j) ≡ 0) wh
   asks-for-tidied =
       let fit = coordinates-pass m (fits binary32) (floats-fit (flat (j .vertices))) in
       let vs = ap floatsOf tidied-row ∙ floats-back (tidied m .vertices) fit in
-      let t = passed m z .a-list in
+      let t = mesh-passed m z .a-list in
       λ i. meshOf (vs i) (t i) Given (tidied m .indices)

@@ -20,6 +20,7 @@ use Rattle.mesh.specs.Mesh.{Mesh, meshOf, trianglesIn}
 use Rattle.float_bits.specs.Patterns.{floatsOf}
 use Rattle.grid_axis.specs.AxisBounds.{isCoordinate}
 use Rattle.job_checks.specs.Refusals.{meshChecks}
+use Rattle.job_checks.proofs.MeshPassed.{mesh-passed, mesh-passing}
 use Rattle.tidy.specs.Meaning.{NothingGoes}
 use Rattle.tidy.specs.Tidy.{vertexTotal, triangleTotal, firstOf, cause, keptVertices, keptTriangles, vertexFrom, tidiedTriangles, tidied}
 use Rattle.tidy.proofs.Numbers.{On, on-of}
@@ -35,7 +36,6 @@ use Rattle.text_tidy.specs.declared.Went.the-variants.{Merged, Dropped}
 use Rattle.text_tidy.specs.Tidied.{meshAsked, meshRefusal, staying, wentLines, mergeLines, dropLines, vertexSaid, tidiedBy, tidiedJob}
 use Rattle.text_tidy.specs.Tidied.{printedBy, printed, Tidies, tidying-of, no-job}
 use Rattle.text_tidy.proofs.Line.{stayed}
-use Rattle.text_tidy.proofs.Passed.{passed, passing}
 use Rattle.text_tidy.proofs.Read.{few-triangles}
 use Rattle.text_tidy.proofs.Given.{all-at, vertices-counted, vertices-as-given, asks-for-tidied}
 
@@ -99,10 +99,10 @@ module _ (j : TextJob) (r : Readable j) (z : meshRefusal (meshAsked j) ≡ 0) wh
       let below : (k : ℕ) → k < length ts → On Word (kth (trianglesIn (tidied m)) k) =
       λ k h.
       on-of (λ v. v < keptVertices m) Word (kth (trianglesIn (tidied m)) k) (λ v l. omega (arith, l, few-kept))
-      (tidied-below m (passed m z .indices) k (omega arith)) in
+      (tidied-below m (mesh-passed m z .indices) k (omega arith)) in
       record {
         few =
-            subst (λ (t : Topology). length (tidied m .indices) ≤ mostIndices t) (sym (passed m z .a-list))
+            subst (λ (t : Topology). length (tidied m .indices) ≤ mostIndices t) (sym (mesh-passed m z .a-list))
             (omega (arith, ap length indices-are, explicit-long ts, no-more-triangles m));
         fit =
             subst (All Word) (sym indices-are)
@@ -151,8 +151,8 @@ no-drops m g =
 -- the tidied mesh passes the checks that the mesh passed
 pub tidied-passes : (m : Mesh) → meshRefusal m ≡ 0 → meshRefusal (tidied m) ≡ 0
 tidied-passes m z =
-    let p = passed m z in
-    passing (tidied m) (record {
+    let p = mesh-passed m z in
+    mesh-passing (tidied m) (record {
       by-threes = by-threes m;
       vertices-few = omega (arith, vertices-fit m, p .vertices-few);
       coordinates = coordinates-pass m isCoordinate (p .coordinates);
@@ -166,7 +166,7 @@ module _ (j : TextJob) (r : Readable j) (z : meshRefusal (meshAsked j) ≡ 0) wh
   pub tidied-once : tidiedJob (tidiedJob j) ≡ tidiedJob j
   tidied-once =
       let m = meshAsked j in
-      let ok = passed m z .indices in
+      let ok = mesh-passed m z .indices in
       let again = ap (λ (n : Mesh). tidiedBy (j .head) n (j .tail)) (asks-for-tidied j r z) in
       let count = counts-stay m ok .0 in
       again ∙ (λ i. assembled (j .head) (table (vertexSaid (twice m ok i .vertices)) (count i)) (these (twice m ok i .indices)) (j .tail))
@@ -177,7 +177,7 @@ module _ (j : TextJob) (r : Readable j) (z : meshRefusal (meshAsked j) ≡ 0) wh
   printed-again =
       let m = meshAsked j in
       let asks = asks-for-tidied j r z in
-      let goes = nothing-more m (passed m z .indices) in
+      let goes = nothing-more m (mesh-passed m z .indices) in
       let none = ap meshRefusal asks ∙ tidied-passes m z in
       let merges = ap mergeLines asks ∙ no-merges (tidied m) goes in
       let drops = ap dropLines asks ∙ no-drops (tidied m) goes in

@@ -5,21 +5,19 @@ use native.Mathlib.Decide.{ℕ-discrete}
 use native.Mathlib.Omega.{arith}
 use mathlib.Core.Path.{_≡_, refl, sym, ap, ap₂, _∙_}
 use mathlib.Core.Bool.{Bool, true, false, cond}
-use mathlib.Core.List.{List, [], _∷_, _++_}
+use mathlib.Core.List.{List, _++_}
 use lib.ListN.{length, getD, take, replicate, length-append, length-replicate, List·getD-append}
 use lib.Seq.{take-at}
 use lib.Ieee.{Float, nan}
 use borrow.Author.Tests.{eq-eqb}
 use Rattle.lists.specs.Table.{table}
-use Rattle.lists.specs.Checks.{Check}
-use Rattle.lists.proofs.Checks.{past-group, by-group}
 use Rattle.lists.proofs.Joined.{joined-same}
 use Rattle.lists.proofs.Table.{length-table, table-at, table-same}
 use Rattle.mesh_topology.specs.declared.Topology.the-variants.{TriangleList}
 use Rattle.mesh_explicit.specs.Explicit.{explicit}
 use Rattle.mesh_explicit.proofs.Laws.{explicit-long}
 use Rattle.mesh.specs.Mesh.{Mesh}
-use Rattle.job_checks.specs.Refusals.{meshChecks}
+use Rattle.job_checks.proofs.MeshPassed.{mesh-passed}
 use Rattle.picks.specs.Picks.{some}
 use Rattle.tidy.specs.Padded.{padded, plusZero}
 use Rattle.tidy.specs.Numbers.{twoEqual, sameNumbers}
@@ -32,6 +30,7 @@ use Rattle.tidy_mesh.specs.declared.Kept.{Kept}
 use Rattle.tidy_mesh.specs.declared.TidyAnswer.{TidyAnswer}
 use Rattle.tidy_mesh.specs.declared.TidyAnswer.the-variants.{Refused, Tidied}
 use Rattle.tidy_mesh.specs.Outcome.{TidyLent, outputsOf, wrongOutputs, tidyRefusal, tidyLeft, keptOf, tidyBy, tidyOutcome, GivesTidy}
+use Rattle.tidy_mesh.proofs.Refused.{by-mesh, by-none}
 use Rattle.text.specs.declared.Head.{Head}
 use Rattle.text.specs.declared.Tail.{Tail}
 use Rattle.text.specs.TextJob.{these, jobText}
@@ -42,7 +41,6 @@ use Rattle.text_tidy.specs.declared.Went.{Went}
 use Rattle.text_tidy.specs.declared.Went.the-variants.{Merged, Dropped}
 use Rattle.text_tidy.specs.Tidied.{meshRefusal, wentLine, wentLines, mergeLines, dropLines, vertexSaid, tidiedBy, printedBy}
 use Rattle.text_tidy.specs.Parts.{Short, leftText, RoomForLeft, RightlyLent}
-use Rattle.text_tidy.proofs.Passed.{passed}
 
 -- ---- what the outputs hold, as text
 
@@ -143,16 +141,12 @@ module _ {m : Mesh} {lent : TidyLent} {out : List ℕ} (r : RightlyLent m lent o
       rw (eq-eqb _ _ (r .coordinates-long), eq-eqb _ _ (r .indices-long), eq-eqb _ _ (r .firsts-long), eq-eqb _ _ (r .causes-long))
 
   -- "then 5 for lent lengths", which are right
-  abbrev lengths : List Check
-  lengths = record { applies = wrongOutputs m (outputsOf lent); number = 5 } ∷ []
-
   pub never-five : tidyRefusal m lent ≡ meshRefusal m
-  unfolding tidyRefusal
   never-five = by (ℕ-discrete (meshRefusal m) 0)
     where
       by : Dec (meshRefusal m ≡ 0) → tidyRefusal m lent ≡ meshRefusal m
-      by (yes z) = past-group (meshChecks m) lengths (omega arith) z ∙ ap (λ (b : Bool). cond b 5 0) right-lengths ∙ sym z
-      by (no z) = by-group (meshChecks m) lengths z
+      by (yes z) = by-none m lent z right-lengths ∙ sym z
+      by (no z) = by-mesh m lent z
 
   module _ {answer : TidyAnswer} {left : TidyLent} (g : GivesTidy (tidyOutcome m lent) answer left) where
     answers-so : answer ≡ tidyBy (meshRefusal m) m lent .answer
@@ -185,7 +179,7 @@ module _ {m : Mesh} {lent : TidyLent} {out : List ℕ} (r : RightlyLent m lent o
       pub tidied-fits : a .head .topology ≡ m .topology → RoomForLeft a k left out
       tidied-fits same =
           let so = tidied-so k e in
-          rw (so .1, so .2) (left-fits m lent r a (same ∙ passed m (so .0) .a-list))
+          rw (so .1, so .2) (left-fits m lent r a (same ∙ mesh-passed m (so .0) .a-list))
 
       pub tidied-printed : leftText a k left ≡ printedBy (meshRefusal m) (a .head) m (a .tail)
       unfolding printedBy

@@ -2,7 +2,6 @@
 mod Within
 mod Line
 mod Held
-mod Passed
 pub mod Left
 mod Lent
 mod Read
