@@ -1,5 +1,6 @@
 """Streams of jobs: for each a line `job=INDEX KIND BYTES`, then exactly that many bytes. tools/jobs prints one, and
 the model and the oracle read one with --batch and print one of answers."""
+import itertools
 import subprocess
 
 from begin import build
@@ -62,6 +63,20 @@ def converted(jobs, *more):
     build("tools/model/build")
     answers = batch(["build/model/model", "--batch", "--convert", *more], jobs)
     return [(f"converted-{kind}", answer) for (kind, _), answer in zip(jobs, answers)]
+
+
+def tidied(jobs, *more):
+    """What the tidier owes the jobs' texts (document 02, §10), by the model. With "--large" the job program's limits are lifted. Builds the
+    model."""
+    build("tools/model/build")
+    return batch(["build/model/model", "--batch", "--tidy", *more], jobs)
+
+
+def without_changes(printed):
+    """The tidied job alone of what the tidier printed: what follows the lines of what went."""
+    lines = printed.split(b"\n")
+    gone = sum(1 for _ in itertools.takewhile(lambda line: line.startswith((b"merge=", b"drop=")), lines))
+    return b"\n".join(lines[gone:])
 
 
 def strips(jobs):

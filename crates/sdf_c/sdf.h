@@ -1,8 +1,8 @@
 /* SPDX-License-Identifier: MIT OR Apache-2.0 (NOTICE, LICENSE-MIT, LICENSE-APACHE)
  *
  * The signed distance field of a triangle mesh on a grid, for C and C++: the whole job, the questions of it asked by
- * themselves, and a scanner's file read and written. What they owe is docs/SPECIFICATION.md, whose sections stand here as
- * [4.1]; every function is proved to meet it.
+ * themselves, a scanner's file read and written, and a mesh tidied. What they owe is docs/SPECIFICATION.md, whose sections
+ * stand here as [4.1]; every function is proved to meet it.
  *
  * In eight lines, with buffers of n floats, n, 3 n and 64 numbers and n entries:
  *
@@ -41,9 +41,10 @@
 extern "C" {
 #endif
 
-/* Raised whenever a function, a record or a number below is no longer what it was. Since 10 sdf_grid has its upright axis, as its
- * last member: what is said in capitals there concerns every program that was written for 9. */
-#define SDF_VERSION 10
+/* Raised whenever a function, a record or a number below is no longer what it was, or there is one more. Since 10 sdf_grid has its
+ * upright axis, as its last member: what is said in capitals there concerns every program that was written for 9. 11 has
+ * sdf_tidy_mesh; a program that was written for 10 need not be changed. */
+#define SDF_VERSION 11
 
 /* The numbers of the whole job [4.1], in the order in which they are checked; the first that applies is given. A
  * question asked by itself [4.4] gives 1 for the grid, 2 for a coordinate that is not finite or above 2,097,152 in
@@ -178,6 +179,11 @@ typedef struct {
     uint32_t number, facets;
 } sdf_stl_answer;
 
+/* vertices, triangles: how many are kept. Both are 0 on a refusal. */
+typedef struct {
+    uint32_t number, vertices, triangles;
+} sdf_tidy_answer;
+
 /* An entry of the queue: the key of its distance, which is twice the bit pattern of the magnitude, plus the sign bit; its cell;
  * and its triangle. Only the room is the caller's; what an entry holds is the job's. */
 typedef struct {
@@ -274,6 +280,34 @@ sdf_stl_answer sdf_read_stl(const uint8_t *file, size_t file_length, float *vert
  * same bits; a NaN is written as 7fc00000. Refuses by 2 where coordinate_count is no multiple of nine; then by 12; then by 5
  * where file_length is not 84 + 50 times the facets. */
 sdf_stl_answer sdf_write_stl(const float *vertices, size_t coordinate_count, uint8_t *file, size_t file_length);
+
+/* A mesh tidied, and what went [17]. Scanners repeat corners, and sometimes facets. Vertices of identical bits are merged into
+ * the first of them (-0 and +0 stay apart); triangles with two equal vertex numbers, after merging, are dropped, and so are
+ * later ones with the same three numbers in any order; vertices that no kept triangle has are squeezed out. What is kept
+ * keeps its order, and each kept triangle the bits of its corners, in their order.
+ *
+ * Lent to be read: vertices, topology, given and indices, as for the whole job. Lent to be written:
+ *   out_coordinates  coordinate_count floats: x, y, z of each kept vertex in turn, then +0 to the end
+ *   out_indices      three numbers for each triangle that is given: those of each kept one in turn, by the new numbering, then
+ *                    0 to the end
+ *   firsts           a number for each vertex that is given: the first vertex with its bits, in the given numbering; its own
+ *                    number where it is the first
+ *   causes           a number for each triangle that is given: 0 where it is kept, 1 where two of its numbers are equal, else 2
+ * The answer's `vertices` and `triangles` say how much of the first two is in use: 3 * vertices floats and 3 * triangles
+ * numbers, a mesh for SDF_LIST with SDF_INDICES. Tidying it once more changes nothing.
+ *
+ * THE FIELD OF THE TIDIED MESH MAY DIFFER: a facet that is there twice flips the parity of every ray that hits it twice, so
+ * that the rays count as if it were not there; once, it counts. What the whole job promises, it promises of the mesh that it
+ * is given.
+ *
+ * Refuses by 2, 13, 3, 4, which are the whole job's, then by 5 where one of the four lengths is not the one above; then nothing
+ * was changed, and both counts are 0. No grid is looked at. It allocates nothing: on the way the outputs hold links and
+ * marks. What C owes is what the whole job is owed: valid pointers, never null, to at least as many elements as the length
+ * beside them, and no byte of the four that are written in another of the six. */
+sdf_tidy_answer sdf_tidy_mesh(const float *vertices, size_t coordinate_count, uint32_t topology, uint32_t given,
+                              const uint32_t *indices, size_t index_count, float *out_coordinates,
+                              size_t out_coordinate_count, uint32_t *out_indices, size_t out_index_count,
+                              uint32_t *firsts, size_t firsts_length, uint32_t *causes, size_t causes_length);
 
 /* The square root, rounded to nearest [6.5]. No refusal: what is below zero, and a NaN, gives a NaN. */
 float sdf_sqrt(float x);

@@ -7,6 +7,7 @@ use crate::off_grid;
 use crate::old;
 use crate::random::Random;
 use crate::shapes::{self, Mesh};
+use crate::tidy;
 use crate::upright;
 use model::grid::Grid;
 use model::topology::Topology;
@@ -136,6 +137,7 @@ pub fn of_set(set: Option<&str>) -> Vec<&'static str> {
         Some("long") => names(&old::LONG).collect(),
         Some("normal") => names(&normal::KINDS).collect(),
         Some("upright") => names(&upright::KINDS).collect(),
+        Some("tidy") => names(&tidy::KINDS).collect(),
         _ => names(&BASE).chain(names(&inside::KINDS)).chain(names(&off_grid::KINDS)).collect(),
     }
 }
@@ -145,12 +147,12 @@ pub fn of_set(set: Option<&str>) -> Vec<&'static str> {
 /// The kinds of the base came before document 02, §6, and many of their meshes stick out of the grid: what each was made to show
 /// would be lost in refusals by 10. So where the first drawing is refused so, it is kept once in four, and else the kind draws
 /// until one is not. What was not refused so stays word for word what it was: no number is drawn before it. Of a strip, which is
-/// refused before that (§7), the list that it is converted to decides.
+/// refused before that (§7), the list that it is converted to decides. The tidier looks at no grid (§10), so its kinds stay as they are drawn.
 pub fn make(kind: &str, r: &mut Random) -> Option<Vec<u8>> {
     let make = find(kind)?;
     let first = draw(kind, make, r);
     let lists = [&OFF_GRID[..], &normal::OFF_GRID, &upright::OFF_GRID].concat();
-    let by_design = lists.contains(&kind) || off_grid::KINDS.iter().any(|(name, _)| *name == kind);
+    let by_design = lists.contains(&kind) || off_grid::KINDS.iter().chain(&tidy::KINDS).any(|(name, _)| *name == kind);
     let limits = !kind.starts_with("large-");
     if by_design || !refused_by_10(&first, limits) || r.once_in(4) {
         return Some(first);
@@ -162,7 +164,7 @@ pub fn make(kind: &str, r: &mut Random) -> Option<Vec<u8>> {
 /// The kind of this name, of any set.
 pub fn find(kind: &str) -> Option<Make> {
     let later = old::KINDS.iter().chain(&old::LONG).chain(&normal::KINDS).chain(&normal::ALONE).chain(&upright::KINDS).chain(&upright::ALONE);
-    let mut all = BASE.iter().chain(&inside::KINDS).chain(&off_grid::KINDS).chain(&ALONE).chain(later);
+    let mut all = BASE.iter().chain(&inside::KINDS).chain(&off_grid::KINDS).chain(&ALONE).chain(later).chain(&tidy::KINDS);
     all.find(|(name, _)| *name == kind).map(|(_, make)| *make)
 }
 
@@ -182,7 +184,7 @@ fn draw(kind: &str, make: Make, r: &mut Random) -> Vec<u8> {
     let text = text::write(&make(r));
     match kind {
         // Each pair begins at different ways, so that together they show all of them sooner.
-        "damaged" | "damaged-strip" | "damaged-normal" | "damaged-upright" => damage::damage(r.turn(&damage::WAYS), &text, r),
+        "damaged" | "damaged-strip" | "damaged-normal" | "damaged-upright" | "damaged-tidy" => damage::damage(r.turn(&damage::WAYS), &text, r),
         "damaged-sign" | "damaged-strip-sign" => damage::damage_line("sign=", r.turn(&damage::SIGNS), &text),
         "damaged-upright-line" | "damaged-strip-upright-line" => damage::damage_line("upright=", r.turn(&damage::UPRIGHTS), &text),
         "damaged-small" | "damaged-strip-no-indices" => {

@@ -53,6 +53,8 @@ mod random;
 mod rust;
 #[path = "../generator/shapes.rs"]
 mod shapes;
+#[path = "../generator/tidy.rs"]
+mod tidy;
 #[path = "../generator/upright.rs"]
 mod upright;
 

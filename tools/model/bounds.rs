@@ -19,6 +19,16 @@ pub fn check(job: &Job) -> Result<(), Refusal> {
     if !grid_in_bounds(job) {
         return Err(1);
     }
+    let triangles = mesh(job)?;
+    // Document 02, §6: no triangles off the grid. What no triangle uses may lie anywhere.
+    if triangles.iter().any(|t| off_grid(&job.grid, t.map(|v| job.vertices[v as usize]))) {
+        return Err(10);
+    }
+    Ok(())
+}
+
+/// What is checked of the mesh alone, whatever the grid: 2, 13, 3 and 4. The triangles of a mesh that passes.
+pub fn mesh(job: &Job) -> Result<Vec<[u32; 3]>, Refusal> {
     if job.vertices.len() > MOST_VERTICES || !job.vertices.iter().flatten().all(|&x| coordinate_in_bounds(x)) {
         return Err(2);
     }
@@ -33,11 +43,7 @@ pub fn check(job: &Job) -> Result<(), Refusal> {
     if !triangles.iter().flatten().all(|&index| (index as usize) < job.vertices.len()) {
         return Err(4);
     }
-    // Document 02, §6: no triangles off the grid. What no triangle uses may lie anywhere.
-    if triangles.iter().any(|t| off_grid(&job.grid, t.map(|v| job.vertices[v as usize]))) {
-        return Err(10);
-    }
-    Ok(())
+    Ok(triangles)
 }
 
 /// On some axis all three corners lie below the grid box's minimum, or all three above its maximum. They are the corners

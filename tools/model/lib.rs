@@ -3,6 +3,7 @@
 //!
 //!   text.rs       One job, one listing
 //!   convert.rs    The converter of old jobs, of document 02, §7
+//!   tidy.rs       The tidier of meshes, of document 02, §10
 //!   bounds.rs     Bounds on a job; Reply numbers 1 to 4, and 13 and 10 of document 02
 //!   grid.rs       Grid, with the upright axis of document 02, §9
 //!   geometry.rs   Geometry, and the steps on points of "What is carried over"
@@ -20,6 +21,7 @@ pub mod grid;
 pub mod order;
 pub mod run;
 pub mod text;
+pub mod tidy;
 pub mod topology;
 
 use geometry::Point;

@@ -2,17 +2,20 @@
 //! --large lifts the job program's own limits. --crossings adds a line `crossing=INDEX X Y Z` for each cell.
 //! model --convert [--batch] [--large]: prints what the converter of document 02, §7, owes the text instead; --large lifts the old
 //! limits.
+//! model --tidy [--batch] [--large]: prints what the tidier of document 02, §10, owes it; --large lifts the job program's limits.
 //! With --batch the input is a stream of jobs as tools/jobs prints it, and so is the output.
 
 use std::io::{BufRead, Read, Write};
 
 fn main() {
     let has = |name: &str| std::env::args().skip(1).any(|arg| arg == name);
-    let (large, crossings, convert) = (has("--large"), has("--crossings"), has("--convert"));
-    let owed = |text: &[u8]| match convert {
-        true if large => model::convert::convert_any(text),
-        true => model::convert::convert(text),
-        false => model::text::listing(text, large, crossings).into_bytes(),
+    let (large, crossings) = (has("--large"), has("--crossings"));
+    let (convert, tidy) = (has("--convert"), has("--tidy"));
+    let owed = |text: &[u8]| match (convert, tidy) {
+        (true, _) if large => model::convert::convert_any(text),
+        (true, _) => model::convert::convert(text),
+        (_, true) => model::tidy::listing(text, large),
+        _ => model::text::listing(text, large, crossings).into_bytes(),
     };
     let mut input = std::io::stdin().lock();
     let mut output = std::io::stdout().lock();

@@ -7,6 +7,7 @@
 //                              answer nor buffers show (crate `terms`)
 //   stl_count, read_stl        a scanner's file, binary STL: its facets, and their corners (crate `stl_read`)
 //   write_stl                  corners to such a file (crate `stl_write`)
+//   tidy_mesh                  a mesh with its repeats merged and dropped, and what went (crate `tidy_mesh`)
 //   the methods of `Grid`      the grid's questions, asked by value (crate `grid`)
 //   questions                  the same as functions; the geometry, the comparison and the root asked by themselves
 //
@@ -58,6 +59,12 @@ pub use stl::StlAnswer;
 pub use stl_read::read_stl;
 pub use stl_read::stl_count;
 pub use stl_write::write_stl;
+
+// ---- a mesh tidied
+
+pub use tidy_mesh::Kept;
+pub use tidy_mesh::TidyAnswer;
+pub use tidy_mesh::tidy_mesh;
 
 // ---- the questions
 

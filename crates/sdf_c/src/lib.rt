@@ -6,7 +6,9 @@
 //   grids     the grid's questions
 //   job       the whole job
 //   files     a scanner's file, read and written
+//   meshes    a mesh tidied
 pub mod files;
 pub mod geometry;
 pub mod grids;
 pub mod job;
+pub mod meshes;

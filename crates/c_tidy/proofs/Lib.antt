@@ -1,0 +1,2 @@
+-- The law that `sdf_c` cites.
+pub mod Given
