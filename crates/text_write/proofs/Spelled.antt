@@ -36,6 +36,17 @@ few (suc k) n = go (ltb n 10) (few k (n / 10))
     go true h = omega arith
     go false h = omega (arith, length-append (digits k (n / 10)) ((48 + n % 10) ∷ []))
 
+-- a number below 10 ^ (d + 1) has at most d + 1 digits
+pub short : (k d n : ℕ) → n < 10 ^ suc d → length (digits k n) ≤ d + 1
+unfolding digits
+short zero d n h = omega arith
+short (suc k) zero n h = omega (arith, ap length (one-digit (suc k) n (omega arith)))
+short (suc k) (suc d) n h = go (ltb n 10) (short k d (n / 10) (omega arith))
+  where
+    go : (t : Bool) → length (digits k (n / 10)) ≤ d + 1 → length (cond t ((48 + n) ∷ []) (digits k (n / 10) ++ (48 + n % 10) ∷ [])) ≤ suc d + 1
+    go true l = omega arith
+    go false l = omega (arith, length-append (digits k (n / 10)) ((48 + n % 10) ∷ []))
+
 pub deep : (k n : ℕ) → FewDigits k n → 10 ≤ n → 0 < k
 unfolding FewDigits
 deep zero n f h = absurd (omega arith)
