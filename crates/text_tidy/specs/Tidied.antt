@@ -13,7 +13,7 @@ use Rattle.lists.specs.Joined.{joined}
 use Rattle.lists.specs.Table.{table}
 use Rattle.mesh.specs.Mesh.{Mesh}
 use Rattle.job_checks.specs.Refusals.{meshChecks}
-use Rattle.tidy.specs.Tidy.{bitsAt, vertexTotal, triangleTotal, firstOf, cause, keptVertices, tidied}
+use Rattle.tidy.specs.Tidy.{vertexBits, vertexTotal, triangleTotal, firstOf, cause, keptVertices, tidied}
 use Rattle.text.specs.declared.Three.{Three}
 use Rattle.text.specs.declared.Head.{Head}
 use Rattle.text.specs.declared.Tail.{Tail}
@@ -65,7 +65,7 @@ dropLines m = wentLines Dropped (cause m) (triangleTotal m)
 
 -- the bits of vertex i, as its line has them
 abbrev pub vertexSaid : List Float → ℕ → Three
-vertexSaid vs i = record { x = bitsAt vs i .a; y = bitsAt vs i .b; z = bitsAt vs i .c }
+vertexSaid vs i = record { x = vertexBits vs i .a; y = vertexBits vs i .b; z = vertexBits vs i .c }
 
 -- "the tidied job with explicit indices": the vertices and the indices of the tidied mesh; all other lines as they were said
 abbrev pub tidiedBy : Head → Mesh → Tail → TextJob
