@@ -1,14 +1,13 @@
 -- Laws on the digits of a number, one digit at a time. Assumes nothing.
 use Prim.Native.Nat.{ℕ, zero, suc, _+_, _-_, _/_, _%_, _^_, _≤_, _<_}
 use native.Mathlib.Omega.{arith}
-use native.Mathlib.Numerals.{add-one}
 use mathlib.Core.Path.{_≡_, refl, sym, ap, subst, _∙_}
 use mathlib.Core.Bool.{Bool, true, false, cond}
-use mathlib.Core.List.{List, [], _∷_, _++_}
+use mathlib.Core.List.{[], _∷_, _++_}
 use lib.Dec.{ltb}
 use lib.ListN.{length, length-append}
 use borrow.Author.Tests.{lt-ltb, le-ltb}
-use Rattle.text.specs.Words.{digits, decimal, hexDigit, hex}
+use Rattle.text.specs.Words.{digits, hexDigit, hex}
 use Rattle.text_write.specs.Digits.{FewDigits}
 
 back : (k : ℕ) → suc k - 1 ≡ k

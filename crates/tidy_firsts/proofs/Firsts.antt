@@ -1,11 +1,9 @@
 -- What a search for a vertex says of its first. Assumes nothing.
 use Prim.Native.Nat.{ℕ, _*_, _<_}
-use mathlib.Core.Path.{_≡_, refl, sym, _∙_}
-use mathlib.Core.Bool.{Bool, true, false}
+use mathlib.Core.Path.{_≡_, sym, _∙_}
 use mathlib.Core.List.{List}
 use lib.ListN.{length, length-map}
 use lib.Ieee.{Float, binary32, toBits}
-use Rattle.picks.specs.Picks.{least}
 use Rattle.picks.proofs.Picks.{least-none, least-is}
 use Rattle.tidy.specs.Same.{sameWords}
 use Rattle.tidy.specs.Tidy.{vertexBits}
