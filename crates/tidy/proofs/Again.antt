@@ -13,7 +13,7 @@ use Rattle.lists.proofs.Range.{count-le}
 use Rattle.lists.proofs.Every.{every-each, every-at}
 use Rattle.mesh_topology.specs.declared.Topology.the-variants.{TriangleList}
 use Rattle.mesh.specs.Mesh.{Mesh, Sound}
-use Rattle.tidy.specs.Tidy.{vertexTotal, triangleTotal, kept, used, keptVertices, keptTriangles, vertexFrom, tidied}
+use Rattle.tidy.specs.Tidy.{vertexTotal, triangleTotal, isKept, used, keptVertices, keptTriangles, vertexFrom, tidied}
 use Rattle.tidy.proofs.Coordinates.{coordinate}
 use Rattle.tidy.proofs.Tidied.{coordinates-long, vertices-long, triangles-long, vertex-of, vertices-in-turn, tidied-valid}
 
@@ -24,7 +24,7 @@ module _ (m : Mesh) where
 
   pub no-more-triangles : keptTriangles m ≤ triangleTotal m
   unfolding keptTriangles
-  no-more-triangles = count-le (kept m) (triangleTotal m)
+  no-more-triangles = count-le (isKept m) (triangleTotal m)
 
   -- 2, of the tidied coordinates: so many, and each a given one
   pub vertices-fit : vertexTotal (tidied m) ≤ vertexTotal m

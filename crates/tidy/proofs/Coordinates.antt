@@ -14,8 +14,8 @@ use lib.Ieee.Bits.{ofBits-toBits}
 use Rattle.lists.specs.Joined.{joined}
 use Rattle.lists.proofs.Joined.{joined-same, joined-parts}
 use Rattle.mesh.specs.Mesh.{vertexAt}
-use Rattle.tidy.specs.declared.Three.{Three}
-use Rattle.tidy.specs.Tidy.{bitsAt, coordinatesAt}
+use Rattle.tidy.specs.declared.ThreeWords.{ThreeWords}
+use Rattle.tidy.specs.Tidy.{vertexBits, coordinatesAt}
 
 -- coordinate d of vertex v
 pub coordinate : (vs : List Float) (v d : ℕ) → d < 3 → getD vs (3 * v + d) nan ≡ getD (coordinatesAt vs v) d nan
@@ -46,8 +46,8 @@ module _ (vs ws : List Float) (u v : ℕ) (e : coordinatesAt vs u ≡ coordinate
   one : (d : ℕ) → getD (coordinatesAt vs u) d nan ≡ getD (coordinatesAt ws v) d nan
   one d = ap (λ (l : List Float). getD l d nan) e
 
-  pub same-bits : bitsAt vs u ≡ bitsAt ws v
-  unfolding bitsAt
+  pub same-bits : vertexBits vs u ≡ vertexBits ws v
+  unfolding vertexBits
   same-bits = simp (one 0, one 1, one 2)
 
   pub same-points : vertexAt vs u ≡ vertexAt ws v
@@ -60,11 +60,11 @@ module _ (vs : List Float) (held : (i : ℕ) → T (fits binary32 (getD vs i nan
   value i j e =
       sym (ofBits-toBits binary32 (getD vs i nan) (held i)) ∙ ap (ofBits binary32) e ∙ ofBits-toBits binary32 (getD vs j nan) (held j)
 
-  pub bits-points : (u v : ℕ) → bitsAt vs u ≡ bitsAt vs v → vertexAt vs u ≡ vertexAt vs v
-  unfolding bitsAt vertexAt
+  pub bits-points : (u v : ℕ) → vertexBits vs u ≡ vertexBits vs v → vertexAt vs u ≡ vertexAt vs v
+  unfolding vertexBits vertexAt
   bits-points u v e =
       rw (
-        value (3 * u) (3 * v) (ap (λ (t : Three). t .a) e),
-        value (3 * u + 1) (3 * v + 1) (ap (λ (t : Three). t .b) e),
-        value (3 * u + 2) (3 * v + 2) (ap (λ (t : Three). t .c) e),
+        value (3 * u) (3 * v) (ap (λ (t : ThreeWords). t .a) e),
+        value (3 * u + 1) (3 * v + 1) (ap (λ (t : ThreeWords). t .b) e),
+        value (3 * u + 2) (3 * v + 2) (ap (λ (t : ThreeWords). t .c) e),
       )

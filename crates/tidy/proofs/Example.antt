@@ -16,9 +16,9 @@ use Rattle.mesh_topology.specs.declared.Topology.the-variants.{TriangleList}
 use Rattle.mesh_topology.specs.declared.Indices.the-variants.{Given}
 use Rattle.mesh_topology.specs.Topology.{threes, triangles}
 use Rattle.mesh.specs.Mesh.{Mesh, meshOf}
-use Rattle.tidy.specs.Same.{same}
-use Rattle.tidy.specs.Numbers.{renumbered, twoEqual, sameNumbers, hasNumber}
-use Rattle.tidy.specs.Tidy.{bitsAt, firstOf, cause, keptVertices, keptTriangles, tidied, firsts, causes}
+use Rattle.tidy.specs.Same.{sameWords}
+use Rattle.tidy.specs.Numbers.{renumbered, twoEqualNumbers, sameNumbers, hasNumber}
+use Rattle.tidy.specs.Tidy.{vertexBits, firstOf, cause, keptVertices, keptTriangles, tidied, firsts, causes}
 
 -- 0, −0 and 1
 abbrev o : Float
@@ -52,18 +52,19 @@ scan =
     9 ∷ 2 ∷ [])
 
 firsts-scan : firsts scan ≡ (0 ∷ 1 ∷ 2 ∷ 1 ∷ 4 ∷ 1 ∷ 6 ∷ 7 ∷ [])
-unfolding firstOf least same bitsAt toBits table
+unfolding firstOf least sameWords vertexBits toBits table
 firsts-scan = refl
 
 causes-scan : causes scan ≡ (0 ∷ 2 ∷ 1 ∷ 0 ∷ 1 ∷ 1 ∷ [])
-unfolding cause least some same bitsAt toBits renumbered twoEqual sameNumbers table threes triangles
+unfolding cause least some sameWords vertexBits toBits renumbered twoEqualNumbers sameNumbers table threes triangles
 causes-scan = refl
 
 tidied-scan : tidied scan ≡ meshOf (o ∷ o ∷ o ∷ i ∷ o ∷ o ∷ -o ∷ o ∷ o ∷ o ∷ i ∷ o ∷ []) TriangleList Given (0 ∷ 1 ∷ 3 ∷ 2 ∷ 1 ∷ 3 ∷ [])
-unfolding tidied least some select countBelow same bitsAt toBits renumbered twoEqual sameNumbers hasNumber table joined each threes
-    triangles
+unfolding tidied least some select countBelow sameWords vertexBits toBits renumbered twoEqualNumbers sameNumbers hasNumber table joined
+    each threes triangles
 tidied-scan = refl
 
 counts-scan : (keptVertices scan ≡ 4) × (keptTriangles scan ≡ 2)
-unfolding keptVertices keptTriangles least some countBelow same bitsAt toBits renumbered twoEqual sameNumbers hasNumber threes triangles
+unfolding keptVertices keptTriangles least some countBelow sameWords vertexBits toBits renumbered twoEqualNumbers sameNumbers hasNumber
+    threes triangles
 counts-scan = (refl, refl)

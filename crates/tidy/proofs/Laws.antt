@@ -13,7 +13,7 @@ use Rattle.picks.proofs.Picks.{some-none, one-some}
 use Rattle.mesh_topology.specs.Topology.{kth}
 use Rattle.mesh.specs.Mesh.{Mesh, trianglesIn, vertexAt, cornersOf, cornersAt}
 use Rattle.tidy.specs.Numbers.{renumbered, sameNumbers}
-use Rattle.tidy.specs.Tidy.{bitsAt, coordinatesAt, vertexTotal, triangleTotal, firstOf, merged, cause, kept, numberOf, keptTriangles, vertexFrom, triangleFrom, tidied, firsts, causes}
+use Rattle.tidy.specs.Tidy.{vertexBits, coordinatesAt, vertexTotal, triangleTotal, firstOf, merged, cause, isKept, numberAfter, keptTriangles, vertexFrom, triangleFrom, tidied, firsts, causes}
 use Rattle.tidy.specs.Meaning.{Valid, First, Listed, stays, two-equal, repeats, SameCorners, Retained, Squeezed}
 use Rattle.tidy.proofs.Coordinates.{same-bits, same-points, bits-points}
 use Rattle.tidy.proofs.Kept.{first, first-one, listed}
@@ -74,13 +74,13 @@ module _ (m : Mesh) where
   module _ (ok : Valid m) where
     -- the vertex that a corner names in the tidied mesh stood where the first of the given corner stands
     there : (u : ℕ) → Had m ok (firstOf m u)
-        → coordinatesAt (tidied m .vertices) (numberOf m (firstOf m u)) ≡ coordinatesAt (m .vertices) (firstOf m u)
+        → coordinatesAt (tidied m .vertices) (numberAfter m (firstOf m u)) ≡ coordinatesAt (m .vertices) (firstOf m u)
     there u h =
-        vertex-of m (numberOf m (firstOf m u)) (number-below m (firstOf m u) (h .below) (h .in-use))
+        vertex-of m (numberAfter m (firstOf m u)) (number-below m (firstOf m u) (h .below) (h .in-use))
         ∙ ap (coordinatesAt (m .vertices)) (from-number m (firstOf m u) (h .below) (h .in-use))
 
-    corner : (u : ℕ) → Had m ok (firstOf m u) → bitsAt (tidied m .vertices) (numberOf m (firstOf m u)) ≡ bitsAt (m .vertices) u
-    corner u h = same-bits (tidied m .vertices) (m .vertices) (numberOf m (firstOf m u)) (firstOf m u) (there u h) ∙ first m u .identical
+    corner : (u : ℕ) → Had m ok (firstOf m u) → vertexBits (tidied m .vertices) (numberAfter m (firstOf m u)) ≡ vertexBits (m .vertices) u
+    corner u h = same-bits (tidied m .vertices) (m .vertices) (numberAfter m (firstOf m u)) (firstOf m u) (there u h) ∙ first m u .identical
 
     pub corners : (k : ℕ) → k < keptTriangles m
         → SameCorners m (kth (trianglesIn m) (triangleFrom m k)) (tidied m) (kth (trianglesIn (tidied m)) k)
@@ -100,9 +100,9 @@ module _ (m : Mesh) where
 
     -- and the very points, where each coordinate is an f32, as those of a lent slice are
     module _ (held : (i : ℕ) → T (fits binary32 (getD (m .vertices) i nan))) where
-      point : (u : ℕ) → Had m ok (firstOf m u) → vertexAt (tidied m .vertices) (numberOf m (firstOf m u)) ≡ vertexAt (m .vertices) u
+      point : (u : ℕ) → Had m ok (firstOf m u) → vertexAt (tidied m .vertices) (numberAfter m (firstOf m u)) ≡ vertexAt (m .vertices) u
       point u h =
-          same-points (tidied m .vertices) (m .vertices) (numberOf m (firstOf m u)) (firstOf m u) (there u h)
+          same-points (tidied m .vertices) (m .vertices) (numberAfter m (firstOf m u)) (firstOf m u) (there u h)
           ∙ bits-points (m .vertices) held (firstOf m u) u (first m u .identical)
 
       pub corners-stay : (k : ℕ) → k < keptTriangles m → cornersAt (tidied m) k ≡ cornersAt m (triangleFrom m k)

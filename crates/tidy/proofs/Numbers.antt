@@ -7,7 +7,7 @@ use mathlib.Core.Bool.{Bool, true, false, _||_, or-true}
 use lib.Dec.{eqb}
 use borrow.Author.Tests.{eqb-true, eqb-false, eq-eqb, ne-eqb}
 use Rattle.mesh_topology.specs.declared.Triangle.{Triangle}
-use Rattle.tidy.specs.Numbers.{renumbered, twoEqual, sameNumbers, hasNumber}
+use Rattle.tidy.specs.Numbers.{renumbered, twoEqualNumbers, sameNumbers, hasNumber}
 
 -- P holds of each of the three
 pub record On (P : ℕ → Type 0) (t : Triangle) : Type 0 where
@@ -68,8 +68,8 @@ module _ (P : ℕ → Type 0) (f : ℕ → ℕ) (apart : (u v : ℕ) → P u →
   unfolding hasNumber renumbered
   has-renumbered t v o p = simp (eqb-renumbered, o .a, o .b, o .c, p)
 
-  pub two-equal-renumbered : (t : Triangle) → On P t → twoEqual (renumbered f t) ≡ twoEqual t
-  unfolding twoEqual renumbered
+  pub two-equal-renumbered : (t : Triangle) → On P t → twoEqualNumbers (renumbered f t) ≡ twoEqualNumbers t
+  unfolding twoEqualNumbers renumbered
   two-equal-renumbered t o = simp (eqb-renumbered, o .a, o .b, o .c)
 
   pub same-numbers-renumbered : (s t : Triangle) → On P s → On P t → sameNumbers (renumbered f s) (renumbered f t) ≡ sameNumbers s t

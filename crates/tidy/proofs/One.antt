@@ -15,7 +15,7 @@ use Rattle.mesh_topology.specs.declared.Triangle.{Triangle}
 use Rattle.mesh_topology.specs.Topology.{triangle, kth}
 use Rattle.mesh_explicit.specs.Explicit.{explicit}
 use Rattle.mesh.specs.Mesh.{Mesh, trianglesIn}
-use Rattle.tidy.specs.Tidy.{bitsAt, coordinatesAt, vertexTotal, triangleTotal, keptVertices, keptTriangles, vertexFrom, triangleFrom, tidiedCoordinates, tidied}
+use Rattle.tidy.specs.Tidy.{vertexBits, coordinatesAt, vertexTotal, triangleTotal, keptVertices, keptTriangles, vertexFrom, triangleFrom, tidiedCoordinates, tidied}
 use Rattle.tidy.specs.Meaning.{Valid, SameCorners, ByIndices, IsTidied}
 use Rattle.tidy.proofs.Numbers.{On}
 use Rattle.tidy.proofs.Coordinates.{coordinates-whole}
@@ -52,11 +52,11 @@ module _ (m n : Mesh) (ok : Valid m) (p : IsTidied m n) where
       ∙ ap (joined (λ v. coordinatesAt (m .vertices) (vertexFrom m v))) vertex-count
 
   -- one vertex has these bits
-  named : (x y : ℕ) → x < keptVertices m → y < keptVertices m → bitsAt (n .vertices) x ≡ bitsAt (tidied m .vertices) y → x ≡ y
+  named : (x y : ℕ) → x < keptVertices m → y < keptVertices m → vertexBits (n .vertices) x ≡ vertexBits (tidied m .vertices) y → x ≡ y
   named x y h l e = go (decLt x y) (decLt y x)
     where
-      f : bitsAt (tidied m .vertices) x ≡ bitsAt (tidied m .vertices) y
-      f = ap (λ (vs : List Float). bitsAt vs x) (sym same-row) ∙ e
+      f : vertexBits (tidied m .vertices) x ≡ vertexBits (tidied m .vertices) y
+      f = ap (λ (vs : List Float). vertexBits vs x) (sym same-row) ∙ e
 
       go : Dec (x < y) → Dec (y < x) → x ≡ y
       go (yes w) v = absurd (vertices-apart m x y w l f)

@@ -20,8 +20,8 @@ use Rattle.mesh_topology.specs.Refusals.{belowCount}
 use Rattle.mesh_topology.proofs.Laws.{vertices-at}
 use Rattle.mesh_explicit.proofs.Laws.{explicit-names}
 use Rattle.mesh.specs.Mesh.{Mesh, vertexCount, trianglesIn}
-use Rattle.tidy.specs.Numbers.{renumbered, twoEqual, sameNumbers, hasNumber}
-use Rattle.tidy.specs.Tidy.{bitsAt, coordinatesAt, vertexTotal, triangleTotal, firstOf, merged, kept, used, numberOf, keptVertices, keptTriangles, vertexFrom, triangleFrom, tidied, tidiedTriangles, tidiedCoordinates}
+use Rattle.tidy.specs.Numbers.{renumbered, twoEqualNumbers, sameNumbers, hasNumber}
+use Rattle.tidy.specs.Tidy.{vertexBits, coordinatesAt, vertexTotal, triangleTotal, firstOf, merged, isKept, used, numberAfter, keptVertices, keptTriangles, vertexFrom, triangleFrom, tidied, tidiedTriangles, tidiedCoordinates}
 use Rattle.tidy.specs.Meaning.{Valid, Stays, Clean}
 use Rattle.tidy.proofs.Coordinates.{coordinates-part, same-bits}
 use Rattle.tidy.proofs.Numbers.{On, on-renumbered, has-renumbered, two-equal-renumbered, same-numbers-renumbered}
@@ -48,7 +48,7 @@ module _ (m : Mesh) where
       coordinates-part (tidied m .vertices) i (omega (arith, vertices-long))
       ∙ joined-at (λ i. coordinatesAt (m .vertices) (vertexFrom m i)) 3 (λ i. refl) (keptVertices m) i h
 
-  pub bits-of : (i : ℕ) → i < keptVertices m → bitsAt (tidied m .vertices) i ≡ bitsAt (m .vertices) (vertexFrom m i)
+  pub bits-of : (i : ℕ) → i < keptVertices m → vertexBits (tidied m .vertices) i ≡ vertexBits (m .vertices) (vertexFrom m i)
   bits-of i h = same-bits (tidied m .vertices) (m .vertices) i (vertexFrom m i) (vertex-of i h)
 
   pub triangles-are : trianglesIn (tidied m) ≡ tidiedTriangles m
@@ -57,13 +57,14 @@ module _ (m : Mesh) where
 
   pub triangles-long : triangleTotal (tidied m) ≡ keptTriangles m
   unfolding tidiedTriangles
-  triangles-long = ap length triangles-are ∙ length-table (λ k. renumbered (numberOf m) (merged m (triangleFrom m k))) (keptTriangles m)
+  triangles-long = ap length triangles-are ∙ length-table (λ k. renumbered (numberAfter m) (merged m (triangleFrom m k))) (keptTriangles m)
 
-  pub triangle-of : (k : ℕ) → k < keptTriangles m → kth (trianglesIn (tidied m)) k ≡ renumbered (numberOf m) (merged m (triangleFrom m k))
+  pub triangle-of : (k : ℕ) → k < keptTriangles m
+      → kth (trianglesIn (tidied m)) k ≡ renumbered (numberAfter m) (merged m (triangleFrom m k))
   unfolding tidiedTriangles
   triangle-of k l =
       ap (λ (ts : List Triangle). kth ts k) triangles-are
-      ∙ table-at (λ k. renumbered (numberOf m) (merged m (triangleFrom m k))) (keptTriangles m) k (triangle 0 0 0) l
+      ∙ table-at (λ k. renumbered (numberAfter m) (merged m (triangleFrom m k))) (keptTriangles m) k (triangle 0 0 0) l
 
   -- ---- where its vertices and triangles stood
 
@@ -71,25 +72,25 @@ module _ (m : Mesh) where
   unfolding vertexFrom keptVertices
   vertices-in-turn = in-turn (used m) (vertexTotal m)
 
-  pub triangles-in-turn : InTurn (kept m) (triangleTotal m) (keptTriangles m) (triangleFrom m)
+  pub triangles-in-turn : InTurn (isKept m) (triangleTotal m) (keptTriangles m) (triangleFrom m)
   unfolding triangleFrom keptTriangles
-  triangles-in-turn = in-turn (kept m) (triangleTotal m)
+  triangles-in-turn = in-turn (isKept m) (triangleTotal m)
 
   -- a used vertex has a number, and the vertex of that number stood where it stands
-  pub number-below : (v : ℕ) → v < vertexTotal m → used m v ≡ true → numberOf m v < keptVertices m
-  unfolding numberOf keptVertices
+  pub number-below : (v : ℕ) → v < vertexTotal m → used m v ≡ true → numberAfter m v < keptVertices m
+  unfolding numberAfter keptVertices
   number-below v l h = count-up (used m) v (vertexTotal m) l h
 
-  pub from-number : (v : ℕ) → v < vertexTotal m → used m v ≡ true → vertexFrom m (numberOf m v) ≡ v
-  unfolding numberOf vertexFrom
+  pub from-number : (v : ℕ) → v < vertexTotal m → used m v ≡ true → vertexFrom m (numberAfter m v) ≡ v
+  unfolding numberAfter vertexFrom
   from-number v l h = select-count (used m) (vertexTotal m) v l h
 
-  pub number-from : (i : ℕ) → i < keptVertices m → numberOf m (vertexFrom m i) ≡ i
-  unfolding numberOf vertexFrom keptVertices
+  pub number-from : (i : ℕ) → i < keptVertices m → numberAfter m (vertexFrom m i) ≡ i
+  unfolding numberAfter vertexFrom keptVertices
   number-from i l = picked (used m) (vertexTotal m) i l .before
 
   -- each vertex is its own first, and comes after those before it: no two have the same bits
-  pub vertices-apart : (i j : ℕ) → i < j → j < keptVertices m → bitsAt (tidied m .vertices) i ≡ bitsAt (tidied m .vertices) j → ⊥
+  pub vertices-apart : (i j : ℕ) → i < j → j < keptVertices m → vertexBits (tidied m .vertices) i ≡ vertexBits (tidied m .vertices) j → ⊥
   vertices-apart i j l h e =
       first m (vertexFrom m j) .none-before (vertexFrom m i)
       (omega (arith, vertices-in-turn .order i j l h, used-first m (vertexFrom m j) (vertices-in-turn .passes j h)))
@@ -121,12 +122,12 @@ module _ (m : Mesh) where
           c = record { below = b .c; in-use = u .c };
         }
 
-    apart : (u v : ℕ) → Had u → Had v → numberOf m u ≡ numberOf m v → u ≡ v
+    apart : (u v : ℕ) → Had u → Had v → numberAfter m u ≡ numberAfter m v → u ≡ v
     apart u v g h e = number-apart m u v (g .in-use) (h .in-use) e
 
     pub tidied-below : (k : ℕ) → k < keptTriangles m → On (λ v. v < keptVertices m) (kth (trianglesIn (tidied m)) k)
     tidied-below k l =
-        rw triangle-of (on-renumbered Had (λ v. v < keptVertices m) (numberOf m) (merged m (triangleFrom m k))
+        rw triangle-of (on-renumbered Had (λ v. v < keptVertices m) (numberAfter m) (merged m (triangleFrom m k))
         (λ v h. number-below v (h .below) (h .in-use)) (had k l))
 
     -- so the tidied mesh is what refusal 4 leaves, too
@@ -159,10 +160,10 @@ module _ (m : Mesh) where
         stood : (k : ℕ) → k < keptTriangles m → Stays m (triangleFrom m k)
         stood k l = kept-stays m (triangleFrom m k) (triangles-in-turn .passes k l)
 
-        unequal : (k : ℕ) → k < keptTriangles m → twoEqual (kth (trianglesIn (tidied m)) k) ≡ false
+        unequal : (k : ℕ) → k < keptTriangles m → twoEqualNumbers (kth (trianglesIn (tidied m)) k) ≡ false
         unequal k l =
-            ap twoEqual (triangle-of k l)
-            ∙ two-equal-renumbered Had (numberOf m) apart (merged m (triangleFrom m k)) (had k l)
+            ap twoEqualNumbers (triangle-of k l)
+            ∙ two-equal-renumbered Had (numberAfter m) apart (merged m (triangleFrom m k)) (had k l)
             ∙ stood k l .unequal
 
         new : (j k : ℕ) → j < k → k < keptTriangles m
@@ -170,7 +171,8 @@ module _ (m : Mesh) where
         new j k w l =
             let i : j < keptTriangles m = omega arith in
             ap₂ sameNumbers (triangle-of j i) (triangle-of k l)
-            ∙ same-numbers-renumbered Had (numberOf m) apart (merged m (triangleFrom m j)) (merged m (triangleFrom m k)) (had j i) (had k l)
+            ∙ same-numbers-renumbered Had (numberAfter m) apart (merged m (triangleFrom m j)) (merged m (triangleFrom m k))
+            (had j i) (had k l)
             ∙ stood k l .new (triangleFrom m j) (triangles-in-turn .order j k w l)
 
         -- the kept triangle that has a given vertex has it in its new place, under its new number
@@ -184,7 +186,7 @@ module _ (m : Mesh) where
               k,
               omega (arith, triangles-long, h),
               ap₂ hasNumber (triangle-of k h) (sym (number-from i l))
-                  ∙ has-renumbered Had (numberOf m) apart (merged m (triangleFrom m k)) (vertexFrom m i) (had k h)
+                  ∙ has-renumbered Had (numberAfter m) apart (merged m (triangleFrom m k)) (vertexFrom m i) (had k h)
                   (record { below = vertices-in-turn .below i l; in-use = vertices-in-turn .passes i l })
                   ∙ ap (λ (j : ℕ). hasNumber (merged m j) (vertexFrom m i)) e
                   ∙ u .holds,

@@ -10,8 +10,8 @@ use Rattle.picks.proofs.Picks.{count-all}
 use Rattle.mesh_topology.specs.declared.Triangle.{Triangle}
 use Rattle.mesh_topology.specs.Topology.{kth}
 use Rattle.mesh.specs.Mesh.{Mesh, trianglesIn}
-use Rattle.tidy.specs.Numbers.{twoEqual, sameNumbers, hasNumber}
-use Rattle.tidy.specs.Tidy.{vertexTotal, triangleTotal, firstOf, merged, cause, kept, used, keptVertices, keptTriangles, tidied}
+use Rattle.tidy.specs.Numbers.{twoEqualNumbers, sameNumbers, hasNumber}
+use Rattle.tidy.specs.Tidy.{vertexTotal, triangleTotal, firstOf, merged, cause, isKept, used, keptVertices, keptTriangles, tidied}
 use Rattle.tidy.specs.Meaning.{Valid, Clean, Retained, Squeezed, ByIndices, NothingGoes}
 use Rattle.tidy.proofs.Numbers.{on-of, renumbered-stays}
 use Rattle.tidy.proofs.Kept.{first-own, stays-kept, kept-cause, uses-used}
@@ -28,10 +28,10 @@ module _ (m : Mesh) (ok : Valid m) (c : Clean m) where
       let t = kth (trianglesIn m) k in
       renumbered-stays (firstOf m) t (on-of (λ v. v < vertexTotal m) (λ v. firstOf m v ≡ v) t firsts-own (given-below m ok k l))
 
-  pub all-kept : (k : ℕ) → k < triangleTotal m → kept m k ≡ true
+  pub all-kept : (k : ℕ) → k < triangleTotal m → isKept m k ≡ true
   all-kept k l =
       stays-kept m k (record {
-        unequal = ap twoEqual (merged-own k l) ∙ c .unequal k l;
+        unequal = ap twoEqualNumbers (merged-own k l) ∙ c .unequal k l;
         new = λ j w. ap₂ sameNumbers (merged-own j (omega arith)) (merged-own k l) ∙ c .new j k w l;
       })
 
@@ -53,7 +53,7 @@ module _ (m : Mesh) (ok : Valid m) (c : Clean m) where
         none-dropped =
             table-same (cause m) (λ k. 0) (triangleTotal m) (λ k l. kept-cause m k (all-kept k l)) ∙ table-replicate 0 (triangleTotal m);
         vertices-stay = count-all (used m) (vertexTotal m) all-used;
-        triangles-stay = count-all (kept m) (triangleTotal m) all-kept;
+        triangles-stay = count-all (isKept m) (triangleTotal m) all-kept;
       }
 
   -- so it is what it is tidied to, where it is given as that is: a list with indices, and nothing left over
@@ -67,7 +67,7 @@ module _ (m : Mesh) (ok : Valid m) (c : Clean m) where
       retained =
           record {
             from = λ k. k;
-            order = own (kept m) (triangleTotal m) all-kept;
+            order = own (isKept m) (triangleTotal m) all-kept;
             corners = λ k l. record { a = refl; b = refl; c = refl };
           }
 

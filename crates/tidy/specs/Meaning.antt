@@ -15,8 +15,8 @@ use Rattle.mesh_topology.specs.Topology.{kth}
 use Rattle.mesh_topology.specs.Refusals.{allBelowCount}
 use Rattle.mesh_explicit.specs.Explicit.{explicit}
 use Rattle.mesh.specs.Mesh.{Mesh, trianglesIn}
-use Rattle.tidy.specs.Numbers.{twoEqual, sameNumbers, hasNumber}
-use Rattle.tidy.specs.Tidy.{bitsAt, coordinatesAt, vertexTotal, triangleTotal, merged, kept, used, keptVertices, keptTriangles, firsts, causes}
+use Rattle.tidy.specs.Numbers.{twoEqualNumbers, sameNumbers, hasNumber}
+use Rattle.tidy.specs.Tidy.{vertexBits, coordinatesAt, vertexTotal, triangleTotal, merged, isKept, used, keptVertices, keptTriangles, firsts, causes}
 
 -- what refusal 4 leaves: each number of a triangle is a vertex's
 abbrev pub Valid : Mesh → Type 0
@@ -26,20 +26,20 @@ Valid m = allBelowCount (vertexTotal m) (trianglesIn m) ≡ true
 
 -- f is the first vertex with the bits of vertex v
 pub record First (m : Mesh) (v f : ℕ) : Type 0 where
-  pub identical : bitsAt (m .vertices) f ≡ bitsAt (m .vertices) v
+  pub identical : vertexBits (m .vertices) f ≡ vertexBits (m .vertices) v
   pub not-after : f ≤ v
-  pub none-before : (w : ℕ) → w < f → bitsAt (m .vertices) w ≡ bitsAt (m .vertices) v → ⊥
+  pub none-before : (w : ℕ) → w < f → vertexBits (m .vertices) w ≡ vertexBits (m .vertices) v → ⊥
 
 -- ---- "each dropped one is listed with a true cause"
 
 -- merging done, triangle k has no two equal numbers, and no earlier one has its three
 pub record Stays (m : Mesh) (k : ℕ) : Type 0 where
-  pub unequal : twoEqual (merged m k) ≡ false
+  pub unequal : twoEqualNumbers (merged m k) ≡ false
   pub new : (j : ℕ) → j < k → sameNumbers (merged m j) (merged m k) ≡ false
 
 -- it has no two equal numbers, and an earlier one that is kept, as c lists them, has its three
 pub record Repeats (m : Mesh) (c : ℕ → ℕ) (k : ℕ) : Type 0 where
-  pub unequal : twoEqual (merged m k) ≡ false
+  pub unequal : twoEqualNumbers (merged m k) ≡ false
   pub of : ℕ
   pub earlier : of < k
   pub kept : c of ≡ 0
@@ -48,7 +48,7 @@ pub record Repeats (m : Mesh) (c : ℕ → ℕ) (k : ℕ) : Type 0 where
 -- c lists triangle k as it is: "0 kept, or the cause", "1 for equal numbers, else 2"
 pub data Listed (m : Mesh) (c : ℕ → ℕ) (k : ℕ) : Type 0 where
   stays : c k ≡ 0 → Stays m k → Listed m c k
-  two-equal : c k ≡ 1 → twoEqual (merged m k) ≡ true → Listed m c k
+  two-equal : c k ≡ 1 → twoEqualNumbers (merged m k) ≡ true → Listed m c k
   repeats : c k ≡ 2 → Repeats m c k → Listed m c k
 
 -- ---- "nothing that has such a cause to go is kept"
@@ -56,8 +56,8 @@ pub data Listed (m : Mesh) (c : ℕ → ℕ) (k : ℕ) : Type 0 where
 -- in this mesh no two vertices have identical bits, no triangle has two equal numbers, none has the three of an earlier one, and no
 -- vertex is unused
 pub record Clean (m : Mesh) : Type 0 where
-  pub apart : (v w : ℕ) → v < w → w < vertexTotal m → bitsAt (m .vertices) v ≡ bitsAt (m .vertices) w → ⊥
-  pub unequal : (k : ℕ) → k < triangleTotal m → twoEqual (kth (trianglesIn m) k) ≡ false
+  pub apart : (v w : ℕ) → v < w → w < vertexTotal m → vertexBits (m .vertices) v ≡ vertexBits (m .vertices) w → ⊥
+  pub unequal : (k : ℕ) → k < triangleTotal m → twoEqualNumbers (kth (trianglesIn m) k) ≡ false
   pub new : (j k : ℕ) → j < k → k < triangleTotal m → sameNumbers (kth (trianglesIn m) j) (kth (trianglesIn m) k) ≡ false
   pub in-use : (v : ℕ) → v < vertexTotal m → (k : ℕ) × (k < triangleTotal m) × (hasNumber (kth (trianglesIn m) k) v ≡ true)
 
@@ -65,14 +65,14 @@ pub record Clean (m : Mesh) : Type 0 where
 
 -- corner by corner, triangle t of n has the bits of triangle s of m
 pub record SameCorners (m : Mesh) (s : Triangle) (n : Mesh) (t : Triangle) : Type 0 where
-  pub a : bitsAt (n .vertices) (t .a) ≡ bitsAt (m .vertices) (s .a)
-  pub b : bitsAt (n .vertices) (t .b) ≡ bitsAt (m .vertices) (s .b)
-  pub c : bitsAt (n .vertices) (t .c) ≡ bitsAt (m .vertices) (s .c)
+  pub a : vertexBits (n .vertices) (t .a) ≡ vertexBits (m .vertices) (s .a)
+  pub b : vertexBits (n .vertices) (t .b) ≡ vertexBits (m .vertices) (s .b)
+  pub c : vertexBits (n .vertices) (t .c) ≡ vertexBits (m .vertices) (s .c)
 
 -- the triangles of n are those of m that are kept, in their order: triangle k of n is triangle `from k` of m
 pub record Retained (m n : Mesh) : Type 0 where
   pub from : ℕ → ℕ
-  pub order : InTurn (kept m) (triangleTotal m) (triangleTotal n) from
+  pub order : InTurn (isKept m) (triangleTotal m) (triangleTotal n) from
   pub corners : (k : ℕ) → k < triangleTotal n → SameCorners m (kth (trianglesIn m) (from k)) n (kth (trianglesIn n) k)
 
 -- ---- "squeezes out unused vertices"

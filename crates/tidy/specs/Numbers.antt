@@ -10,8 +10,8 @@ unfoldable pub renumbered : (ℕ → ℕ) → Triangle → Triangle
 renumbered f t = triangle (f (t .a)) (f (t .b)) (f (t .c))
 
 -- "two equal vertex numbers"
-unfoldable pub twoEqual : Triangle → Bool
-twoEqual t = eqb (t .a) (t .b) || eqb (t .b) (t .c) || eqb (t .c) (t .a)
+unfoldable pub twoEqualNumbers : Triangle → Bool
+twoEqualNumbers t = eqb (t .a) (t .b) || eqb (t .b) (t .c) || eqb (t .c) (t .a)
 
 -- the numbers are x, y and z, in this order
 abbrev pub are : Triangle → ℕ → ℕ → ℕ → Bool

@@ -1,8 +1,8 @@
 -- Three numbers that are compared together. Definitions only.
 use mathlib.Core.Bool.{Bool, _&&_}
 use lib.Dec.{eqb}
-use Rattle.tidy.specs.declared.Three.{Three}
+use Rattle.tidy.specs.declared.ThreeWords.{ThreeWords}
 
 -- all three agree
-unfoldable pub same : Three → Three → Bool
-same x y = eqb (x .a) (y .a) && eqb (x .b) (y .b) && eqb (x .c) (y .c)
+unfoldable pub sameWords : ThreeWords → ThreeWords → Bool
+sameWords x y = eqb (x .a) (y .a) && eqb (x .b) (y .b) && eqb (x .c) (y .c)

@@ -17,13 +17,13 @@ use Rattle.mesh_topology.specs.declared.Indices.the-variants.{Given}
 use Rattle.mesh_topology.specs.Topology.{kth}
 use Rattle.mesh_explicit.specs.Explicit.{explicit}
 use Rattle.mesh.specs.Mesh.{Mesh, meshOf, vertexCount, trianglesIn}
-use Rattle.tidy.specs.declared.Three.{Three}
-use Rattle.tidy.specs.Same.{same}
-use Rattle.tidy.specs.Numbers.{renumbered, twoEqual, sameNumbers, hasNumber}
+use Rattle.tidy.specs.declared.ThreeWords.{ThreeWords}
+use Rattle.tidy.specs.Same.{sameWords}
+use Rattle.tidy.specs.Numbers.{renumbered, twoEqualNumbers, sameNumbers, hasNumber}
 
 -- the bits of vertex v's coordinates. After refusal 2 no coordinate is a NaN, so each has one pattern.
-unfoldable pub bitsAt : List Float → ℕ → Three
-bitsAt vs v =
+unfoldable pub vertexBits : List Float → ℕ → ThreeWords
+vertexBits vs v =
     record {
       a = toBits binary32 (getD vs (3 * v) nan);
       b = toBits binary32 (getD vs (3 * v + 1) nan);
@@ -45,7 +45,7 @@ module _ (m : Mesh) where
   -- "merges vertices of identical bits (first kept)": the first vertex with the bits of v, in the given numbering; v itself where none
   -- before it has them
   unfoldable pub firstOf : ℕ → ℕ
-  firstOf v = least (λ w. same (bitsAt (m .vertices) w) (bitsAt (m .vertices) v)) v
+  firstOf v = least (λ w. sameWords (vertexBits (m .vertices) w) (vertexBits (m .vertices) v)) v
 
   -- triangle k with the firsts for its numbers
   unfoldable pub merged : ℕ → Triangle
@@ -55,16 +55,16 @@ module _ (m : Mesh) where
   -- why triangle k goes: 1, "two equal vertex numbers"; else 2, it is later than one "with the same three numbers in any order"; or 0, kept
   unfoldable pub cause : ℕ → ℕ
   unfolding merged
-  cause k = cond (twoEqual (merged k)) 1 (cond (some (λ j. sameNumbers (merged j) (merged k)) k) 2 0)
+  cause k = cond (twoEqualNumbers (merged k)) 1 (cond (some (λ j. sameNumbers (merged j) (merged k)) k) 2 0)
 
-  unfoldable pub kept : ℕ → Bool
+  unfoldable pub isKept : ℕ → Bool
   unfolding cause
-  kept k = eqb (cause k) 0
+  isKept k = eqb (cause k) 0
 
   -- "squeezes out unused vertices": used is what a kept triangle has
   unfoldable pub used : ℕ → Bool
-  unfolding kept
-  used v = some (λ k. kept k && hasNumber (merged k) v) triangleTotal
+  unfolding isKept
+  used v = some (λ k. isKept k && hasNumber (merged k) v) triangleTotal
 
   -- "Both kept counts are returned."
   unfoldable pub keptVertices : ℕ
@@ -72,13 +72,13 @@ module _ (m : Mesh) where
   keptVertices = countBelow used vertexTotal
 
   unfoldable pub keptTriangles : ℕ
-  unfolding kept
-  keptTriangles = countBelow kept triangleTotal
+  unfolding isKept
+  keptTriangles = countBelow isKept triangleTotal
 
   -- the number that vertex v has in the tidied mesh: how many used ones come before it
-  unfoldable pub numberOf : ℕ → ℕ
+  unfoldable pub numberAfter : ℕ → ℕ
   unfolding used
-  numberOf v = countBelow used v
+  numberAfter v = countBelow used v
 
   -- which given vertex is vertex i of the tidied mesh, and which given triangle is triangle k
   unfoldable pub vertexFrom : ℕ → ℕ
@@ -86,8 +86,8 @@ module _ (m : Mesh) where
   vertexFrom i = select used vertexTotal i
 
   unfoldable pub triangleFrom : ℕ → ℕ
-  unfolding kept
-  triangleFrom k = select kept triangleTotal k
+  unfolding isKept
+  triangleFrom k = select isKept triangleTotal k
 
   -- ---- the tidied mesh
 
@@ -96,8 +96,8 @@ module _ (m : Mesh) where
   tidiedCoordinates = joined (λ i. coordinatesAt (m .vertices) (vertexFrom i)) keptVertices
 
   unfoldable pub tidiedTriangles : List Triangle
-  unfolding triangleFrom keptTriangles numberOf
-  tidiedTriangles = table (λ k. renumbered numberOf (merged (triangleFrom k))) keptTriangles
+  unfolding triangleFrom keptTriangles numberAfter
+  tidiedTriangles = table (λ k. renumbered numberAfter (merged (triangleFrom k))) keptTriangles
 
   -- a list with explicit indices
   unfoldable pub tidied : Mesh

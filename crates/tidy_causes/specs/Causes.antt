@@ -9,8 +9,8 @@ use Rattle.picks.specs.Picks.{some}
 use Rattle.mesh_topology.specs.declared.Triangle.{Triangle}
 use Rattle.mesh_topology.specs.Topology.{kth}
 use Rattle.mesh_topology.specs.Refusals.{allBelowCount}
-use Rattle.tidy.specs.declared.Three.{Three}
-use Rattle.tidy.specs.Numbers.{renumbered, twoEqual, sameNumbers}
+use Rattle.tidy.specs.declared.ThreeWords.{ThreeWords}
+use Rattle.tidy.specs.Numbers.{renumbered, twoEqualNumbers, sameNumbers}
 use Rattle.tidy.specs.Ascending.{ascending}
 use Rattle.tidy_search.specs.Links.{Entered}
 
@@ -26,7 +26,7 @@ mergedBy ts firsts k = renumbered (λ v. getD firsts v 0) (kth ts k)
 
 -- why triangle k goes, by the merged triangles: `cause` of the mesh
 unfoldable pub causeFrom : (ℕ → Triangle) → ℕ → ℕ
-causeFrom t k = cond (twoEqual (t k)) 1 (cond (some (λ j. sameNumbers (t j) (t k)) k) 2 0)
+causeFrom t k = cond (twoEqualNumbers (t k)) 1 (cond (some (λ j. sameNumbers (t j) (t k)) k) 2 0)
 
 abbrev pub causeBy : List Triangle → List ℕ → ℕ → ℕ
 causeBy ts firsts k = causeFrom (mergedBy ts firsts) k
@@ -34,21 +34,21 @@ causeBy ts firsts k = causeFrom (mergedBy ts firsts) k
 -- ---- the search
 
 -- by what triangle k is looked for
-abbrev pub keyBy : List Triangle → List ℕ → ℕ → Three
+abbrev pub keyBy : List Triangle → List ℕ → ℕ → ThreeWords
 keyBy ts firsts k = ascending (mergedBy ts firsts k)
 
 -- two of three numbers in ascending order are equal; such a triangle is not entered
-abbrev pub flat : Three → Bool
-flat k = eqb (k .a) (k .b) || eqb (k .b) (k .c)
+abbrev pub flatKey : ThreeWords → Bool
+flatKey k = eqb (k .a) (k .b) || eqb (k .b) (k .c)
 
-abbrev pub solid : Three → Bool
-solid k = not (flat k)
+abbrev pub solidKey : ThreeWords → Bool
+solidKey k = not (flatKey k)
 
 abbrev pub TrianglesEntered : List Triangle → List ℕ → ℕ → ℕ → List ℕ → Type 0
-TrianglesEntered ts firsts n k links = Entered (keyBy ts firsts) solid n k links
+TrianglesEntered ts firsts n k links = Entered (keyBy ts firsts) solidKey n k links
 
 -- the triangles below k are entered, and triangle k is the next
-pub record Ready (ts : List Triangle) (firsts : List ℕ) (n k : ℕ) (links : List ℕ) : Type 0 where
+pub record ReadyForTriangle (ts : List Triangle) (firsts : List ℕ) (n k : ℕ) (links : List ℕ) : Type 0 where
   pub entered : TrianglesEntered ts firsts n k links
   pub counts : n ≡ length ts
   pub mergeable : Mergeable ts firsts k

@@ -7,25 +7,25 @@ use lib.ListN.{length}
 use lib.Ieee.{Float}
 use Rattle.float_bits.specs.Patterns.{bitsOf}
 use Rattle.picks.specs.Picks.{least}
-use Rattle.tidy.specs.declared.Three.{Three}
-use Rattle.tidy.specs.Same.{same}
-use Rattle.tidy.specs.Tidy.{bitsAt}
+use Rattle.tidy.specs.declared.ThreeWords.{ThreeWords}
+use Rattle.tidy.specs.Same.{sameWords}
+use Rattle.tidy.specs.Tidy.{vertexBits}
 use Rattle.tidy_search.specs.Links.{Entered}
 
 -- the first vertex with the bits of v: `firstOf` of every mesh that has these vertices
 abbrev pub firstIn : List Float → ℕ → ℕ
-firstIn vs v = least (λ w. same (bitsAt vs w) (bitsAt vs v)) v
+firstIn vs v = least (λ w. sameWords (vertexBits vs w) (vertexBits vs v)) v
 
 -- every vertex is entered
-abbrev pub any : Three → Bool
+abbrev pub any : ThreeWords → Bool
 any k = true
 
 -- the vertices below v are entered into the row of links, by the bits of its floats
 abbrev pub VerticesEntered : List Float → ℕ → ℕ → List Float → Type 0
-VerticesEntered vs n v links = Entered (bitsAt vs) any n v (bitsOf links)
+VerticesEntered vs n v links = Entered (vertexBits vs) any n v (bitsOf links)
 
 -- and vertex v is the next
-pub record Ready (vs : List Float) (n v : ℕ) (links : List Float) : Type 0 where
+pub record ReadyForVertex (vs : List Float) (n v : ℕ) (links : List Float) : Type 0 where
   pub entered : VerticesEntered vs n v links
   pub next : v < n
   pub three : length vs ≡ 3 * n

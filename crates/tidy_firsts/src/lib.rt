@@ -2,7 +2,7 @@
 // entered one by one into a row of links, and each is looked for before it is entered. The row is lent: the
 // coordinates' output, which has three words for each vertex. A part of the port: users call `sdf`.
 use float_bits::bits_of;
-use tidy::Three;
+use tidy::ThreeWords;
 use tidy::are_same;
 use tidy_search::head;
 use tidy_search::link;
@@ -14,16 +14,16 @@ ghost use Prim.Native.Nat.{_+_, _*_, _^_, _<_};
 ghost use lib.ListN.{length};
 ghost use Rattle.float_bits.specs.Patterns.{bitsOf};
 ghost use Rattle.lists.specs.Table.{table};
-ghost use Rattle.tidy.specs.Tidy.{bitsAt};
+ghost use Rattle.tidy.specs.Tidy.{vertexBits};
 ghost use Rattle.tidy_search.specs.Links.{Ends};
-ghost use Rattle.tidy_firsts.specs.Firsts.{firstIn, Ready, VerticesEntered};
+ghost use Rattle.tidy_firsts.specs.Firsts.{firstIn, ReadyForVertex, VerticesEntered};
 
 // The bits of vertex v.
-fn bits_at(vertices: &[f32], v: usize) -> Three
+fn bits_at(vertices: &[f32], v: usize) -> ThreeWords
     requires { ⌜ 3 * v + 2 < length (now vertices) ⌝ }
-    ensures { λ r. ⌜ r ≡ bitsAt (now (vertices .entry)) v ⌝ }
+    ensures { λ r. ⌜ r ≡ vertexBits (now (vertices .entry)) v ⌝ }
 {
-    Three {
+    ThreeWords {
         a: bits_of(vertices[3 * v]),
         b: bits_of(vertices[3 * v + 1]),
         c: bits_of(vertices[3 * v + 2]),
@@ -32,9 +32,9 @@ fn bits_at(vertices: &[f32], v: usize) -> Three
 
 // The link at which a search for the bits of vertex v ends. The links that it passes lie ever further behind, so it ends.
 fn place(vertices: &[f32], links: &[f32], n: usize, v: usize) -> usize
-    requires { ⌜ Ready (now vertices) n v (now links) ⌝ }
+    requires { ⌜ ReadyForVertex (now vertices) n v (now links) ⌝ }
     ensures { λ r.
-        let key = bitsAt (now (vertices .entry)) in
+        let key = vertexBits (now (vertices .entry)) in
         ⌜ Ends key n (bitsOf (now (links .entry))) (key v) r ⌝ }
 {
     let key = bits_at(vertices, v);
@@ -56,7 +56,7 @@ fn place(vertices: &[f32], links: &[f32], n: usize, v: usize) -> usize
 
 // Looks for the bits of vertex v and enters it where they are new: the first vertex that has them.
 fn enter(vertices: &[f32], links: &mut [f32], n: usize, v: usize) -> u32
-    requires { ⌜ Ready (now vertices) n v (now links) ⌝ }
+    requires { ⌜ ReadyForVertex (now vertices) n v (now links) ⌝ }
     ensures { λ r. ⌜ r ≡ firstIn (now (vertices .entry)) v ⌝ }
     ensures { λ _. ⌜ VerticesEntered (now (vertices .entry)) n (v + 1) (now (links .exit)) ⌝ }
 {

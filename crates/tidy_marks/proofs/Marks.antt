@@ -17,7 +17,7 @@ use Rattle.mesh_topology.proofs.Laws.{vertices-at}
 use Rattle.tidy.specs.Numbers.{renumbered, hasNumber}
 use Rattle.tidy_words.proofs.Words.{zeros-bits}
 use Rattle.tidy_causes.specs.Causes.{mergedBy}
-use Rattle.tidy_marks.specs.Marks.{Squeezable, Within}
+use Rattle.tidy_marks.specs.Marks.{Squeezable, NumbersBelow}
 
 -- a row of floats has as many bits
 pub bits-long : (words : List Float) (k : ℕ) → length words ≡ k → length (bitsOf words) ≡ k
@@ -63,7 +63,7 @@ marked cause q x h = sym (rw (eq-eqb cause 0 h))
 
 -- the numbers of a merged triangle are those of vertices
 pub merged-within : {ts : List Triangle} {firsts causes : List ℕ} {words : ℕ} (k : ℕ) → Squeezable ts firsts causes words → k < length ts
-    → Within (length firsts) (mergedBy ts firsts k)
+    → NumbersBelow (length firsts) (mergedBy ts firsts k)
 unfolding mergedBy renumbered
 merged-within {ts} {firsts} k s l =
     let v = vertices-at (length firsts) ts k (s .below) l in

@@ -22,7 +22,7 @@ pub record Squeezable (ts : List Triangle) (firsts causes : List ℕ) (words : �
   pub three : words ≡ 3 * length firsts
 
 -- each number of a triangle is below n
-pub record Within (n : ℕ) (t : Triangle) : Type 0 where
+pub record NumbersBelow (n : ℕ) (t : Triangle) : Type 0 where
   pub a : t .a < n
   pub b : t .b < n
   pub c : t .c < n
@@ -42,7 +42,7 @@ isMarked n words v = not (eqb (markAt n words v) 0)
 abbrev pub numbered : ℕ → List Float → ℕ → ℕ → ℕ → ℕ
 numbered n words v count w = cond (eqb v w && isMarked n words v) (count + 1) (markAt n words w)
 
--- a triangle is kept where its cause is 0, and a vertex is used where a kept triangle has it: `kept` and `used` of the mesh
+-- a triangle is kept where its cause is 0, and a vertex is used where a kept triangle has it: `isKept` and `used` of the mesh
 abbrev pub keptBy : List ℕ → ℕ → Bool
 keptBy causes k = eqb (getD causes k 0) 0
 

@@ -15,12 +15,12 @@ ghost use Rattle.lists.specs.Range.{countBelow};
 ghost use Rattle.mesh_topology.specs.Topology.{trianglesOf};
 ghost use Rattle.tidy.specs.Numbers.{hasNumber};
 ghost use Rattle.tidy_causes.specs.Causes.{mergedBy};
-ghost use Rattle.tidy_marks.specs.Marks.{Within, Marks, markAt, keptBy, usedBy, isMarked, numbered, Squeezable};
+ghost use Rattle.tidy_marks.specs.Marks.{NumbersBelow, Marks, markAt, keptBy, usedBy, isMarked, numbered, Squeezable};
 
 // Marks the three vertices of a triangle.
 fn mark_triangle(words: &mut [f32], n: usize, t: Triangle)
     requires { ⌜ (length (now words) ≡ 3 * n) × (n < 2 ^ 22) ⌝ }
-    requires { ⌜ Within n t ⌝ }
+    requires { ⌜ NumbersBelow n t ⌝ }
     ensures { λ _. ⌜ Marks n (λ v. cond (hasNumber t v) 1 (markAt n (now (words .entry)) v)) (now (words .exit)) ⌝ }
 {
     put_number(words, 2 * n + t.a as usize, 1);

@@ -22,8 +22,8 @@ use Rattle.mesh_topology.specs.Topology.{triangle, kth}
 use Rattle.mesh_topology.proofs.Laws.{vertices-at}
 use Rattle.mesh_explicit.specs.Explicit.{vertexNumbers, explicit}
 use Rattle.mesh.specs.Mesh.{Mesh, trianglesIn}
-use Rattle.tidy.specs.Numbers.{renumbered, twoEqual, sameNumbers, hasNumber}
-use Rattle.tidy.specs.Tidy.{coordinatesAt, vertexTotal, triangleTotal, firstOf, merged, cause, kept, used, numberOf, keptVertices, keptTriangles, vertexFrom, triangleFrom, tidiedTriangles, tidiedCoordinates, firsts, causes}
+use Rattle.tidy.specs.Numbers.{renumbered, twoEqualNumbers, sameNumbers, hasNumber}
+use Rattle.tidy.specs.Tidy.{coordinatesAt, vertexTotal, triangleTotal, firstOf, merged, cause, isKept, used, numberAfter, keptVertices, keptTriangles, vertexFrom, triangleFrom, tidiedTriangles, tidiedCoordinates, firsts, causes}
 use Rattle.tidy.specs.Meaning.{Valid}
 use Rattle.tidy.proofs.Numbers.{On}
 use Rattle.tidy.proofs.Tidied.{Had, had, triangles-in-turn}
@@ -54,27 +54,28 @@ module _ (m : Mesh) (ok : Valid m) where
   cause-by : (k : ℕ) → k < triangleTotal m → causeBy (trianglesIn m) (firsts m) k ≡ cause m k
   unfolding causeFrom cause
   cause-by k l =
-      ap₂ (λ (f s : Bool). cond f 1 (cond s 2 0)) (ap twoEqual (merged-by k l))
+      ap₂ (λ (f s : Bool). cond f 1 (cond s 2 0)) (ap twoEqualNumbers (merged-by k l))
       (some-same (λ j. sameNumbers (mergedBy (trianglesIn m) (firsts m) j) (mergedBy (trianglesIn m) (firsts m) k)) (λ j. sameNumbers (merged m j) (merged m k)) k
       (λ j h. ap₂ sameNumbers (merged-by j (omega arith)) (merged-by k l)))
 
   pub causes-by : table (causeBy (trianglesIn m) (firsts m)) (triangleTotal m) ≡ causes m
   causes-by = table-same (causeBy (trianglesIn m) (firsts m)) (cause m) (triangleTotal m) cause-by
 
-  kept-by : (k : ℕ) → k < triangleTotal m → keptBy (causes m) k ≡ kept m k
-  unfolding kept
+  kept-by : (k : ℕ) → k < triangleTotal m → keptBy (causes m) k ≡ isKept m k
+  unfolding isKept
   kept-by k l = ap (λ (c : ℕ). eqb c 0) (table-at (cause m) (triangleTotal m) k 0 l)
 
   used-by : (v : ℕ) → usedBy (trianglesIn m) (firsts m) (causes m) v ≡ used m v
   unfolding used
   used-by v =
-      some-same (λ k. keptBy (causes m) k && hasNumber (mergedBy (trianglesIn m) (firsts m) k) v) (λ k. kept m k && hasNumber (merged m k) v) (triangleTotal m)
+      some-same (λ k. keptBy (causes m) k && hasNumber (mergedBy (trianglesIn m) (firsts m) k) v)
+      (λ k. isKept m k && hasNumber (merged m k) v) (triangleTotal m)
       (λ k l. ap₂ (λ (a b : Bool). a && b) (kept-by k l) (ap (λ (t : Triangle). hasNumber t v) (merged-by k l)))
 
   -- how many triangles are kept
   pub triangles-counted : countBelow (keptBy (causes m)) (triangleTotal m) ≡ keptTriangles m
   unfolding keptTriangles
-  triangles-counted = count-same (keptBy (causes m)) (kept m) (triangleTotal m) kept-by
+  triangles-counted = count-same (keptBy (causes m)) (isKept m) (triangleTotal m) kept-by
 
   -- ---- marks
 
@@ -92,8 +93,8 @@ module _ (m : Mesh) (ok : Valid m) where
 
     module _ {new : List Float} (numbers : Marks (vertexTotal m)
         (λ v. cond (isMarked (vertexTotal m) words v) (countBelow (isMarked (vertexTotal m) words) v + 1) 0) new) where
-      number-is : (v : ℕ) → Had m ok v → markAt (vertexTotal m) new v - 1 ≡ numberOf m v
-      unfolding numberOf
+      number-is : (v : ℕ) → Had m ok v → markAt (vertexTotal m) new v - 1 ≡ numberAfter m v
+      unfolding numberAfter
       number-is v h =
           ap (λ (k : ℕ). k - 1) (numbers .is v (h .below)
           ∙ ap₂ (λ (b : Bool) (k : ℕ). cond b (k + 1) 0) (marked-is v (h .below) ∙ h .in-use)
@@ -123,14 +124,14 @@ module _ (m : Mesh) (ok : Valid m) where
           listed i = newNumbers (trianglesIn m) (firsts m) new (select (keptBy (causes m)) (triangleTotal m) i)
 
           tidy : ℕ → Triangle
-          tidy k = renumbered (numberOf m) (merged m (triangleFrom m k))
+          tidy k = renumbered (numberAfter m) (merged m (triangleFrom m k))
 
           -- the i-th kept triangle by the marks is that of the tidied mesh
           is : (i : ℕ) → i < keptTriangles m
               → byMarks (length (firsts m)) new (mergedBy (trianglesIn m) (firsts m) (select (keptBy (causes m)) (triangleTotal m) i)) ≡ tidy i
           is i l =
               let h = had m ok i l in
-              let from = select-same (keptBy (causes m)) (kept m) (triangleTotal m) i kept-by in
+              let from = select-same (keptBy (causes m)) (isKept m) (triangleTotal m) i kept-by in
               ap₂ (λ (n k : ℕ). byMarks n new (mergedBy (trianglesIn m) (firsts m) k)) (length-table (firstOf m) (vertexTotal m)) from
               ∙ ap (byMarks (vertexTotal m) new) (merged-by (triangleFrom m i) (triangles-in-turn m .below i l))
               ∙ triangles (number-is _ (h .a)) (number-is _ (h .b)) (number-is _ (h .c))

@@ -16,7 +16,7 @@ use Rattle.tidy.specs.Tidy.{vertexTotal, triangleTotal}
 use Rattle.tidy_mesh.specs.declared.Kept.{Kept}
 use Rattle.tidy_mesh.specs.declared.TidyAnswer.{TidyAnswer}
 use Rattle.tidy_mesh.specs.declared.TidyAnswer.the-variants.{Refused, Tidied}
-use Rattle.tidy_mesh.specs.Outcome.{TidyLent, outputsOf, wrongOutputs, tidyRefusal, keptOf, tidyLeft, tidyBy, tidyOutcome, GivesTidy, Tidyable}
+use Rattle.tidy_mesh.specs.Outcome.{TidyLent, outputsOf, wrongOutputs, tidyRefusal, keptCounts, tidyLeft, tidyBy, tidyOutcome, GivesTidy, Tidyable}
 
 module _ (m : Mesh) (b : TidyLent) where
   -- ---- the outcome by the number
@@ -29,7 +29,8 @@ module _ (m : Mesh) (b : TidyLent) where
   unfolding tidyOutcome
   refused-by n e h = rw e (gives-refusal n h)
 
-  pub tidied-by : {k : Kept} {left : TidyLent} → tidyRefusal m b ≡ 0 → k ≡ keptOf m → left ≡ tidyLeft m → GivesTidy (tidyOutcome m b) (Tidied k) left
+  pub tidied-by : {k : Kept} {left : TidyLent} → tidyRefusal m b ≡ 0 → k ≡ keptCounts m → left ≡ tidyLeft m
+      → GivesTidy (tidyOutcome m b) (Tidied k) left
   unfolding tidyOutcome
   tidied-by e f g =
       rw e (record {

@@ -68,8 +68,8 @@ tidyLeft m =
       causes = causes m;
     }
 
-abbrev pub keptOf : Mesh → Kept
-keptOf m = record { vertices = keptVertices m; triangles = keptTriangles m }
+abbrev pub keptCounts : Mesh → Kept
+keptCounts m = record { vertices = keptVertices m; triangles = keptTriangles m }
 
 pub record TidyOutcome : Type 0 where
   pub answer : TidyAnswer
@@ -77,7 +77,7 @@ pub record TidyOutcome : Type 0 where
   pub left : TidyLent
 
 abbrev pub tidyBy : ℕ → Mesh → TidyLent → TidyOutcome
-tidyBy zero m b = record { answer = Tidied (keptOf m); left = tidyLeft m }
+tidyBy zero m b = record { answer = Tidied (keptCounts m); left = tidyLeft m }
 tidyBy (suc n) m b = record { answer = Refused (suc n); left = b }
 
 unfoldable pub tidyOutcome : Mesh → TidyLent → TidyOutcome

@@ -7,7 +7,7 @@ ghost use mathlib.Core.Path.{_≡_};
 ghost use Prim.Native.Nat.{_≤_};
 ghost use Rattle.tidy.specs.Tidy.{triangleTotal};
 ghost use Rattle.mesh.specs.Mesh.{meshOf};
-ghost use Rattle.tidy_mesh.specs.Outcome.{tidyLentOf, outputsOf, wrongOutputs, Tidyable, Found, tidyLeft, keptOf, tidyOutcome, GivesTidy};
+ghost use Rattle.tidy_mesh.specs.Outcome.{tidyLentOf, outputsOf, wrongOutputs, Tidyable, Found, tidyLeft, keptCounts, tidyOutcome, GivesTidy};
 
 // How many vertices and triangles are kept.
 pub struct Kept {
@@ -64,7 +64,7 @@ fn squeeze(
     requires { let m = meshOf (now vertices) topology given (now indices) in
         ⌜ Tidyable m (tidyLentOf (now coordinates) (now listed) (now firsts) (now causes)) ⌝ }
     requires { ⌜ Found (meshOf (now vertices) topology given (now indices)) (now firsts) (now causes) ⌝ }
-    ensures { λ r. ⌜ r ≡ keptOf (meshOf (now (vertices .entry)) topology given (now (indices .entry))) ⌝ }
+    ensures { λ r. ⌜ r ≡ keptCounts (meshOf (now (vertices .entry)) topology given (now (indices .entry))) ⌝ }
     ensures { λ _.
         let m = meshOf (now (vertices .entry)) topology given (now (indices .entry)) in
         ⌜ (now (coordinates .exit) ≡ tidyLeft m .coordinates) × (now (listed .exit) ≡ tidyLeft m .indices) ⌝ }
@@ -101,7 +101,7 @@ fn tidy_accepted(
 ) -> Kept
     requires { let m = meshOf (now vertices) topology given (now indices) in
         ⌜ Tidyable m (tidyLentOf (now coordinates) (now listed) (now firsts) (now causes)) ⌝ }
-    ensures { λ r. ⌜ r ≡ keptOf (meshOf (now (vertices .entry)) topology given (now (indices .entry))) ⌝ }
+    ensures { λ r. ⌜ r ≡ keptCounts (meshOf (now (vertices .entry)) topology given (now (indices .entry))) ⌝ }
     ensures { λ _.
         let m = meshOf (now (vertices .entry)) topology given (now (indices .entry)) in
         let left = tidyLentOf (now (coordinates .exit)) (now (listed .exit)) (now (firsts .exit)) (now (causes .exit)) in

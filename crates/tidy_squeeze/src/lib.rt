@@ -19,7 +19,7 @@ ghost use Rattle.mesh_topology.specs.Topology.{trianglesOf};
 ghost use Rattle.mesh_explicit.specs.Explicit.{vertexNumbers};
 ghost use Rattle.tidy.specs.Padded.{padded, plusZero};
 ghost use Rattle.tidy.specs.Tidy.{coordinatesAt};
-ghost use Rattle.tidy_marks.specs.Marks.{Squeezable, Within, keptBy, isMarked};
+ghost use Rattle.tidy_marks.specs.Marks.{Squeezable, NumbersBelow, keptBy, isMarked};
 ghost use Rattle.tidy_squeeze.specs.Squeezed.{byMarks, pieceIf, newNumbers};
 
 fn less_one(x: u32) -> u32
@@ -33,7 +33,7 @@ fn less_one(x: u32) -> u32
 // A triangle by the numbers that the marks of its vertices hold, which begin with 1.
 fn renumber(words: &[f32], n: usize, t: Triangle) -> Triangle
     requires { ⌜ (length (now words) ≡ 3 * n) × (n < 2 ^ 22) ⌝ }
-    requires { ⌜ Within n t ⌝ }
+    requires { ⌜ NumbersBelow n t ⌝ }
     ensures { λ r. ⌜ r ≡ byMarks n (now (words .entry)) t ⌝ }
 {
     Triangle {

@@ -1,12 +1,12 @@
 -- `tidy_firsts::bits_at`: three floats, each by its bits. Assumes nothing.
 use borrow.Author.Needs.{needs}
-use Rattle.tidy.specs.Tidy.{bitsAt}
+use Rattle.tidy.specs.Tidy.{vertexBits}
 use Rattle.tidy.proofs.Same.{threes}
 use Rattle.tidy_firsts.proofs.bits_at.Statement.{statement}
 use Rattle.tidy_firsts.proofs.bits_at.Tie as tie
 
 returns : tie.Need-returns
-unfolding bitsAt
+unfolding vertexBits
 returns c =
     let a : tie.After-bits-of = search in
     let b : tie.After-bits-of2 = search in

@@ -7,7 +7,7 @@ use mathlib.Core.Path.{_≡_, refl, sym, _∙_, subst}
 use mathlib.Core.List.{List}
 use lib.ListN.{getD, set}
 use Rattle.float_bits.specs.Patterns.{bitsOf}
-use Rattle.tidy.specs.Tidy.{bitsAt}
+use Rattle.tidy.specs.Tidy.{vertexBits}
 use Rattle.tidy_search.specs.Links.{Entered}
 use Rattle.tidy_search.proofs.Links.{none-before, found-first, entered-found, entered-new}
 use Rattle.tidy_firsts.specs.Firsts.{any}
@@ -48,7 +48,8 @@ returns-2 c =
     let r = s .pre in
     let zero = sym (h .number-at .ensures) ∙ f .if1 .left in (
       sym (first-new (s .args .vertices .now) (s .args .v) (none-before (r .entered) (r .next) refl (p .place .ensures) zero)),
-      subst (λ (row : List ℕ). Entered (bitsAt (s .args .vertices .now)) any (s .args .n) (s .args .v + 1) row) (sym (n .put-number .ensures))
+      subst (λ (row : List ℕ). Entered (vertexBits (s .args .vertices .now)) any (s .args .n) (s .args .v + 1) row)
+          (sym (n .put-number .ensures))
           (entered-new (r .entered) (r .next) refl (p .place .ensures) zero),
     )
 

@@ -9,7 +9,7 @@ use lib.Ieee.{Float, binary32, toBits}
 use Rattle.float_bits.specs.Patterns.{bitsOf}
 use Rattle.lists.specs.Table.{Filled}
 use Rattle.lists.proofs.Table.{filled-none, filled-more, filled-all}
-use Rattle.tidy.specs.Tidy.{bitsAt}
+use Rattle.tidy.specs.Tidy.{vertexBits}
 use Rattle.tidy_words.proofs.Words.{zeros-bits}
 use Rattle.tidy_search.specs.Links.{Entered}
 use Rattle.tidy_search.proofs.Links.{none-entered}
@@ -37,7 +37,7 @@ loop-holds c =
     ap bitsOf (f .fill-floats .ensures) ∙ zeros-bits (length links) ∙ ap (λ (k : ℕ). replicate k 0) (s .pre .1 .0 ∙ s .pre .0) in
     record {
       filled = filled-none 0 (firstIn (s .args .vertices .now)) (s .args .firsts .now);
-      entered = subst (Entered (bitsAt (s .args .vertices .now)) any n 0) (sym zeros) (none-entered (omega (arith, s .pre .1 .1)));
+      entered = subst (Entered (vertexBits (s .args .vertices .now)) any n 0) (sym zeros) (none-entered (omega (arith, s .pre .1 .1)));
     }
 
 enter-requires : tie.Need-enter-requires Inv-loop μ-loop

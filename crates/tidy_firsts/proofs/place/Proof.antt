@@ -5,10 +5,10 @@ use native.Mathlib.Omega.{arith}
 use Prim.Native.Nat.{ℕ, _*_, _-_}
 use mathlib.Core.Path.{_≡_, sym, ap, ap₂, _∙_}
 use Rattle.float_bits.specs.Patterns.{bitsOf}
-use Rattle.tidy.specs.declared.Three.{Three}
-use Rattle.tidy.specs.Same.{same}
-use Rattle.tidy.specs.Tidy.{bitsAt}
-use Rattle.tidy_search.specs.Links.{headOf, Named}
+use Rattle.tidy.specs.declared.ThreeWords.{ThreeWords}
+use Rattle.tidy.specs.Same.{sameWords}
+use Rattle.tidy.specs.Tidy.{vertexBits}
+use Rattle.tidy_search.specs.Links.{headLink, Named}
 use Rattle.tidy_search.proofs.Search.{Searching, search-begins, search-ended, search-named, search-found, search-on, search-behind}
 use Rattle.tidy_firsts.proofs.Firsts.{long}
 use Rattle.tidy_firsts.proofs.place.Statement.{statement}
@@ -16,7 +16,7 @@ use Rattle.tidy_firsts.proofs.place.Tie as tie
 
 abbrev Inv-loop : tie.InvT-loop
 Inv-loop vertices links n v key rest₀ at₀ held₀ rest at held =
-    Searching (bitsAt vertices) n (bitsOf links) (bitsAt vertices v) rest at held
+    Searching (vertexBits vertices) n (bitsOf links) (vertexBits vertices v) rest at held
 
 abbrev μ-loop : tie.MeasureT-loop
 μ-loop vertices links n v key rest₀ at₀ held₀ rest at held = 3 * n - at
@@ -28,8 +28,8 @@ entry t = t .before .before .before .before .before .before .before
 abbrev turn : tie.After-are-same Inv-loop μ-loop → tie.In-loop Inv-loop μ-loop
 turn c = c .before .before
 
-abbrev bits : tie.In-loop Inv-loop μ-loop → ℕ → Three
-bits t = bitsAt (entry t .args .vertices .now)
+abbrev bits : tie.In-loop Inv-loop μ-loop → ℕ → ThreeWords
+bits t = vertexBits (entry t .args .vertices .now)
 
 -- the link at which a turn looks names a vertex before v
 named : (t : tie.In-loop Inv-loop μ-loop) → Named (bits t) (entry t .args .n) (entry t .args .v) (t .before .loop .at) (t .before .loop .held - 1)
@@ -37,11 +37,11 @@ named t = search-named (t .before .loop .inv) (t .loop-test .taken) (entry t .pr
 
 -- whether it has the bits that are looked for is what the test found
 tested : (c : tie.After-are-same Inv-loop μ-loop)
-    → same (bits (turn c) (turn c .before .loop .held - 1)) (bits (turn c) (entry (turn c) .args .v)) ≡ c .are-same .result
+    → sameWords (bits (turn c) (turn c .before .loop .held - 1)) (bits (turn c) (entry (turn c) .args .v)) ≡ c .are-same .result
 tested c =
     let k : tie.After-bits-at Inv-loop μ-loop = search in
     let o : tie.After-bits-at2 Inv-loop μ-loop = search in
-    sym (c .are-same .ensures ∙ ap₂ same (o .bits-at2 .ensures) (k .bits-at .ensures))
+    sym (c .are-same .ensures ∙ ap₂ sameWords (o .bits-at2 .ensures) (k .bits-at .ensures))
 
 bits-at-requires : tie.Need-bits-at-requires Inv-loop μ-loop
 bits-at-requires c κs =
@@ -63,7 +63,8 @@ loop-holds c =
     let s : tie.Start Inv-loop μ-loop = search in
     let h : tie.After-head Inv-loop μ-loop = search in
     let k : tie.After-bits-at Inv-loop μ-loop = search in
-    search-begins (k .bits-at .ensures) (h .head .ensures .0 ∙ ap (headOf (s .args .n)) (k .bits-at .ensures)) (h .head .ensures .1) (c .number-at .ensures)
+    search-begins (k .bits-at .ensures) (h .head .ensures .0 ∙ ap (headLink (s .args .n)) (k .bits-at .ensures)) (h .head .ensures .1)
+    (c .number-at .ensures)
 
 cast-w : tie.Need-cast-w Inv-loop μ-loop
 cast-w c =

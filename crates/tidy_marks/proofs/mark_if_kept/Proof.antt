@@ -6,7 +6,7 @@ use mathlib.Core.Bool.{cond}
 use lib.ListN.{length}
 use Rattle.tidy.specs.Numbers.{hasNumber}
 use Rattle.mesh_topology.specs.declared.Triangle.{Triangle}
-use Rattle.tidy_marks.specs.Marks.{Within, markAt}
+use Rattle.tidy_marks.specs.Marks.{NumbersBelow, markAt}
 use Rattle.tidy_marks.proofs.Marks.{unmarked, marked, merged-within}
 use Rattle.tidy_marks.proofs.mark_if_kept.Statement.{statement}
 use Rattle.tidy_marks.proofs.mark_if_kept.Tie as tie
@@ -25,7 +25,7 @@ mark-triangle-requires c κs =
     let s : tie.Start = search in
     let m : tie.After-merge = search in
     let p = s .pre .0 in
-    ((p .three, p .few), subst (Within _) (sym (m .merge .ensures)) (merged-within (s .args .k) p (omega (arith, p .one, s .pre .1))))
+    ((p .three, p .few), subst (NumbersBelow _) (sym (m .merge .ensures)) (merged-within (s .args .k) p (omega (arith, p .one, s .pre .1))))
 
 returns-2 : tie.Need-returns-2
 returns-2 c =

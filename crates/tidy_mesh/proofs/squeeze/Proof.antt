@@ -9,7 +9,7 @@ use Rattle.mesh.specs.Mesh.{Mesh, meshOf}
 use Rattle.tidy.specs.Tidy.{keptVertices, keptTriangles}
 use Rattle.tidy_marks.specs.Marks.{keptBy}
 use Rattle.tidy_mesh.specs.declared.Kept.{Kept}
-use Rattle.tidy_mesh.specs.Outcome.{keptOf}
+use Rattle.tidy_mesh.specs.Outcome.{keptCounts}
 use Rattle.tidy_mesh.proofs.Parts.{squeezable, words-long}
 use Rattle.tidy_mesh.proofs.Whole.{kept-vertices, kept-triangles, listed-is, packed-is}
 use Rattle.tidy_mesh.proofs.squeeze.Statement.{statement}
@@ -18,7 +18,8 @@ use Rattle.tidy_mesh.proofs.squeeze.Tie as tie
 abbrev mesh : tie.Start → Mesh
 mesh s = meshOf (s .args .vertices .now) (s .args .topology) (s .args .given) (s .args .indices .now)
 
-kept : (m : Mesh) {v t : ℕ} → v ≡ keptVertices m → t ≡ keptTriangles m → _≡_ {A = Kept} (record { vertices = v; triangles = t }) (keptOf m)
+kept : (m : Mesh) {v t : ℕ} → v ≡ keptVertices m → t ≡ keptTriangles m
+    → _≡_ {A = Kept} (record { vertices = v; triangles = t }) (keptCounts m)
 kept m e f = λ i. record { vertices = e i; triangles = f i }
 
 mark-used-requires : tie.Need-mark-used-requires

@@ -4,7 +4,7 @@ use native.Mathlib.Omega.{arith}
 use native.Mathlib.Nat.{mul-lt-mul-of-pos-right}
 use mathlib.Core.Path.{_≡_, sym, subst}
 use Prim.Native.Nat.{ℕ, _<_}
-use Rattle.tidy_search.specs.Links.{headOf}
+use Rattle.tidy_search.specs.Links.{headLink}
 use Rattle.tidy_search.proofs.Links.{head-below}
 use Rattle.tidy_search.proofs.head.Statement.{statement}
 use Rattle.tidy_search.proofs.head.Tie as tie
@@ -13,7 +13,7 @@ mul-result : tie.Need-mul-result
 mul-result c = omega (arith, mul-lt-mul-of-pos-right (c .mixed3 .ensures .1) (c .before .before .before .pre .0))
 
 returns : tie.Need-returns
-unfolding headOf
+unfolding headLink
 returns c =
     let s = c .before .before .before in
     let three = c .mixed3 .ensures .0 in

@@ -7,7 +7,7 @@ use borrow.Author.Tests.{eq-eqb, ne-eqb}
 use Rattle.lists.proofs.Puts.{said}
 use Rattle.mesh_topology.specs.declared.Triangle.{Triangle}
 use Rattle.mesh_explicit.specs.Explicit.{vertexNumbers}
-use Rattle.tidy_marks.specs.Marks.{Within}
+use Rattle.tidy_marks.specs.Marks.{NumbersBelow}
 use Rattle.tidy_marks.proofs.Marks.{merged-within}
 use Rattle.tidy_squeeze.specs.Squeezed.{byMarks}
 use Rattle.tidy_squeeze.proofs.Packed.{put-none, put-piece}
@@ -27,8 +27,11 @@ renumber-requires : tie.Need-renumber-requires
 renumber-requires c κs =
     let s : tie.Start = search in
     let m : tie.After-merge = search in
-    let p = s .pre .0 in
-    ((p .three, p .few), subst (Within _) (sym (m .merge .ensures)) (merged-within (s .args .k) p (omega (arith, p .one, s .pre .1 .0))))
+    let p = s .pre .0 in (
+      (p .three, p .few),
+      subst (NumbersBelow _) (sym (m .merge .ensures))
+          (merged-within (s .args .k) p (omega (arith, p .one, s .pre .1 .0))),
+    )
 
 returns-2 : tie.Need-returns-2
 returns-2 c =
