@@ -21,8 +21,8 @@ use Rattle.grid_axis.specs.AxisBounds.{isCoordinate}
 use Rattle.mesh_topology.specs.declared.Indices.the-variants.{Given}
 use Rattle.mesh.specs.Mesh.{Mesh, meshOf}
 use Rattle.job_checks.proofs.MeshPassed.{mesh-passed}
-use Rattle.tidy.specs.declared.Three.{Three as Bits}
-use Rattle.tidy.specs.Tidy.{bitsAt, vertexTotal, keptVertices, vertexFrom, tidied}
+use Rattle.tidy.specs.declared.ThreeWords.{ThreeWords}
+use Rattle.tidy.specs.Tidy.{vertexBits, vertexTotal, keptVertices, vertexFrom, tidied}
 use Rattle.tidy.proofs.Tidied.{coordinates-long, bits-of, vertices-in-turn}
 use Rattle.tidy.proofs.Again.{coordinates-pass}
 use Rattle.text.specs.declared.Three.{Three}
@@ -109,7 +109,7 @@ module _ (j : TextJob) (r : Readable j) (z : meshRefusal (meshAsked j) ≡ 0) wh
 
   -- the vertex that is said of the mesh is the one that the text has
   said-back : (d : Three) (v : ℕ) → v < length (j .vertices) → vertexSaid (m .vertices) v ≡ getD (j .vertices) v d
-  unfolding bitsAt
+  unfolding vertexBits
   said-back d v h =
       let l = flat (j .vertices) in
       let back : (i : ℕ) → i < length l → toBits binary32 (getD (m .vertices) i nan) ≡ getD l i 0 =
@@ -128,7 +128,7 @@ module _ (j : TextJob) (r : Readable j) (z : meshRefusal (meshAsked j) ≡ 0) wh
   pub vertices-as-given : (d : Three) → tidiedJob j .vertices ≡ table (λ i. getD (j .vertices) (vertexFrom m i) d) (keptVertices m)
   vertices-as-given d =
       table-same (vertexSaid (tidied m .vertices)) (λ i. getD (j .vertices) (vertexFrom m i) d) (keptVertices m) (λ i h.
-      ap (λ (b : Bits). three (b .a) (b .b) (b .c)) (bits-of m i h)
+      ap (λ (b : ThreeWords). three (b .a) (b .b) (b .c)) (bits-of m i h)
       ∙ said-back d (vertexFrom m i) (omega (arith, vertices-in-turn m .below i h, vertices-counted)))
 
   -- as a row they are the bits of the tidied coordinates

@@ -7,7 +7,7 @@ use mathlib.Core.List.{List, [], _∷_, _++_}
 use lib.ListN.{length, getD, take, length-append, length-map, List·getD-append}
 use lib.Ieee.{Float, nan, binary32, toBits}
 use Rattle.lists.specs.Table.{table}
-use Rattle.tidy.specs.Tidy.{bitsAt}
+use Rattle.tidy.specs.Tidy.{vertexBits}
 use Rattle.tidy_mesh.specs.declared.Kept.{Kept}
 use Rattle.float_bits.specs.Patterns.{bitsOf}
 use Rattle.tidy_words.proofs.Words.{bits-at}
@@ -37,7 +37,7 @@ module _ (coordinates : List Float) (rest : List ℕ) where
       List·getD-append (bitsOf coordinates) rest 0 i (omega (arith, length-map coordinates (toBits binary32))) ∙ bits-at coordinates i nan h
 
   pub threes-said : (n : ℕ) → 3 * n ≤ length coordinates → threesIn n patterns ≡ table (vertexSaid coordinates) n
-  unfolding threesIn table bitsAt
+  unfolding threesIn table vertexBits
   threes-said zero h = refl
   threes-said (suc n) h =
       let x = pattern-at (3 * n) (omega arith) in

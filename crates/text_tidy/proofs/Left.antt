@@ -20,8 +20,8 @@ use Rattle.mesh.specs.Mesh.{Mesh}
 use Rattle.job_checks.proofs.MeshPassed.{mesh-passed}
 use Rattle.picks.specs.Picks.{some}
 use Rattle.tidy.specs.Padded.{padded, plusZero}
-use Rattle.tidy.specs.Numbers.{twoEqual, sameNumbers}
-use Rattle.tidy.specs.Tidy.{bitsAt, vertexTotal, triangleTotal, firstOf, merged, cause, keptVertices, keptTriangles}
+use Rattle.tidy.specs.Numbers.{twoEqualNumbers, sameNumbers}
+use Rattle.tidy.specs.Tidy.{vertexBits, vertexTotal, triangleTotal, firstOf, merged, cause, keptVertices, keptTriangles}
 use Rattle.tidy.specs.Tidy.{tidiedCoordinates, tidiedTriangles, tidied}
 use Rattle.tidy.proofs.Kept.{first}
 use Rattle.tidy.proofs.Tidied.{vertices-are, coordinates-long, triangles-are, triangles-long}
@@ -29,7 +29,7 @@ use Rattle.tidy.proofs.Again.{no-more-vertices, no-more-triangles}
 use Rattle.tidy_mesh.specs.declared.Kept.{Kept}
 use Rattle.tidy_mesh.specs.declared.TidyAnswer.{TidyAnswer}
 use Rattle.tidy_mesh.specs.declared.TidyAnswer.the-variants.{Refused, Tidied}
-use Rattle.tidy_mesh.specs.Outcome.{TidyLent, outputsOf, wrongOutputs, tidyRefusal, tidyLeft, keptOf, tidyBy, tidyOutcome, GivesTidy}
+use Rattle.tidy_mesh.specs.Outcome.{TidyLent, outputsOf, wrongOutputs, tidyRefusal, tidyLeft, keptCounts, tidyBy, tidyOutcome, GivesTidy}
 use Rattle.tidy_mesh.proofs.Refused.{by-mesh, by-none}
 use Rattle.text.specs.declared.Head.{Head}
 use Rattle.text.specs.declared.Tail.{Tail}
@@ -56,7 +56,7 @@ module _ (m : Mesh) where
   -- the tidied coordinates and what stands behind them
   vertex-in-front : (rest : List Float) (i : ℕ) → i < keptVertices m
       → vertexSaid (tidied m .vertices ++ rest) i ≡ vertexSaid (tidied m .vertices) i
-  unfolding bitsAt
+  unfolding vertexBits
   vertex-in-front rest i h =
       let at : (j : ℕ) → j < 3 * keptVertices m → getD (tidied m .vertices ++ rest) j nan ≡ getD (tidied m .vertices) j nan =
       λ j w. List·getD-append (tidied m .vertices) rest nan j (omega (arith, coordinates-long m)) in
@@ -80,7 +80,7 @@ module _ (m : Mesh) where
       let is = explicit (tidiedTriangles m) in
       take-at is (replicate (n - length is) 0) (3 * keptTriangles m) indices-long
 
-  left-is : (a : Asked) → leftText a (keptOf m) (tidyLeft m) ≡ mergeLines m ++ dropLines m ++ jobText (tidiedBy (a .head) m (a .tail))
+  left-is : (a : Asked) → leftText a (keptCounts m) (tidyLeft m) ≡ mergeLines m ++ dropLines m ++ jobText (tidiedBy (a .head) m (a .tail))
   left-is a =
       let merges = table-lines Merged (firstOf m) (vertexTotal m) in
       let drops = table-lines Dropped (cause m) (triangleTotal m) in
@@ -92,7 +92,7 @@ module _ (m : Mesh) where
 
   cause-small : (k : ℕ) → cause m k < 1000
   unfolding cause
-  cause-small k = by (twoEqual (merged m k)) (some (λ j. sameNumbers (merged m j) (merged m k)) k)
+  cause-small k = by (twoEqualNumbers (merged m k)) (some (λ j. sameNumbers (merged m j) (merged m k)) k)
     where
       by : (a b : Bool) → cond a 1 (cond b 2 0) < 1000
       by true b = omega arith
@@ -108,7 +108,7 @@ module _ (m : Mesh) where
       }
 
   module _ (lent : TidyLent) {out : List ℕ} (r : RightlyLent m lent out) where
-    left-fits : (a : Asked) → a .head .topology ≡ TriangleList → RoomForLeft a (keptOf m) (tidyLeft m) out
+    left-fits : (a : Asked) → a .head .topology ≡ TriangleList → RoomForLeft a (keptCounts m) (tidyLeft m) out
     left-fits a list =
         let n = vertexTotal m in
         let t = triangleTotal m in
@@ -167,12 +167,12 @@ module _ {m : Mesh} {lent : TidyLent} {out : List ℕ} (r : RightlyLent m lent o
         by (suc k) f = let z : suc k ≡ n = cc in ap answerLine z
 
     -- what is tidied was not refused, and the outputs are those of the mesh
-    tidied-so : (k : Kept) → answer ≡ Tidied k → (meshRefusal m ≡ 0) × (k ≡ keptOf m) × (left ≡ tidyLeft m)
+    tidied-so : (k : Kept) → answer ≡ Tidied k → (meshRefusal m ≡ 0) × (k ≡ keptCounts m) × (left ≡ tidyLeft m)
     tidied-so k e = by (meshRefusal m) refl (sym e ∙ answers-so) leaves-so
       where
         by : (n : ℕ) → meshRefusal m ≡ n → Tidied k ≡ tidyBy n m lent .answer → left ≡ tidyBy n m lent .left
-            → (meshRefusal m ≡ 0) × (k ≡ keptOf m) × (left ≡ tidyLeft m)
-        by zero z f l = let same : k ≡ keptOf m = cc in (z, same, l)
+            → (meshRefusal m ≡ 0) × (k ≡ keptCounts m) × (left ≡ tidyLeft m)
+        by zero z f l = let same : k ≡ keptCounts m = cc in (z, same, l)
         by (suc n) z f l = absurd (let w : _≡_ {A = ℕ} 0 1 = cc in omega arith)
 
     module _ (a : Asked) (k : Kept) (e : answer ≡ Tidied k) where

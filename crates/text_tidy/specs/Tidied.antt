@@ -13,7 +13,7 @@ use Rattle.lists.specs.Joined.{joined}
 use Rattle.lists.specs.Table.{table}
 use Rattle.mesh.specs.Mesh.{Mesh}
 use Rattle.job_checks.specs.Refusals.{meshChecks}
-use Rattle.tidy.specs.Tidy.{bitsAt, vertexTotal, triangleTotal, firstOf, cause, keptVertices, tidied}
+use Rattle.tidy.specs.Tidy.{vertexBits, vertexTotal, triangleTotal, firstOf, cause, keptVertices, tidied}
 use Rattle.text.specs.declared.Three.{Three}
 use Rattle.text.specs.declared.Head.{Head}
 use Rattle.text.specs.declared.Tail.{Tail}
@@ -38,9 +38,9 @@ meshRefusal m = firstThatApplies (meshChecks m)
 -- ---- what went
 
 -- `merge=` tells of a vertex and its first, `drop=` of a triangle and its cause
-abbrev pub keyOf : Went → String
-keyOf Merged = "merge="
-keyOf Dropped = "drop="
+abbrev pub wentKey : Went → String
+wentKey Merged = "merge="
+wentKey Dropped = "drop="
 
 -- the value that number i has where it stays: a vertex is its own first, a triangle has no cause
 abbrev pub staying : Went → ℕ → ℕ
@@ -49,7 +49,7 @@ staying Dropped i = 0
 
 -- "for each": a line of number i and its value, and none where it stays
 unfoldable pub wentLine : Went → (ℕ → ℕ) → ℕ → List ℕ
-wentLine w value i = cond (eqb (value i) (staying w i)) [] (line (keyOf w) (decimal i ++ space ∷ decimal (value i)))
+wentLine w value i = cond (eqb (value i) (staying w i)) [] (line (wentKey w) (decimal i ++ space ∷ decimal (value i)))
 
 -- "ascending": those of the numbers below n, one behind the other
 abbrev pub wentLines : Went → (ℕ → ℕ) → ℕ → List ℕ
@@ -65,7 +65,7 @@ dropLines m = wentLines Dropped (cause m) (triangleTotal m)
 
 -- the bits of vertex i, as its line has them
 abbrev pub vertexSaid : List Float → ℕ → Three
-vertexSaid vs i = record { x = bitsAt vs i .a; y = bitsAt vs i .b; z = bitsAt vs i .c }
+vertexSaid vs i = record { x = vertexBits vs i .a; y = vertexBits vs i .b; z = vertexBits vs i .c }
 
 -- "the tidied job with explicit indices": the vertices and the indices of the tidied mesh; all other lines as they were said
 abbrev pub tidiedBy : Head → Mesh → Tail → TextJob
