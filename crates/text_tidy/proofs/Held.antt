@@ -4,13 +4,13 @@ use Prim.Native.Nat.{ℕ, zero, suc, _+_, _*_, _≤_, _<_}
 use native.Mathlib.Omega.{arith}
 use mathlib.Core.Path.{_≡_, refl, sym, ap, ap₂, _∙_}
 use mathlib.Core.List.{List, [], _∷_, _++_}
-use lib.ListN.{length, getD, take, length-append, length-map, List·getD-append, List·getD-map}
+use lib.ListN.{length, getD, take, length-append, length-map, List·getD-append}
 use lib.Ieee.{Float, nan, binary32, toBits}
 use Rattle.lists.specs.Table.{table}
-use Rattle.lists.proofs.Table.{getD-any}
 use Rattle.tidy.specs.Tidy.{vertexBits}
 use Rattle.tidy_mesh.specs.declared.Kept.{Kept}
 use Rattle.float_bits.specs.Patterns.{bitsOf}
+use Rattle.tidy_words.proofs.Words.{bits-at}
 use Rattle.text.specs.declared.Three.{Three}
 use Rattle.text.specs.Limits.{textRoom}
 use Rattle.text.specs.Reader.{three, assembled}
@@ -34,10 +34,7 @@ module _ (coordinates : List Float) (rest : List ℕ) where
 
   pattern-at : (i : ℕ) → i < length coordinates → getD patterns i 0 ≡ toBits binary32 (getD coordinates i nan)
   pattern-at i h =
-      let below : i < length (bitsOf coordinates) = omega (arith, length-map coordinates (toBits binary32)) in
-      List·getD-append (bitsOf coordinates) rest 0 i below
-      ∙ getD-any (bitsOf coordinates) i 0 (toBits binary32 nan) below
-      ∙ List·getD-map (toBits binary32) coordinates i nan
+      List·getD-append (bitsOf coordinates) rest 0 i (omega (arith, length-map coordinates (toBits binary32))) ∙ bits-at coordinates i nan h
 
   pub threes-said : (n : ℕ) → 3 * n ≤ length coordinates → threesIn n patterns ≡ table (vertexSaid coordinates) n
   unfolding threesIn table vertexBits

@@ -12,7 +12,7 @@ use Rattle.text.specs.Words.{bytes, space, decimal, line}
 use Rattle.text_write.proofs.Spelled.{short}
 use Rattle.text_tidy.specs.declared.Went.{Went}
 use Rattle.text_tidy.specs.declared.Went.the-variants.{Merged, Dropped}
-use Rattle.text_tidy.specs.Tidied.{keyOf, staying, wentLine}
+use Rattle.text_tidy.specs.Tidied.{wentKey, staying, wentLine}
 
 -- a number that stays has no line
 pub stayed : (w : Went) (value : ℕ → ℕ) (i : ℕ) → value i ≡ staying w i → wentLine w value i ≡ []
@@ -21,14 +21,14 @@ stayed w value i e = rw (eq-eqb (value i) (staying w i) e)
 
 -- its line
 abbrev lineOf : Went → ℕ → ℕ → List ℕ
-lineOf w i v = line (keyOf w) (decimal i ++ space ∷ decimal v)
+lineOf w i v = line (wentKey w) (decimal i ++ space ∷ decimal v)
 
 -- which one that does not stay has
 went-so : (w : Went) (value : ℕ → ℕ) (i : ℕ) → (value i ≡ staying w i → ⊥) → wentLine w value i ≡ lineOf w i (value i)
 unfolding wentLine
 went-so w value i n = rw (ne-eqb (value i) (staying w i) n)
 
-key-short : (w : Went) → length (bytes (keyOf w)) ≤ 6
+key-short : (w : Went) → length (bytes (wentKey w)) ≤ 6
 key-short Merged = omega arith
 key-short Dropped = omega arith
 

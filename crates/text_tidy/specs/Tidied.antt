@@ -38,9 +38,9 @@ meshRefusal m = firstThatApplies (meshChecks m)
 -- ---- what went
 
 -- `merge=` tells of a vertex and its first, `drop=` of a triangle and its cause
-abbrev pub keyOf : Went → String
-keyOf Merged = "merge="
-keyOf Dropped = "drop="
+abbrev pub wentKey : Went → String
+wentKey Merged = "merge="
+wentKey Dropped = "drop="
 
 -- the value that number i has where it stays: a vertex is its own first, a triangle has no cause
 abbrev pub staying : Went → ℕ → ℕ
@@ -49,7 +49,7 @@ staying Dropped i = 0
 
 -- "for each": a line of number i and its value, and none where it stays
 unfoldable pub wentLine : Went → (ℕ → ℕ) → ℕ → List ℕ
-wentLine w value i = cond (eqb (value i) (staying w i)) [] (line (keyOf w) (decimal i ++ space ∷ decimal (value i)))
+wentLine w value i = cond (eqb (value i) (staying w i)) [] (line (wentKey w) (decimal i ++ space ∷ decimal (value i)))
 
 -- "ascending": those of the numbers below n, one behind the other
 abbrev pub wentLines : Went → (ℕ → ℕ) → ℕ → List ℕ
