@@ -26,7 +26,9 @@ pub fn put_number(out: &mut [u8], at: usize, key: &[u8], n: u32) -> usize
 // Two numbers.
 pub fn put_two(out: &mut [u8], at: usize, key: &[u8], a: u32, b: u32) -> usize
     requires { ⌜ at + length (now key) + 22 ≤ length (now out) ⌝ }
-    ensures { λ r. ⌜ Put (now (out .entry)) at (now (key .entry) ++ (decimal a ++ space ∷ decimal b) ++ lf ∷ []) (now (out .exit)) r ⌝ }
+    ensures { λ r.
+        let line = now (key .entry) ++ (decimal a ++ space ∷ decimal b) ++ lf ∷ [] in
+        ⌜ Put (now (out .entry)) at line (now (out .exit)) r ⌝ }
     ensures { λ r. ⌜ r ≤ at + length (now (key .entry)) + 22 ⌝ }
 {
     let first = put_all(out, at, key);
