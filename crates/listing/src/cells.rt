@@ -2,12 +2,13 @@
 use float_bits::bits_of;
 use text::Form;
 use text_write::put_all;
+use text_write::put_two;
 use text_write::put_value_then;
 ghost use Prim.Native.Nat.{_+_, _*_, _≤_, _<_};
 ghost use lib.ListN.{length};
 ghost use mathlib.Core.Path.{_≡_};
-ghost use mathlib.Core.List.{[], _++_, _∷_};
-ghost use Rattle.text.specs.Words.{space, decimal, hex8, spaced, line};
+ghost use mathlib.Core.List.{[]};
+ghost use Rattle.text.specs.Words.{decimal, hex8, spaced, line};
 ghost use Rattle.lists.specs.Joined.{joined};
 ghost use Rattle.text.specs.Limits.{mostCells};
 ghost use Rattle.lists.specs.Put.{Put};
@@ -25,16 +26,6 @@ fn put_cell(out: &mut [u8], at: usize, index: u32, distance: u32, name: u32) -> 
     let b = put_value_then(out, a, index, Form::Decimal, 32);
     let c = put_value_then(out, b, distance, Form::Hex8, 32);
     put_value_then(out, c, name, Form::Decimal, 10)
-}
-
-fn put_row(out: &mut [u8], at: usize, layer: u32, count: u32) -> usize
-    requires { ⌜ at + 26 ≤ length (now out) ⌝ }
-    ensures { λ r. ⌜ Put (now (out .entry)) at (line "row=" (decimal layer ++ space ∷ decimal count)) (now (out .exit)) r ⌝ }
-    ensures { λ r. ⌜ r ≤ at + 26 ⌝ }
-{
-    let a = put_all(out, at, b"row=");
-    let b = put_value_then(out, a, layer, Form::Decimal, 32);
-    put_value_then(out, b, count, Form::Decimal, 10)
 }
 
 pub fn put_cells(out: &mut [u8], at: usize, field: &[f32], names: &[u32]) -> usize
@@ -66,7 +57,7 @@ pub fn put_rows(out: &mut [u8], at: usize, rows: &[u32]) -> usize
     let mut layer = 0;
     let mut next = at;
     while layer < rows.len() {
-        next = put_row(out, next, layer as u32, rows[layer]);
+        next = put_two(out, next, b"row=", layer as u32, rows[layer]);
         layer += 1;
     }
     next

@@ -12,6 +12,7 @@ pub use asked::rows_of;
 pub use asked::terms_of;
 pub use cells::put_cells;
 pub use cells::put_rows;
+pub use floats::coordinate_floats;
 pub use floats::fill;
 
 // What writing came to: nothing was written, or so many bytes from the first on.

@@ -4,6 +4,7 @@ use job_generate::generate_grid_sdf;
 use job_outcome::Answer;
 use listing::Written;
 use listing::cells_of;
+use listing::coordinate_floats;
 use listing::fill;
 use listing::grid_of;
 use listing::rows_of;
@@ -11,7 +12,6 @@ use listing::terms_of;
 use listing_whole::write_listing;
 use terms::Pass;
 use terms::Terms;
-use text::COORDINATE_ROOM;
 use text::CROSSING_ROOM;
 use text::ENTRY_ROOM;
 use text::MOST_CELLS;
@@ -20,7 +20,7 @@ ghost use Prim.Native.Nat.{_≤_};
 ghost use lib.ListN.{length};
 ghost use mathlib.Core.Path.{_≡_};
 ghost use Rattle.job_checks.specs.Job.{lentOf};
-ghost use Rattle.text.specs.Limits.{mostCells, mostEntries, coordinateRoom, crossingRoom};
+ghost use Rattle.text.specs.Limits.{mostCells, mostEntries, crossingRoom};
 ghost use Rattle.lists.specs.Put.{Put};
 ghost use Rattle.float_bits.specs.Patterns.{floatsOf};
 ghost use Rattle.listing.specs.Listing.{lentBy, lentFor, listed};
@@ -133,12 +133,6 @@ fn list_records(
 
 // Buffers for as many cells and entries as the program takes. That they are zero is said of their lengths alone,
 // since nothing depends on what they hold.
-
-fn coordinate_floats() -> [f32; COORDINATE_ROOM]
-    ensures { λ r. ⌜ coordinateRoom ≡ length r ⌝ }
-{
-    [0.0; COORDINATE_ROOM]
-}
 
 fn cell_floats() -> [f32; MOST_CELLS]
     ensures { λ r. ⌜ mostCells ≡ length r ⌝ }

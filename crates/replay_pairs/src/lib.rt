@@ -1,7 +1,8 @@
 // Replays a stored sample: each text of standard input is answered, and the answer held to the stored one, byte for byte.
 // A job is answered by the library four times, over a flat queue and over a row of records, by the plain and by the
-// quick pass; an old job's text is converted. The stored answers are the unmodified Rust's and the model's
-// (samples/README.md has the format). A part of the programs `replay_jobs` and `replay_conversions`.
+// quick pass; an old job's text is converted, and a job's text tidied. The stored answers are the unmodified Rust's and
+// the models' (samples/README.md has the format). A part of the programs `replay_jobs`, `replay_conversions` and
+// `replay_tidyings`.
 use terms::Pass;
 use text::LISTING_ROOM;
 use text::TEXT_ROOM;
@@ -13,11 +14,13 @@ ghost use Rattle.io.specs.Counts.{Counts};
 ghost use Rattle.text.specs.Limits.{listingRoom, textRoom};
 ghost use Rattle.listing.specs.Listing.{Prints};
 ghost use Rattle.text_convert.specs.Converted.{Converts};
+ghost use Rattle.text_tidy.specs.Tidied.{Tidies, tidyRoom};
 
 // Which program's texts are replayed.
 pub enum Program {
     Job,
     Converter,
+    Tidier,
 }
 
 // How many texts there were, and how many differences in all.
@@ -135,6 +138,17 @@ fn is_converted(text: &[u8], owed: &[u8], out: &mut [u8]) -> bool
     check::same(&out[..n], owed)
 }
 
+// Whether the text is tidied to the stored one.
+fn is_tidied(text: &[u8], owed: &[u8], out: &mut [u8]) -> bool
+    requires { ⌜ tidyRoom ≤ length (now out) ⌝ }
+    ensures { λ r.
+        let owes = Tidies (now (text .entry)) (now (owed .entry)) in
+        ⌜ (r ≡ true → owes) × (owes → r ≡ true) ⌝ }
+{
+    let n = text_tidy::tidy_text(text, out);
+    check::same(&out[..n], owed)
+}
+
 // Says that a text's answer differs: one difference.
 fn print_difference(number: u64) -> u64
     ensures { λ r. ⌜ r ≡ 1 ⌝ }
@@ -185,6 +199,17 @@ fn conversion_differs(text: &[u8], owed: &[u8], number: u64) -> u64
     print_difference(number)
 }
 
+// How many differences the tidying of a text shows, 0 or 1.
+fn tidying_differs(text: &[u8], owed: &[u8], number: u64) -> u64
+    ensures { λ r. ⌜ r ≤ 1 ⌝ }
+{
+    let mut out = io::large_buffer();
+    if is_tidied(text, owed, &mut out) {
+        return 0;
+    }
+    print_difference(number)
+}
+
 // Reads the text that the header line of n bytes announces, and what is owed to it: how many differences there are.
 fn differs(line: &[u8], n: usize, number: u64, program: Program) -> u64
     requires { ⌜ n ≤ length (now line) ⌝ }
@@ -202,6 +227,7 @@ fn differs(line: &[u8], n: usize, number: u64, program: Program) -> u64
     match program {
         Program::Job => job_differs(&text[..t], &owed[..o], number),
         Program::Converter => conversion_differs(&text[..t], &owed[..o], number),
+        Program::Tidier => tidying_differs(&text[..t], &owed[..o], number),
     }
 }
 

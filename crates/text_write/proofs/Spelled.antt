@@ -1,14 +1,13 @@
 -- Laws on the digits of a number, one digit at a time. Assumes nothing.
 use Prim.Native.Nat.{ℕ, zero, suc, _+_, _-_, _/_, _%_, _^_, _≤_, _<_}
 use native.Mathlib.Omega.{arith}
-use native.Mathlib.Numerals.{add-one}
 use mathlib.Core.Path.{_≡_, refl, sym, ap, subst, _∙_}
 use mathlib.Core.Bool.{Bool, true, false, cond}
-use mathlib.Core.List.{List, [], _∷_, _++_}
+use mathlib.Core.List.{[], _∷_, _++_}
 use lib.Dec.{ltb}
 use lib.ListN.{length, length-append}
 use borrow.Author.Tests.{lt-ltb, le-ltb}
-use Rattle.text.specs.Words.{digits, decimal, hexDigit, hex}
+use Rattle.text.specs.Words.{digits, hexDigit, hex}
 use Rattle.text_write.specs.Digits.{FewDigits}
 
 back : (k : ℕ) → suc k - 1 ≡ k
@@ -35,6 +34,17 @@ few (suc k) n = go (ltb n 10) (few k (n / 10))
     go : (t : Bool) → length (digits k (n / 10)) ≤ k + 1 → length (cond t ((48 + n) ∷ []) (digits k (n / 10) ++ (48 + n % 10) ∷ [])) ≤ suc k + 1
     go true h = omega arith
     go false h = omega (arith, length-append (digits k (n / 10)) ((48 + n % 10) ∷ []))
+
+-- a number below 10 ^ (d + 1) has at most d + 1 digits
+pub short : (k d n : ℕ) → n < 10 ^ suc d → length (digits k n) ≤ d + 1
+unfolding digits
+short zero d n h = omega arith
+short (suc k) zero n h = omega (arith, ap length (one-digit (suc k) n (omega arith)))
+short (suc k) (suc d) n h = go (ltb n 10) (short k d (n / 10) (omega arith))
+  where
+    go : (t : Bool) → length (digits k (n / 10)) ≤ d + 1 → length (cond t ((48 + n) ∷ []) (digits k (n / 10) ++ (48 + n % 10) ∷ [])) ≤ suc d + 1
+    go true l = omega arith
+    go false l = omega (arith, length-append (digits k (n / 10)) ((48 + n % 10) ∷ []))
 
 pub deep : (k n : ℕ) → FewDigits k n → 10 ≤ n → 0 < k
 unfolding FewDigits

@@ -9,4 +9,5 @@ pub use bytes::put_all;
 pub use lines::put_long_number;
 pub use lines::put_number;
 pub use lines::put_three;
+pub use lines::put_two;
 pub use numbers::put_value_then;

@@ -8,7 +8,7 @@ use text::Three;
 ghost use Prim.Native.Nat.{_+_, _*_, _≤_};
 ghost use lib.ListN.{length};
 ghost use mathlib.Core.List.{[], _∷_, _++_};
-ghost use Rattle.text.specs.Words.{decimal, decimalLong, lf};
+ghost use Rattle.text.specs.Words.{decimal, decimalLong, space, lf};
 ghost use Rattle.text.specs.TextJob.{threeText};
 ghost use Rattle.lists.specs.Put.{Put};
 ghost use Rattle.text_write.specs.Digits.{width};
@@ -21,6 +21,19 @@ pub fn put_number(out: &mut [u8], at: usize, key: &[u8], n: u32) -> usize
 {
     let next = put_all(out, at, key);
     put_value_then(out, next, n, Form::Decimal, 10)
+}
+
+// Two numbers.
+pub fn put_two(out: &mut [u8], at: usize, key: &[u8], a: u32, b: u32) -> usize
+    requires { ⌜ at + length (now key) + 22 ≤ length (now out) ⌝ }
+    ensures { λ r.
+        let line = now (key .entry) ++ (decimal a ++ space ∷ decimal b) ++ lf ∷ [] in
+        ⌜ Put (now (out .entry)) at line (now (out .exit)) r ⌝ }
+    ensures { λ r. ⌜ r ≤ at + length (now (key .entry)) + 22 ⌝ }
+{
+    let first = put_all(out, at, key);
+    let second = put_value_then(out, first, a, Form::Decimal, 32);
+    put_value_then(out, second, b, Form::Decimal, 10)
 }
 
 // One number that may pass 32 bits.

@@ -13,7 +13,7 @@ use Rattle.picks.proofs.Picks.{some-none, one-some}
 use Rattle.mesh_topology.specs.Topology.{kth}
 use Rattle.mesh.specs.Mesh.{Mesh, trianglesIn, vertexAt, cornersOf, cornersAt}
 use Rattle.tidy.specs.Numbers.{renumbered, sameNumbers}
-use Rattle.tidy.specs.Tidy.{vertexBits, coordinatesAt, vertexTotal, triangleTotal, firstOf, merged, cause, isKept, numberAfter, keptTriangles, vertexFrom, triangleFrom, tidied, firsts, causes}
+use Rattle.tidy.specs.Tidy.{vertexBits, coordinatesAt, vertexTotal, triangleTotal, firstOf, merged, cause, numberAfter, keptTriangles, vertexFrom, triangleFrom, tidied, firsts, causes}
 use Rattle.tidy.specs.Meaning.{Valid, First, Listed, stays, two-equal, repeats, SameCorners, Retained, Squeezed}
 use Rattle.tidy.proofs.Coordinates.{same-bits, same-points, bits-points}
 use Rattle.tidy.proofs.Kept.{first, first-one, listed}

@@ -1,14 +1,13 @@
 -- What a search for a vertex says of its first. Assumes nothing.
 use Prim.Native.Nat.{ℕ, _*_, _<_}
-use mathlib.Core.Path.{_≡_, refl, sym, _∙_}
-use mathlib.Core.Bool.{Bool, true, false}
+use mathlib.Core.Path.{_≡_, sym, _∙_}
 use mathlib.Core.List.{List}
 use lib.ListN.{length, length-map}
 use lib.Ieee.{Float, binary32, toBits}
-use Rattle.picks.specs.Picks.{least}
 use Rattle.picks.proofs.Picks.{least-none, least-is}
 use Rattle.tidy.specs.Same.{sameWords}
 use Rattle.tidy.specs.Tidy.{vertexBits}
+use Rattle.tidy.proofs.Kept.{fails}
 use Rattle.tidy.proofs.Same.{same-eq, eq-same}
 use Rattle.tidy_search.specs.Links.{FirstOfKey}
 use Rattle.tidy_firsts.specs.Firsts.{firstIn, ReadyForVertex}
@@ -16,10 +15,6 @@ use Rattle.tidy_firsts.specs.Firsts.{firstIn, ReadyForVertex}
 -- the row has three links for each vertex
 pub long : {vs links : List Float} {n v : ℕ} → ReadyForVertex vs n v links → length links ≡ 3 * n
 long {links = links} r = sym (length-map links (toBits binary32)) ∙ r .entered .long
-
-fails : (b : Bool) → (b ≡ true → ⊥) → b ≡ false
-fails true h = absurd (h refl)
-fails false h = refl
 
 -- a vertex whose bits none before it has is its own first
 pub first-new : (vs : List Float) (v : ℕ) → FirstOfKey (vertexBits vs) v → firstIn vs v ≡ v

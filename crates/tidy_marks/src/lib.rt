@@ -38,7 +38,8 @@ fn mark_if_kept(
     words: &mut [f32],
     k: usize,
 )
-    requires { ⌜ Squeezable (trianglesOf topology given (now indices) (length (now firsts))) (now firsts) (now causes) (length (now words)) ⌝ }
+    requires { let ts = trianglesOf topology given (now indices) (length (now firsts)) in
+        ⌜ Squeezable ts (now firsts) (now causes) (length (now words)) ⌝ }
     requires { ⌜ k < length (now causes) ⌝ }
     ensures { λ _.
         let fs = now (firsts .entry) in
@@ -62,7 +63,8 @@ pub fn mark_used(
     causes: &[u32],
     words: &mut [f32],
 )
-    requires { ⌜ Squeezable (trianglesOf topology given (now indices) (length (now firsts))) (now firsts) (now causes) (length (now words)) ⌝ }
+    requires { let ts = trianglesOf topology given (now indices) (length (now firsts)) in
+        ⌜ Squeezable ts (now firsts) (now causes) (length (now words)) ⌝ }
     ensures { λ _.
         let fs = now (firsts .entry) in
         let ts = trianglesOf topology given (now (indices .entry)) (length fs) in

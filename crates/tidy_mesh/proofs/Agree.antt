@@ -1,6 +1,6 @@
 -- What the parts leave, in the words of the tidied mesh. Each part speaks of the lists that it is given; where these are the firsts and the
 -- causes of the mesh, its merged triangles, its causes, its used vertices and their numbers are the mesh's. Assumes nothing.
-use Prim.Native.Nat.{ℕ, _+_, _-_, _*_, _<_}
+use Prim.Native.Nat.{ℕ, _+_, _-_, _<_}
 use native.Mathlib.Omega.{arith}
 use mathlib.Core.Path.{_≡_, refl, sym, ap, ap₂, _∙_}
 use mathlib.Core.Bool.{Bool, true, false, not, cond, _&&_}
@@ -15,17 +15,16 @@ use Rattle.lists.specs.Joined.{joined}
 use Rattle.lists.proofs.Range.{count-same}
 use Rattle.lists.proofs.Table.{table-at, table-same, length-table}
 use Rattle.lists.proofs.Joined.{joined-same, joined-each}
-use Rattle.picks.specs.Picks.{some, select}
-use Rattle.picks.proofs.Picks.{Picked, some-same, select-same}
+use Rattle.picks.specs.Picks.{select}
+use Rattle.picks.proofs.Picks.{some-same, select-same}
 use Rattle.mesh_topology.specs.declared.Triangle.{Triangle}
-use Rattle.mesh_topology.specs.Topology.{triangle, kth}
+use Rattle.mesh_topology.specs.Topology.{triangle}
 use Rattle.mesh_topology.proofs.Laws.{vertices-at}
 use Rattle.mesh_explicit.specs.Explicit.{vertexNumbers, explicit}
 use Rattle.mesh.specs.Mesh.{Mesh, trianglesIn}
 use Rattle.tidy.specs.Numbers.{renumbered, twoEqualNumbers, sameNumbers, hasNumber}
 use Rattle.tidy.specs.Tidy.{coordinatesAt, vertexTotal, triangleTotal, firstOf, merged, cause, isKept, used, numberAfter, keptVertices, keptTriangles, vertexFrom, triangleFrom, tidiedTriangles, tidiedCoordinates, firsts, causes}
 use Rattle.tidy.specs.Meaning.{Valid}
-use Rattle.tidy.proofs.Numbers.{On}
 use Rattle.tidy.proofs.Tidied.{Had, had, triangles-in-turn}
 use Rattle.tidy_causes.specs.Causes.{mergedBy, causeFrom, causeBy}
 use Rattle.tidy_marks.specs.Marks.{Marks, markAt, isMarked, keptBy, usedBy}

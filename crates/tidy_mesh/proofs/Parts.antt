@@ -1,17 +1,16 @@
 -- What each part asks for, of a mesh that is tidied: its firsts stand in a list that the parts know by itself and by its length. Assumes
 -- nothing.
-use Prim.Native.Nat.{ℕ, _*_, _<_}
+use Prim.Native.Nat.{ℕ, _*_}
 use native.Mathlib.Omega.{arith}
-use mathlib.Core.Path.{_≡_, sym, ap, _∙_, subst}
+use mathlib.Core.Path.{_≡_, sym, subst}
 use mathlib.Core.Bool.{true}
 use mathlib.Core.List.{List}
-use lib.ListN.{length, getD}
+use lib.ListN.{length}
 use Rattle.lists.proofs.Table.{length-table, table-at}
 use Rattle.mesh_topology.specs.Topology.{trianglesOf}
 use Rattle.mesh_topology.specs.Refusals.{allBelowCount}
 use Rattle.mesh.specs.Mesh.{Mesh, trianglesIn}
 use Rattle.tidy.specs.Tidy.{vertexTotal, triangleTotal, firstOf, cause, firsts, causes}
-use Rattle.tidy.specs.Meaning.{First}
 use Rattle.tidy.proofs.Kept.{first}
 use Rattle.tidy_causes.specs.Causes.{CanFind}
 use Rattle.tidy_marks.specs.Marks.{Squeezable}

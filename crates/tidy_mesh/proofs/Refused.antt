@@ -1,7 +1,7 @@
 -- The outcome by the number that is given; and what is known where it is 0: each test that did not apply is a fact. Assumes nothing.
-use Prim.Native.Nat.{ℕ, zero, suc, _*_, _≤_}
+use Prim.Native.Nat.{ℕ, zero, suc, _*_}
 use native.Mathlib.Omega.{arith}
-use mathlib.Core.Path.{_≡_, refl, sym, ap, _∙_}
+use mathlib.Core.Path.{_≡_, refl, ap, _∙_}
 use mathlib.Core.Bool.{Bool, true, false, not, cond, _||_}
 use mathlib.Core.List.{List, [], _∷_}
 use lib.Dec.{eqb}
@@ -11,10 +11,9 @@ use Rattle.lists.specs.Checks.{Check, firstThatApplies}
 use Rattle.lists.proofs.Checks.{by-group, past-group}
 use Rattle.mesh.specs.Mesh.{Mesh}
 use Rattle.job_checks.specs.Refusals.{meshChecks}
-use Rattle.job_checks.proofs.MeshPassed.{neither, MeshPassed, mesh-passed}
+use Rattle.job_checks.proofs.MeshPassed.{neither, mesh-passed}
 use Rattle.tidy.specs.Tidy.{vertexTotal, triangleTotal}
 use Rattle.tidy_mesh.specs.declared.Kept.{Kept}
-use Rattle.tidy_mesh.specs.declared.TidyAnswer.{TidyAnswer}
 use Rattle.tidy_mesh.specs.declared.TidyAnswer.the-variants.{Refused, Tidied}
 use Rattle.tidy_mesh.specs.Outcome.{TidyLent, outputsOf, wrongOutputs, tidyRefusal, keptCounts, tidyLeft, tidyBy, tidyOutcome, GivesTidy, Tidyable}
 

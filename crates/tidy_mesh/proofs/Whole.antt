@@ -1,7 +1,7 @@
 -- The parts together: where the list of firsts is the mesh's firsts and that of causes its causes, what the marks, the numbers, the list and the
 -- packing leave is the tidied mesh. Assumes nothing.
 use Prim.Native.Nat.{ℕ, _+_, _*_}
-use mathlib.Core.Path.{_≡_, sym, ap, _∙_}
+use mathlib.Core.Path.{_≡_, ap, _∙_}
 use mathlib.Core.Bool.{cond}
 use mathlib.Core.List.{List}
 use lib.ListN.{length}

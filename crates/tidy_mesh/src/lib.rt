@@ -7,7 +7,8 @@ ghost use mathlib.Core.Path.{_≡_};
 ghost use Prim.Native.Nat.{_≤_};
 ghost use Rattle.tidy.specs.Tidy.{triangleTotal};
 ghost use Rattle.mesh.specs.Mesh.{meshOf};
-ghost use Rattle.tidy_mesh.specs.Outcome.{tidyLentOf, outputsOf, wrongOutputs, Tidyable, Found, tidyLeft, keptCounts, tidyOutcome, GivesTidy};
+ghost use Rattle.tidy_mesh.specs.Outcome.{tidyLentOf, outputsOf, wrongOutputs, Tidyable, Found};
+ghost use Rattle.tidy_mesh.specs.Outcome.{tidyLeft, keptCounts, tidyOutcome, GivesTidy};
 
 // How many vertices and triangles are kept.
 pub struct Kept {

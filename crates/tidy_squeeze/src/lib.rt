@@ -55,7 +55,8 @@ fn list_if_kept(
     at: usize,
     k: usize,
 ) -> usize
-    requires { ⌜ Squeezable (trianglesOf topology given (now indices) (length (now firsts))) (now firsts) (now causes) (length (now words)) ⌝ }
+    requires { let ts = trianglesOf topology given (now indices) (length (now firsts)) in
+        ⌜ Squeezable ts (now firsts) (now causes) (length (now words)) ⌝ }
     requires { ⌜ (k < length (now causes)) × (at + 3 ≤ length (now out)) ⌝ }
     ensures { λ r.
         let fs = now (firsts .entry) in
@@ -80,7 +81,8 @@ pub fn list_kept(
     words: &[f32],
     out: &mut [u32],
 ) -> usize
-    requires { ⌜ Squeezable (trianglesOf topology given (now indices) (length (now firsts))) (now firsts) (now causes) (length (now words)) ⌝ }
+    requires { let ts = trianglesOf topology given (now indices) (length (now firsts)) in
+        ⌜ Squeezable ts (now firsts) (now causes) (length (now words)) ⌝ }
     requires { ⌜ length (now out) ≡ 3 * length (now causes) ⌝ }
     ensures { λ r. ⌜ r ≡ countBelow (keptBy (now (causes .entry))) (length (now (causes .entry))) ⌝ }
     ensures { λ _.

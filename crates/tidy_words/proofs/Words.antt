@@ -1,12 +1,12 @@
 -- A row of floats by its bits: what stands at a place, and what a store leaves there. Assumes nothing.
-use Prim.Native.Nat.{ℕ, zero, suc, _*_, _%_, _^_, _≤_, _<_}
+use Prim.Native.Nat.{ℕ, zero, suc, _^_, _<_}
 use native.Mathlib.Omega.{arith}
-use mathlib.Core.Path.{_≡_, refl, sym, ap, _∙_, subst}
+use mathlib.Core.Path.{_≡_, refl, ap, _∙_, subst}
 use mathlib.Core.Bool.{Bool, not}
 use mathlib.Core.List.{List, [], _∷_, map}
 use lib.Dec.{T}
 use lib.ListN.{length, getD, set, length-map, replicate, List·getD-map}
-use lib.Ieee.{Float, binary32, top, isNan, ofBits, toBits}
+use lib.Ieee.{Float, binary32, ofBits, toBits}
 use lib.Ieee.Bits.{toBits-ofBits, nanBits-is}
 use Rattle.lists.proofs.Table.{getD-any, map-replicate}
 use Rattle.float_bits.specs.Patterns.{bitsOf}

@@ -2,15 +2,9 @@
 -- nothing.
 use borrow.Author.Needs.{needs}
 use native.Mathlib.Omega.{arith}
-use Prim.Native.Nat.{ℕ, _+_, _-_, _*_, _≤_, _<_}
-use mathlib.Core.Path.{_≡_, refl, sym, ap, _∙_, subst}
-use mathlib.Core.Bool.{Bool, cond}
-use mathlib.Core.List.{List}
-use lib.ListN.{length}
-use lib.Ieee.{Float}
-use Rattle.lists.specs.Range.{countBelow}
-use Rattle.lists.proofs.Range.{count-none, count-more, count-le}
-use Rattle.tidy_marks.specs.Marks.{Marks, markAt, isMarked, numbered}
+use Prim.Native.Nat.{_-_}
+use Rattle.lists.proofs.Range.{count-le}
+use Rattle.tidy_marks.specs.Marks.{isMarked}
 use Rattle.tidy_marks.proofs.Numbering.{Numbering, numbering-begins, numbering-on, numbering-ends}
 use Rattle.tidy_marks.proofs.number_marked.Statement.{statement}
 use Rattle.tidy_marks.proofs.number_marked.Tie as tie

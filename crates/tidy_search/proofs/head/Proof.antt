@@ -2,8 +2,6 @@
 use borrow.Author.Needs.{needs}
 use native.Mathlib.Omega.{arith}
 use native.Mathlib.Nat.{mul-lt-mul-of-pos-right}
-use mathlib.Core.Path.{_≡_, sym, subst}
-use Prim.Native.Nat.{ℕ, _<_}
 use Rattle.tidy_search.specs.Links.{headLink}
 use Rattle.tidy_search.proofs.Links.{head-below}
 use Rattle.tidy_search.proofs.head.Statement.{statement}

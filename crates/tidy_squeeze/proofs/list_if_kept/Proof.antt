@@ -1,11 +1,10 @@
 -- `tidy_squeeze::list_if_kept`: nothing where there is a cause, else the triangle by its new numbers. Assumes nothing.
 use borrow.Author.Needs.{needs}
 use native.Mathlib.Omega.{arith}
-use mathlib.Core.Path.{_≡_, refl, sym, ap, _∙_, subst}
+use mathlib.Core.Path.{refl, sym, ap, _∙_, subst}
 use lib.ListN.{length}
 use borrow.Author.Tests.{eq-eqb, ne-eqb}
 use Rattle.lists.proofs.Puts.{said}
-use Rattle.mesh_topology.specs.declared.Triangle.{Triangle}
 use Rattle.mesh_explicit.specs.Explicit.{vertexNumbers}
 use Rattle.tidy_marks.specs.Marks.{NumbersBelow}
 use Rattle.tidy_marks.proofs.Marks.{merged-within}

@@ -1,7 +1,7 @@
 -- `tidy_squeeze::put_if_marked`: nothing where there is no mark, else the vertex. Assumes nothing.
 use borrow.Author.Needs.{needs}
 use native.Mathlib.Omega.{arith}
-use mathlib.Core.Path.{_≡_, refl, sym, ap, _∙_}
+use mathlib.Core.Path.{sym, ap, _∙_}
 use mathlib.Core.Bool.{not}
 use borrow.Author.Tests.{eq-eqb, ne-eqb}
 use Rattle.tidy_squeeze.proofs.Packed.{put-none, put-piece}

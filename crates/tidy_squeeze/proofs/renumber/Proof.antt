@@ -2,7 +2,6 @@
 use borrow.Author.Needs.{needs}
 use Prim.Native.Nat.{ℕ, _-_}
 use mathlib.Core.Path.{_≡_, ap, _∙_}
-use Rattle.mesh_topology.specs.declared.Triangle.{Triangle}
 use Rattle.mesh_topology.specs.Topology.{triangle}
 use Rattle.tidy.specs.Numbers.{renumbered}
 use Rattle.tidy_squeeze.proofs.renumber.Statement.{statement}
