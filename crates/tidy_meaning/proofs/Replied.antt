@@ -62,8 +62,8 @@ module _ {o : TidyOutcome} {answer : SdfTidyAnswer} {left : TidyLent} (g : Gives
   pub of-c : GivesTidy o (o .answer) left
   of-c = record { answers = refl; number = refl; vertices = refl; triangles = refl; leaves = g .leaves }
 
-  pub number-of : answer .number ≡ tidyNumber (o .answer)
-  number-of = ap (λ (a : SdfTidyAnswer). a .number) (g .answers)
+  pub tidy-number-of : answer .number ≡ tidyNumber (o .answer)
+  tidy-number-of = ap (λ (a : SdfTidyAnswer). a .number) (g .answers)
 
 module _ (m : Mesh) (b : TidyLent) {answer : SdfTidyAnswer} {left : TidyLent} (g : GivesTidyC (tidyOutcome m b) answer left) where
   pub tidied-for-c : answer .number ≡ 0 → tidyOutcome m b .answer ≡ Tidied (keptIn answer)
@@ -71,21 +71,21 @@ module _ (m : Mesh) (b : TidyLent) {answer : SdfTidyAnswer} {left : TidyLent} (g
     where
       go : Replied m b (tidyOutcome m b) → tidyOutcome m b .answer ≡ Tidied (keptIn answer)
       go (as-tidied p a l) = a ∙ ap (λ (r : SdfTidyAnswer). Tidied (keptIn r)) (sym (g .answers ∙ ap tidyOut a))
-      go (as-refused n f i a l) = absurd (omega (arith, sym z ∙ number-of g, ap tidyNumber a))
+      go (as-refused n f i a l) = absurd (omega (arith, sym z ∙ tidy-number-of g, ap tidyNumber a))
 
   pub refused-for-c : (answer .number ≡ 0 → ⊥) → tidyOutcome m b .answer ≡ Refused (answer .number)
   refused-for-c h = go (replied m b)
     where
       go : Replied m b (tidyOutcome m b) → tidyOutcome m b .answer ≡ Refused (answer .number)
-      go (as-tidied p a l) = absurd (h (number-of g ∙ ap tidyNumber a))
-      go (as-refused n f i a l) = a ∙ ap Refused (sym (number-of g ∙ ap tidyNumber a))
+      go (as-tidied p a l) = absurd (h (tidy-number-of g ∙ ap tidyNumber a))
+      go (as-refused n f i a l) = a ∙ ap Refused (sym (tidy-number-of g ∙ ap tidyNumber a))
 
 -- ---- two calls with outputs of the same lengths
 
 module _ (m : Mesh) (b b′ : TidyLent) (e : outputsOf b ≡ outputsOf b′) where
-  pub one-answer : tidyOutcome m b .answer ≡ tidyOutcome m b′ .answer
+  pub one-tidy-answer : tidyOutcome m b .answer ≡ tidyOutcome m b′ .answer
   unfolding tidyOutcome tidyRefusal
-  one-answer = ap (λ (l : Outputs). tidyBy (number l) m b .answer) e ∙ alike (number (outputsOf b′))
+  one-tidy-answer = ap (λ (l : Outputs). tidyBy (number l) m b .answer) e ∙ alike (number (outputsOf b′))
     where
       number : Outputs → ℕ
       number l = firstThatApplies (meshChecks m ++ record { applies = wrongOutputs m l; number = 5 } ∷ [])
@@ -98,5 +98,5 @@ module _ (m : Mesh) (b b′ : TidyLent) (e : outputsOf b ≡ outputsOf b′) whe
   tidied-left z = go (replied m b)
     where
       go : Replied m b (tidyOutcome m b) → tidyOutcome m b .left ≡ tidyOutcome m b′ .left
-      go (as-tidied p a l) = l ∙ sym (was-tidied m b′ (keptCounts m) (sym one-answer ∙ a) .leaves)
+      go (as-tidied p a l) = l ∙ sym (was-tidied m b′ (keptCounts m) (sym one-tidy-answer ∙ a) .leaves)
       go (as-refused n f i a l) = absurd (omega (arith, ap tidyNumber a))

@@ -19,19 +19,19 @@ use Rattle.c_tidy.specs.Tidy.{tidyOut}
 use Rattle.tidy_meaning.specs.Tidied.{meshLeft, OneMeaning, TidiedAfterCall, keptIn, TidiedAfterCallFromC}
 use Rattle.tidy_meaning.specs.Second.{TwiceAfterCalls, TwiceAfterCallsFromC, OnlyForLengths, OnlyForLengthsFromC}
 use Rattle.tidy_meaning.specs.Refused.{TidyRefused, RefusedAfterCall, RefusedAfterCallFromC, OneOutcomeTidy, OneOutcomeTidyFromC}
-use Rattle.tidy_meaning.proofs.Replied.{Replied, as-tidied, as-refused, replied, was-tidied, of-c, number-of, tidied-for-c, refused-for-c, one-answer, tidied-left}
+use Rattle.tidy_meaning.proofs.Replied.{Replied, as-tidied, as-refused, replied, was-tidied, of-c, tidy-number-of, tidied-for-c, refused-for-c, one-tidy-answer, tidied-left}
 use Rattle.tidy_meaning.proofs.Left.{means, only-this}
 use Rattle.tidy_meaning.proofs.Second.{Unchanged, ByLengths, unchanged, by-lengths}
 
 -- ---- a call that tidies
 
-pub after-a-call : (m : Mesh) (b : TidyLent) (answer : TidyAnswer) (left : TidyLent) → TidiedAfterCall m b answer left
-after-a-call m b answer left gives k e =
+pub tidied-after-a-call : (m : Mesh) (b : TidyLent) (answer : TidyAnswer) (left : TidyLent) → TidiedAfterCall m b answer left
+tidied-after-a-call m b answer left gives k e =
     let w = was-tidied m b k (sym (gives .answers) ∙ e) in
     rw (w .counts, gives .leaves, w .leaves) (means m (mesh-passed m (w .passed) .indices))
 
-pub after-a-call-from-c : (m : Mesh) (b : TidyLent) (answer : SdfTidyAnswer) (left : TidyLent) → TidiedAfterCallFromC m b answer left
-after-a-call-from-c m b answer left gives z = after-a-call m b _ left (of-c gives) (keptIn answer) (tidied-for-c m b gives z)
+pub tidied-after-a-call-from-c : (m : Mesh) (b : TidyLent) (answer : SdfTidyAnswer) (left : TidyLent) → TidiedAfterCallFromC m b answer left
+tidied-after-a-call-from-c m b answer left gives z = tidied-after-a-call m b _ left (of-c gives) (keptIn answer) (tidied-for-c m b gives z)
 
 pub one-meaning : (m : Mesh) (k : Kept) (left : TidyLent) → OneMeaning m k left
 one-meaning m k left p = only-this m k left p
@@ -45,7 +45,7 @@ of-left : (m : Mesh) (b : TidyLent) {answer : TidyAnswer} {left : TidyLent} → 
     → P (meshLeft k left) k
 of-left m b {answer} {left} gives k e P h =
     let w = was-tidied m b k (sym (gives .answers) ∙ e) in
-    subst (λ (n : Mesh). P n k) (sym (after-a-call m b answer left gives k e .is-tidied))
+    subst (λ (n : Mesh). P n k) (sym (tidied-after-a-call m b answer left gives k e .is-tidied))
     (subst (P (tidied m)) (sym (w .counts)) (h (w .passed)))
 
 pub twice-after-calls : (m : Mesh) (b : TidyLent) (answer : TidyAnswer) (left c : TidyLent) (again : TidyAnswer) (second : TidyLent)
@@ -98,7 +98,7 @@ pub one-outcome-tidy : (m : Mesh) (b : TidyLent) (answer : TidyAnswer) (left b�
     → OneOutcomeTidy m b answer left b′ answer′ left′
 one-outcome-tidy m b answer left b′ answer′ left′ p q e =
     record {
-      answers = p .answers ∙ one-answer m b b′ e ∙ sym (q .answers);
+      answers = p .answers ∙ one-tidy-answer m b b′ e ∙ sym (q .answers);
       tidied-alike = λ z. p .leaves ∙ tidied-left m b b′ e (sym (p .number) ∙ z) ∙ sym (q .leaves);
       lent-alike = λ h. p .leaves ∙ ap (λ (x : TidyLent). tidyOutcome m x .left) h ∙ sym (q .leaves);
     }
@@ -110,6 +110,6 @@ one-outcome-tidy-from-c m b answer left b′ answer′ left′ p q e =
     let s = one-outcome-tidy m b _ left b′ _ left′ (of-c p) (of-c q) e in
     record {
       answers = p .answers ∙ ap tidyOut (s .answers) ∙ sym (q .answers);
-      tidied-alike = λ z. s .tidied-alike (sym (number-of p) ∙ z);
+      tidied-alike = λ z. s .tidied-alike (sym (tidy-number-of p) ∙ z);
       lent-alike = s .lent-alike;
     }

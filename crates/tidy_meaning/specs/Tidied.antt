@@ -1,6 +1,6 @@
 -- "Prove: nothing that has such a cause to go is kept, kept triangles retain their corner bits and order, each dropped one is listed with a
 -- true cause" (document 02, §10), of a call: of the counts that it answers and of the outputs that the caller then holds. Definitions only;
--- proofs/Theorem.antt shows that they hold (`after-a-call`, `after-a-call-from-c`, `one-meaning`).
+-- proofs/Theorem.antt shows that they hold (`tidied-after-a-call`, `tidied-after-a-call-from-c`, `one-meaning`).
 use Prim.Native.Nat.{ℕ, _*_, _-_, _<_}
 use mathlib.Core.Path.{_≡_}
 use lib.Dec.{eqb}
