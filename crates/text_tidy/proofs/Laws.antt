@@ -18,15 +18,15 @@ use Rattle.mesh_explicit.specs.Explicit.{explicit}
 use Rattle.mesh_explicit.proofs.Laws.{explicit-long}
 use Rattle.mesh.specs.Mesh.{Mesh, meshOf, trianglesIn}
 use Rattle.float_bits.specs.Patterns.{floatsOf}
-use Rattle.grid_axis.specs.AxisBounds.{isCoordinate}
 use Rattle.job_checks.specs.Refusals.{meshChecks}
-use Rattle.job_checks.proofs.MeshPassed.{mesh-passed, mesh-passing}
+use Rattle.job_checks.proofs.MeshPassed.{mesh-passed}
 use Rattle.tidy.specs.Meaning.{NothingGoes}
 use Rattle.tidy.specs.Tidy.{vertexTotal, triangleTotal, firstOf, cause, keptVertices, keptTriangles, vertexFrom, tidiedTriangles, tidied}
 use Rattle.tidy.proofs.Numbers.{On, on-of}
-use Rattle.tidy.proofs.Tidied.{triangles-are, triangles-long, vertices-in-turn, tidied-below, tidied-valid}
-use Rattle.tidy.proofs.Again.{no-more-vertices, no-more-triangles, vertices-fit, by-threes, coordinates-pass, is-list, triangles-fit}
+use Rattle.tidy.proofs.Tidied.{triangles-are, triangles-long, vertices-in-turn, tidied-below}
+use Rattle.tidy.proofs.Again.{no-more-vertices, no-more-triangles, vertices-fit}
 use Rattle.tidy.proofs.Twice.{nothing-more, counts-stay, twice}
+use Rattle.tidy_mesh.proofs.Passes.{tidied-passes}
 use Rattle.text.specs.Limits.{mostVertices, mostIndices}
 use Rattle.text.specs.TextJob.{TextJob, Word, Words, All, IndicesFit, Readable, indexList, givenOf, flat, jobText, these}
 use Rattle.text.specs.Reader.{three, assembled}
@@ -147,19 +147,6 @@ no-drops m g =
     sym (table-at (cause m) (triangleTotal m) k 0 h)
     ∙ ap (λ (l : List ℕ). getD l k 0) (g .none-dropped)
     ∙ getD-replicate (triangleTotal m) k 0 0 h)
-
--- the tidied mesh passes the checks that the mesh passed
-pub tidied-passes : (m : Mesh) → meshRefusal m ≡ 0 → meshRefusal (tidied m) ≡ 0
-tidied-passes m z =
-    let p = mesh-passed m z in
-    mesh-passing (tidied m) (record {
-      by-threes = by-threes m;
-      vertices-few = omega (arith, vertices-fit m, p .vertices-few);
-      coordinates = coordinates-pass m isCoordinate (p .coordinates);
-      a-list = is-list m;
-      triangles-few = omega (arith, triangles-fit m, p .triangles-few);
-      indices = tidied-valid m (p .indices);
-    })
 
 module _ (j : TextJob) (r : Readable j) (z : meshRefusal (meshAsked j) ≡ 0) where
   -- the tidied job is tidied to itself

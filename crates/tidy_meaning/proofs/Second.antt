@@ -8,31 +8,22 @@ use borrow.Author.Tests.{eq-eqb}
 use Rattle.lists.specs.Checks.{firstThatApplies}
 use Rattle.mesh.specs.Mesh.{Mesh}
 use Rattle.job_checks.specs.Refusals.{meshChecks}
-use Rattle.job_checks.proofs.MeshPassed.{mesh-passed, mesh-passing}
+use Rattle.job_checks.proofs.MeshPassed.{mesh-passed}
 use Rattle.tidy.specs.Tidy.{tidied}
 use Rattle.tidy.specs.Meaning.{Valid}
-use Rattle.tidy.proofs.Tidied.{coordinates-long, vertices-long, triangles-long, tidied-valid}
-use Rattle.tidy.proofs.Again.{vertices-fit, by-threes, coordinates-pass, is-list, triangles-fit}
+use Rattle.tidy.proofs.Tidied.{coordinates-long, vertices-long, triangles-long}
 use Rattle.tidy.proofs.Twice.{counts-stay}
 use Rattle.tidy_mesh.specs.declared.Kept.{Kept}
 use Rattle.tidy_mesh.specs.declared.TidyAnswer.the-variants.{Refused, Tidied}
 use Rattle.tidy_mesh.specs.Outcome.{TidyLent, outputsOf, wrongOutputs, keptCounts, tidyOutcome}
 use Rattle.tidy_mesh.proofs.Refused.{by-outputs, by-none}
 use Rattle.tidy_meaning.specs.Second.{OutputsFor, NothingChanged, NotRefused}
+use Rattle.tidy_mesh.proofs.Passes.{tidied-passes}
 use Rattle.tidy_meaning.proofs.Replied.{Replied, as-tidied, as-refused, replied}
 use Rattle.tidy_meaning.proofs.Left.{again-left}
 
 pub not-refused : (m : Mesh) → NotRefused m
-not-refused m h =
-    let p = mesh-passed m h in
-    mesh-passing (tidied m) (record {
-      by-threes = by-threes m;
-      vertices-few = omega (arith, vertices-fit m, p .vertices-few);
-      coordinates = coordinates-pass m _ (p .coordinates);
-      a-list = is-list m;
-      triangles-few = omega (arith, triangles-fit m, p .triangles-few);
-      indices = tidied-valid m (p .indices);
-    })
+not-refused m = tidied-passes m
 
 -- what a second call comes to, with the mesh n of these counts and the outputs c: with outputs of its lengths, and where it is refused
 abbrev pub Unchanged : TidyLent → Mesh → Kept → Type 0
