@@ -21,7 +21,7 @@ use Rattle.run.specs.Run.{State, run, none}
 use Rattle.run.specs.Input.{runInput}
 use Rattle.run.proofs.Standing.{input-stood, field-by-stood, crossings-by-stood, grazed-by-stood}
 use Rattle.job_checks.specs.Job.{Job, Lent}
-use Rattle.job_checks.specs.Refusals.{refusalBy, wrongLengths, lengthsOf, meshChecks}
+use Rattle.job_checks.specs.Refusals.{refusalBy, wrongLengths, lengthsOf, editionChecks, meshChecks}
 use Rattle.job_checks.proofs.Accepted.{Fits, accepted}
 use Rattle.job_outcome.specs.declared.Answer.{Answer}
 use Rattle.job_outcome.specs.declared.Answer.the-variants.{Done}
@@ -41,10 +41,10 @@ same-zeros e = ap (λ (n : ℕ). replicate {A = ℕ} n 0) e
 -- the buffers of two accepted jobs are alike in length, but for the rows
 module _ (j : Job) (u : ℕ) (b c : Lent) (both : BothAccepted j u b c) where
   fits : Fits (j .grid) (lengthsOf b)
-  fits = accepted (j .grid) (j .mesh) (lengthsOf b) (both .first) .long
+  fits = accepted (j .grid) (j .edition) (j .mesh) (lengthsOf b) (both .first) .long
 
   fits-too : Fits (stood u (j .grid)) (lengthsOf c)
-  fits-too = accepted (stood u (j .grid)) (j .mesh) (lengthsOf c) (both .second) .long
+  fits-too = accepted (stood u (j .grid)) (j .edition) (j .mesh) (lengthsOf c) (both .second) .long
 
   -- one run
   one-run : runOf j b ≡ runOf (stoodJob u j) c
@@ -124,4 +124,4 @@ refused-alike j u b c l =
     λ i.
     firstThatApplies (
     record { applies = not (bounds i); number = 1 } ∷
-    (meshChecks (j .mesh) ++ record { applies = not (places-alike u (j .grid) (j .mesh) i); number = 10 } ∷ record { applies = lengths-alike j u b c l i; number = 5 } ∷ []))
+    (editionChecks (j .edition) ++ meshChecks (j .mesh) ++ record { applies = not (places-alike u (j .grid) (j .mesh) i); number = 10 } ∷ record { applies = lengths-alike j u b c l i; number = 5 } ∷ []))

@@ -12,7 +12,7 @@ use Rattle.job_outcome.specs.Outcome.{Outcome, Gives, outcome}
 
 -- the same job with another axis upright
 abbrev pub stoodJob : ℕ → Job → Job
-stoodJob u j = record { grid = stood u (j .grid); mesh = j .mesh; sign = j .sign; limit = j .limit }
+stoodJob u j = record { grid = stood u (j .grid); mesh = j .mesh; sign = j .sign; limit = j .limit; edition = j .edition }
 
 -- the same but for the rows: the answer, which is the number and where the job is done pops, peak and grazed rays, and the other lent buffers
 pub record SameButRows (o p : Outcome) : Type 0 where
