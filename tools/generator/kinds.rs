@@ -237,7 +237,7 @@ pub fn job(grid: Grid, mesh: &Mesh, r: &mut Random) -> Job {
     let indices = Some(mesh.triangles.iter().flatten().copied().collect());
     let queue = if r.once_in(12) { r.between(0, MOST_ENTRIES) } else { MOST_ENTRIES };
     let pops = r.pick(&[100_000, 1_000_000, u32::MAX]);
-    Job { grid, topology: Topology::List, sign: SignMethod::Raycast, vertices, indices, queue, pops }
+    Job { grid, topology: Topology::List, sign: SignMethod::Raycast, vertices, indices, queue, pops, edition: None }
 }
 
 /// A place in cell units as a point, held within the bounds.
@@ -1038,6 +1038,7 @@ fn document_01(r: &mut Random) -> Job {
         indices: Some(vec![0, 1, 2]),
         queue: 8,
         pops: 100,
+        edition: None,
     };
     match r.turn(&[0, 1, 2, 3, 4, 5, 6]) {
         0 => {}

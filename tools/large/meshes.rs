@@ -138,7 +138,7 @@ pub fn plain(grid: Grid, Mesh { vertices, triangles }: Mesh) -> Job {
 }
 
 fn lifted(grid: Grid, topology: Topology, vertices: Vec<[f32; 3]>, indices: Option<Vec<u32>>) -> Job {
-    Job { grid, topology, sign: SignMethod::Raycast, vertices, indices, queue: u32::MAX, pops: u32::MAX }
+    Job { grid, topology, sign: SignMethod::Raycast, vertices, indices, queue: u32::MAX, pops: u32::MAX, edition: None }
 }
 
 /// A grid of these counts: plain or odd measures, cubes or not.
