@@ -237,20 +237,19 @@ impl<'a> Run<'a> {
     fn rows(&self) -> Vec<u32> {
         let mut rows = vec![0; self.grid.layers() as usize];
         for index in 0..self.grid.cells() {
-            rows[self.grid.layer(index) as usize] += self.counts(index);
+            rows[self.grid.layer(index) as usize] += counts(self.job.edition(), self.field[index as usize]);
         }
         rows
     }
+}
 
-    /// What a cell counts. In edition 1 of the table: 1 if its sign bit is set, -0 too (document 02, §2). In edition 2, in half cells (§11): 2 for a
-    /// set sign bit and a magnitude above zero, 1 for magnitude zero with either sign, 0 otherwise.
-    fn counts(&self, index: u32) -> u32 {
-        let distance = self.field[index as usize];
-        let inside = distance.is_sign_negative();
-        match self.job.edition() {
-            1 => u32::from(inside),
-            _ if distance.abs() == 0.0 => 1,
-            _ => 2 * u32::from(inside),
-        }
+/// What a cell counts. In edition 1 of the table: 1 if its sign bit is set, -0 too (document 02, §2). In edition 2, in half cells (§11): 2 for a
+/// set sign bit and a magnitude above zero, 1 for magnitude zero with either sign, 0 otherwise.
+pub fn counts(edition: u32, distance: f32) -> u32 {
+    let inside = distance.is_sign_negative();
+    match edition {
+        1 => u32::from(inside),
+        _ if distance.abs() == 0.0 => 1,
+        _ => 2 * u32::from(inside),
     }
 }
