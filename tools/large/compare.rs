@@ -293,7 +293,7 @@ impl Seen {
         let ([first, second], [plus, minus]) = (self.editions, self.zeros);
         println!(
             "rows of edition 1 and 2: {first} and {second} jobs, the latter with {plus} cells at +0 and {minus} at -0; \
-             of an edition that there is not, refused by 14: {}; once more with plates on layers of centres: {}",
+             of an edition that there is not: {}; once more with plates on layers of centres: {}",
             self.no_edition, self.plates
         );
         println!("lists of a strip's triangles that were held to what the Rust gives the strip: {}", self.strips);
