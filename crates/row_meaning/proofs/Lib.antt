@@ -1,4 +1,3 @@
-pub mod Sums
 pub mod Weights
 pub mod Rows
 pub mod Theorem

@@ -11,7 +11,7 @@ use Rattle.float.specs.Arith.{if_then_else_}
 use Rattle.float.specs.Steps.{signBit}
 use Rattle.float.specs.Distance.{unsigned}
 use Rattle.lists.specs.Range.{sumBelow}
-use Rattle.lists.proofs.Range.{count-same, count-sum, sum-same}
+use Rattle.lists.proofs.Range.{count-same, count-sum, sum-same, sum-plus, sum-times, sum-by}
 use Rattle.lists.proofs.Table.{length-table, table-at}
 use Rattle.grid.specs.declared.Grid.{Grid}
 use Rattle.point.specs.declared.Axis.the-variants.{Y, Z}
@@ -26,7 +26,6 @@ use Rattle.run.specs.Signs.{rowWeight, rowBelow, rowsBy, rows}
 use Rattle.job_checks.specs.Job.{Lent}
 use Rattle.demand_3.specs.Meaning.{countLeft, RaycastMeans}
 use Rattle.row_meaning.specs.Rows.{twoOrMoreOdd, inLayer, isSet, aboveZero, atZero, RowsBy, ByRays, allRows, allCells}
-use Rattle.row_meaning.proofs.Sums.{sum-plus, sum-times, sum-by}
 use Rattle.row_meaning.proofs.Weights.{half-as-two}
 
 -- ---- a cell
