@@ -11,7 +11,7 @@
  *   size_t n = sdf_grid_total(grid).value;
  *   sdf_job_answer a = sdf_generate_grid_sdf_records(grid, vertices, 3 * vertex_count, SDF_LIST, SDF_INDICES, indices,
  *       index_count, field, n, names, n, crossings, 3 * n, rows, 64, queue, n,
- *       (sdf_terms){.limit = UINT32_MAX, .pass = SDF_QUICK});
+ *       (sdf_terms){.limit = UINT32_MAX, .pass = SDF_QUICK, .edition = SDF_EDITION_1});
  *   if (a.number == SDF_QUEUE_FULL) lend twice the queue and call again;
  *   if (a.number == SDF_DONE) signbit(field[i]) says inside, and rows[z] counts the inside cells of layer z, as z is upright;
  *
@@ -43,8 +43,10 @@ extern "C" {
 
 /* Raised whenever a function, a record or a number below is no longer what it was, or there is one more. Since 10 sdf_grid has its
  * upright axis, as its last member: what is said in capitals there concerns every program that was written for 9. 11 has
- * sdf_tidy_mesh; a program that was written for 10 need not be changed. */
-#define SDF_VERSION 11
+ * sdf_tidy_mesh; a program that was written for 10 need not be changed for that. Since 12 sdf_terms has the edition of the
+ * layer table, as its last member: a program that was written for 11 says .edition = SDF_EDITION_1 to have the table that it
+ * had, and is refused by SDF_EDITION until it says one. */
+#define SDF_VERSION 12
 
 /* The numbers of the whole job [4.1], in the order in which they are checked; the first that applies is given. A
  * question asked by itself [4.4] gives 1 for the grid, 2 for a coordinate that is not finite or above 2,097,152 in
@@ -54,6 +56,7 @@ enum {
     SDF_GRID = 1,         /* the grid is out of bounds: a count outside 1 .. 1,024, more than 1,048,576 cells, a first
                              coordinate not finite or above 1,048,576 in magnitude, a size outside 1/1,024 .. 1,024, an
                              upright axis that is none of SDF_X, SDF_Y, SDF_Z */
+    SDF_EDITION = 14,     /* the edition of the layer table is neither 1 nor 2 */
     SDF_COORDINATES = 2,  /* the coordinates are not a multiple of three, more than 393,216 vertices, or a coordinate (of
                              an unused vertex too) not finite or above 1,048,576 in magnitude */
     SDF_TOPOLOGY = 13,    /* a strip, though it make no triangle: strips are withdrawn. List its triangles: the three
@@ -106,7 +109,7 @@ typedef struct {
 } sdf_grid;
 
 /* What the whole job is asked for by value, beside the grid and the mesh. Say its members by their names, as {.limit = n,
- * .pass = SDF_QUICK}: others may follow, and one that is left out is 0.
+ * .pass = SDF_QUICK, .edition = SDF_EDITION_1}: others may follow, and one that is left out is 0.
  *   limit        how many entries may be taken
  *   pass         how the crossings are counted. SDF_PLAIN adds one to every cell that a hit reaches. SDF_QUICK marks the last
  *                of them alone, and sums back along each line when all triangles are through. The answer and all buffers are
@@ -114,9 +117,11 @@ typedef struct {
  *   sign         how a distance gets its sign. SDF_RAYCAST casts rays, which a closed hull tells inside from outside. SDF_NORMAL
  *                asks on which side of the named triangle the cell lies, for what has no closed hull: a floating deck is
  *                scanned from above alone, and its crossings mean little. The corners of every triangle must then run
- *                counter-clockwise as seen from above, or from outside. No number is refused */
+ *                counter-clockwise as seen from above, or from outside. No number is refused
+ *   edition      of the layer table, 1 or 2: what a cell adds to its row. Any other number is refused by SDF_EDITION, also 0,
+ *                which a record has that was written for an earlier version. Nothing but the rows depends on it */
 typedef struct {
-    uint32_t limit, pass, sign;
+    uint32_t limit, pass, sign, edition;
 } sdf_terms;
 
 typedef struct {
@@ -198,6 +203,8 @@ enum { SDF_LIST = 0, SDF_STRIP = 1 };
 enum { SDF_NO_INDICES = 0, SDF_INDICES = 1 };
 enum { SDF_PLAIN = 0, SDF_QUICK = 1 };
 enum { SDF_RAYCAST = 0, SDF_NORMAL = 1 };
+/* The editions of the layer table. */
+enum { SDF_EDITION_1 = 1, SDF_EDITION_2 = 2 };
 /* The name of a cell that took no triangle. */
 #define SDF_NONE UINT32_C(4294967295)
 
@@ -218,13 +225,16 @@ enum { SDF_RAYCAST = 0, SDF_NORMAL = 1 };
  *   crossings    3 n numbers: the rays' hits along x, y, z of each cell in turn. A ray that grazes adds none: the answer's
  *                `grazed` says how often one did. Where it is large, shift the grid by a hair and ask again. With
  *                SDF_NORMAL there are no rays: all zero, and `grazed` too
- *   rows         as many as the upright axis's count: how many cells of each layer are inside, that is, have their sign bit
- *                set (signbit of <math.h>). Layer k is the cells whose number along the upright axis is k. -0 counts, and +0
- *                does not: `field[i] < 0` would leave out a centre on the surface
+ *   rows         as many as the upright axis's count, layer by layer: layer k is the cells whose number along the upright axis
+ *                is k. SDF_EDITION_1: how many of its cells are inside, that is, have their sign bit set (signbit of
+ *                <math.h>). -0 counts, and +0 does not: `field[i] < 0` would leave out a centre on the surface.
+ *                SDF_EDITION_2, in half cells: 2 for a set sign bit and a magnitude above zero, 1 for 0 and for -0, 0
+ *                otherwise. So a row times a cell's volume, or half of it, is what the layer holds; and all rows together are
+ *                what all cells add
  *   distances, cells, triangles
  *                the queue: three arrays of one length, its room. Any length, 0 too
  * terms          limit: how many entries may be taken. pass: SDF_QUICK or SDF_PLAIN, which give the same. sign: SDF_RAYCAST or
- *                SDF_NORMAL
+ *                SDF_NORMAL. edition: SDF_EDITION_1 or SDF_EDITION_2
  *
  * How much to lend: room for n entries was enough in every job of docs/SPEED.md (a tank took 0.1 to 0.8 n, triangles
  * everywhere n); on SDF_QUEUE_FULL call again with twice the room. All of the room is cleared before and after the run, so
@@ -232,11 +242,11 @@ enum { SDF_RAYCAST = 0, SDF_NORMAL = 1 };
  *
  * What is left in the buffers that are written, whatever they held before [4.3]:
  *   0            field, names, crossings and rows as above; the queue all zero
- *   1 to 5, 10, 13
+ *   1 to 5, 10, 13, 14
  *                nothing was changed
  *   6 to 8       the field all FLT_MAX (of <float.h>), the names all SDF_NONE, crossings, rows and queue all zero
  * With no triangle the answer is 0, the field all FLT_MAX and the names all SDF_NONE. A cell is left so too, though there
- * are triangles, if every distance offered to it was infinite; inside by the rays it holds -FLT_MAX, and its row counts it.
+ * are triangles, if every distance offered to it was infinite; inside by the rays it holds -FLT_MAX, and its row counts it whole.
  *
  * What C owes, and no function can check, besides the floating-point environment above: a pointer is not null, not even
  * with a length of 0, nor `indices` where none are given; it is aligned for its type and points to at least as many

@@ -147,7 +147,7 @@ int main(int words, char **word) {
         sdf_entry *queue = lend(room, sizeof *queue);
         answer = sdf_generate_grid_sdf_records(grid, vertices, numbers, SDF_LIST, SDF_NO_INDICES, &none, 0, field, n,
                                                names, n, crossings, 3 * n, rows, layers, queue, room,
-                                               (sdf_terms){.limit = UINT32_MAX, .pass = SDF_QUICK});
+                                               (sdf_terms){.limit = UINT32_MAX, .pass = SDF_QUICK, .edition = SDF_EDITION_1});
         free(queue);
         if (answer.number != SDF_QUEUE_FULL)
             break;

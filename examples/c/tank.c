@@ -76,7 +76,7 @@ int main(void) {
     sdf_job_answer answer = sdf_generate_grid_sdf(
         grid, vertices, 3 * VERTICES, SDF_LIST, SDF_INDICES, indices, 3 * TRIANGLES, field, CELLS, names, CELLS,
         crossings, 3 * CELLS, rows, EDGE, distances, ROOM, cells, ROOM, triangles, ROOM,
-        (sdf_terms){.limit = UINT32_MAX, .pass = SDF_QUICK});
+        (sdf_terms){.limit = UINT32_MAX, .pass = SDF_QUICK, .edition = SDF_EDITION_1});
     printf("answer=%u\n", (unsigned)answer.number);
     if (answer.number != SDF_DONE)
         return EXIT_FAILURE;

@@ -91,8 +91,9 @@ passIn n = if eqb n 0 then Plain else Quick
 abbrev pub signIn : ℕ → SignMethod
 signIn n = if eqb n 0 then Raycast else Normal
 
+-- the edition is the number that C gives: 0, as a record has it that C leaves short, is no edition, and is refused
 abbrev pub termsIn : SdfTerms → Terms
-termsIn t = record { limit = t .limit; pass = passIn (t .pass); sign = signIn (t .sign) }
+termsIn t = record { limit = t .limit; pass = passIn (t .pass); sign = signIn (t .sign); edition = t .edition }
 
 -- ---- the zeros that a refusal has for a value
 

@@ -36,12 +36,14 @@ pub struct SdfGrid {
     pub upright: u32,
 }
 
-// What a job is asked for by value, beside the grid and the mesh. `pass` is 0 for the plain pass, `sign` 0 for Raycast.
+// What a job is asked for by value, beside the grid and the mesh. `pass` is 0 for the plain pass, `sign` 0 for Raycast. `edition`, of the
+// layer table, is 1 or 2; behind the others, so that a record which C initialises by position and leaves short has 0 there, which is refused.
 #[repr(C)]
 pub struct SdfTerms {
     pub limit: u32,
     pub pass: u32,
     pub sign: u32,
+    pub edition: u32,
 }
 
 #[repr(C)]
@@ -175,6 +177,7 @@ impl SdfTerms {
             limit: self.limit,
             pass: pass_in(self.pass),
             sign: sign_in(self.sign),
+            edition: self.edition,
         }
     }
 }

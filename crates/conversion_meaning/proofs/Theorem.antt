@@ -1,4 +1,4 @@
--- A conversion is answered as the strip was: it has the same grid, limit and vertices and names the same triangles, so that the checks but 13,
+-- A conversion is answered as the strip was: it has the same grid, terms and vertices and names the same triangles, so that the checks but 13,
 -- the run, the rays and the rows are the same, and 13 does not apply to a list. Assumes nothing.
 use Prim.Native.Nat.{ℕ, _*_}
 use native.Mathlib.Omega.{arith}
@@ -41,16 +41,16 @@ triangles-asked j = ap (trianglesOf (j .head .topology) (givenOf (j .indices)) (
 
 -- ---- the outcome
 
--- of two jobs with one grid, method and limit whose meshes are the same, the second a list
-pub outcome-as-before : (g : Grid) (sign : SignMethod) (limit : ℕ) {m n : Mesh}
+-- of two jobs with one grid, method, limit and edition whose meshes are the same, the second a list
+pub outcome-as-before : (g : Grid) (sign : SignMethod) (limit edition : ℕ) {m n : Mesh}
     → SameMesh m n
     → n .topology ≡ TriangleList
     → (b : Lent)
-    → outcome (jobWith g sign limit n) b ≡ oldOutcome (jobWith g sign limit m) b
+    → outcome (jobWith g sign limit edition n) b ≡ oldOutcome (jobWith g sign limit edition m) b
 unfolding outcome oldOutcome
-outcome-as-before g sign limit {m} {n} same list b =
-    let refused = refused-as-before g same (lengthsOf b) list in
-    let ends = sym (ended-same g sign limit same b (runOf (jobWith g sign limit n) b)) ∙ ap (ended (jobWith g sign limit m) b) (sym (run-same g sign limit same b)) in
+outcome-as-before g sign limit edition {m} {n} same list b =
+    let refused = refused-as-before g edition same (lengthsOf b) list in
+    let ends = sym (ended-same g sign limit edition same b (runOf (jobWith g sign limit edition n) b)) ∙ ap (ended (jobWith g sign limit edition m) b) (sym (run-same g sign limit edition same b)) in
     λ i. unlessRefused (refused i) b (ends i)
 
 same-mesh : (j : TextJob) → SameMesh (askedJob j .mesh) (askedJob (converted j) .mesh)
@@ -65,11 +65,12 @@ same-mesh j =
     same-vertices TriangleList = refl
     same-vertices TriangleStrip = refl
 
--- a conversion has the same grid, method, limit and buffers
+-- a conversion has the same grid, method, limit, edition and buffers
 pub record Kept (j k : TextJob) : Type 0 where
   pub grid : askedJob k .grid ≡ askedJob j .grid
   pub sign : askedJob k .sign ≡ askedJob j .sign
   pub limit : askedJob k .limit ≡ askedJob j .limit
+  pub edition : askedJob k .edition ≡ askedJob j .edition
   pub lent : lentFor (k .head) (k .tail) ≡ lentFor (j .head) (j .tail)
 
 kept : (j : TextJob) → Kept j (converted j)
@@ -77,16 +78,16 @@ unfolding convertedBy
 kept j = by (j .head .topology)
   where
     by : (t : Topology) → Kept j (convertedBy t j)
-    by TriangleList = record { grid = refl; sign = refl; limit = refl; lent = refl }
-    by TriangleStrip = record { grid = refl; sign = refl; limit = refl; lent = refl }
+    by TriangleList = record { grid = refl; sign = refl; limit = refl; edition = refl; lent = refl }
+    by TriangleStrip = record { grid = refl; sign = refl; limit = refl; edition = refl; lent = refl }
 
 -- "so that the field is what the strip gave": number, pops, peak, grazed rays and every buffer
 pub as-before : (j : TextJob) (b : Lent) → outcome (askedJob (converted j)) b ≡ oldOutcome (askedJob j) b
 as-before j b =
     let m = askedJob (converted j) .mesh in
     let k = kept j in
-    (λ i. outcome (jobWith (k .grid i) (k .sign i) (k .limit i) m) b)
-    ∙ outcome-as-before (askedJob j .grid) (askedJob j .sign) (askedJob j .limit) (same-mesh j) (list-of j) b
+    (λ i. outcome (jobWith (k .grid i) (k .sign i) (k .limit i) (k .edition i) m) b)
+    ∙ outcome-as-before (askedJob j .grid) (askedJob j .sign) (askedJob j .limit) (askedJob j .edition) (same-mesh j) (list-of j) b
 
 -- ---- the two programs, one after the other
 

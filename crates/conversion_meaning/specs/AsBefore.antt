@@ -1,5 +1,5 @@
 -- "prove that both name the same triangles in the same order, so that the field is what the strip gave" (document 02, §7). What a job gave
--- while strips were taken, as a definition: the run, the rays and the rows still know strips, and of the checks 13 alone is new. Definitions
+-- while strips were taken, as a definition: the run, the rays and the rows still know strips, and of the checks 13 alone asks for one. Definitions
 -- only; proofs/Theorem.antt shows that a conversion is answered so (`as-before`, `printed-as-before`).
 use Prim.Native.Nat.{ℕ}
 use mathlib.Core.Path.{_≡_}
@@ -19,9 +19,9 @@ unfoldable pub without : ℕ → List Check → List Check
 without n [] = []
 without n (c ∷ cs) = cond (eqb (c .number) n) (without n cs) (c ∷ without n cs)
 
--- the checks as they stood: 1, 2, 3, 4, 10, 5
+-- the checks but the one of strips: 1, 14, 2, 3, 4, 10, 5
 abbrev pub oldRefusal : Job → Lent → ℕ
-oldRefusal j b = firstThatApplies (without 13 (checks (j .grid) (j .mesh) (lengthsOf b)))
+oldRefusal j b = firstThatApplies (without 13 (checks (j .grid) (j .edition) (j .mesh) (lengthsOf b)))
 
 -- what a job came to, strip or list
 unfoldable pub oldOutcome : Job → Lent → Outcome

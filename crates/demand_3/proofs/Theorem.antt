@@ -51,7 +51,7 @@ pub record Passed (j : Job) : Type 0 where
 
 pub checks-passed : (j : Job) (b : Lent) → refusal j b ≡ 0 → Passed j
 checks-passed j b h =
-    let fit = accepted (j .grid) (j .mesh) (lengthsOf b) h .fit in
+    let fit = accepted (j .grid) (j .edition) (j .mesh) (lengthsOf b) h .fit in
     record {
       some = λ a. on-axis (bounds-of (j .grid) (fit .ready .bounded)) a .some;
       few = omega (arith, fit .few);

@@ -35,9 +35,9 @@ use Rattle.job_outcome.proofs.Outcomes.{gives, gives-refused, gives-done, gives
 use Rattle.job_generate.proofs.Jobs.{gives-unchanged, gives-outcome}
 use Rattle.entries_generate.specs.LentRow.{lentRow}
 
-module _ (g : Grid) (m : Mesh) (sign : SignMethod) (limit : ℕ) (field : List Float) (names crossings rows : List ℕ) (queue : List Entry) where
+module _ (g : Grid) (m : Mesh) (sign : SignMethod) (limit edition : ℕ) (field : List Float) (names crossings rows : List ℕ) (queue : List Entry) where
   abbrev job : Job
-  job = record { grid = g; mesh = m; sign = sign; limit = limit }
+  job = record { grid = g; mesh = m; sign = sign; limit = limit; edition = edition }
 
   abbrev lent : Lent
   lent = lentRow field names crossings rows queue
@@ -54,9 +54,9 @@ module _ (g : Grid) (m : Mesh) (sign : SignMethod) (limit : ℕ) (field : List F
     triangles = length-map queue (λ (e : Entry). e .triangle) i;
   }
 
-  module _ (field₁ : List Float) (names₁ : List ℕ) (begun : Begun) (s : Begins g m sign (length crossings) (length rows) (length queue) field names field₁ names₁ begun) where
+  module _ (field₁ : List Float) (names₁ : List ℕ) (begun : Begun) (s : Begins g m sign edition (length crossings) (length rows) (length queue) field names field₁ names₁ begun) where
     first : begun .refused ≡ refusal job lent
-    first = s .refused-is ∙ ap (refusalBy g m) (sym one-length)
+    first = s .refused-is ∙ ap (refusalBy g edition m) (sym one-length)
 
     pub refused-first : (answer : Answer) → answer ≡ Refused (begun .refused) → (begun .refused ≡ 0 → ⊥) → Gives (outcome job lent) answer (lentRow field₁ names₁ crossings rows queue)
     refused-first answer e z =
@@ -68,8 +68,8 @@ module _ (g : Grid) (m : Mesh) (sign : SignMethod) (limit : ℕ) (field : List F
       none-refused : refusal job lent ≡ 0
       none-refused = sym first ∙ z
 
-      taken : Accepted g m (lengthsOf lent)
-      taken = accepted g m (lengthsOf lent) none-refused
+      taken : Accepted g edition m (lengthsOf lent)
+      taken = accepted g edition m (lengthsOf lent) none-refused
 
       pub fits : Fit g m
       fits = taken .fit
@@ -106,17 +106,17 @@ module _ (g : Grid) (m : Mesh) (sign : SignMethod) (limit : ℕ) (field : List F
               lengths-same (lentRow field₂ names₂ crossings rows queue₂) lent (l-field₂ ∙ l-field) (l-names₂ ∙ l-names) refl refl
               (as-long (λ (e : Entry). e .distance)) (as-long (λ (e : Entry). e .cell)) (as-long (λ (e : Entry). e .triangle))
 
-          module _ (field₃ : List Float) (names₃ crossings₃ rows₃ : List ℕ) (answer : Answer) (c : Closed g m sign ran field₂ names₂ crossings rows field₃ names₃ crossings₃ rows₃ answer) where
+          module _ (field₃ : List Float) (names₃ crossings₃ rows₃ : List ℕ) (answer : Answer) (c : Closed g m sign edition ran field₂ names₂ crossings rows field₃ names₃ crossings₃ rows₃ answer) where
             -- nothing waits: the row is all zero
             pub done-with : ran .number ≡ 0 → Gives (outcome job lent) answer (lentRow field₃ names₃ crossings₃ rows₃ queue₂)
             done-with y =
                 gives-outcome job lent none-refused
                 (gives-run job (lentRow field₂ names₂ crossings rows queue₂) lent long-as went
-                (gives-done g m sign limit field₂ names₂ crossings rows (rowDistances queue₂) (rowCells queue₂) (rowTriangles queue₂) ran c y (run-over sign (length queue₁) limit w)))
+                (gives-done g m sign limit edition field₂ names₂ crossings rows (rowDistances queue₂) (rowCells queue₂) (rowTriangles queue₂) ran c y (run-over sign (length queue₁) limit w)))
 
             -- or the row is cleared
             pub cleared-after : (ran .number ≡ 0 → ⊥) → (queue₃ : List Entry) → ClearedRow queue₂ queue₃ → Gives (outcome job lent) answer (lentRow field₃ names₃ crossings₃ rows₃ queue₃)
             cleared-after y queue₃ q =
                 gives-outcome job lent none-refused
                 (gives-run job (lentRow field₂ names₂ crossings rows queue₂) lent long-as went
-                (gives-refused g m sign limit field₂ names₂ crossings rows (rowDistances queue₂) (rowCells queue₂) (rowTriangles queue₂) ran c y q))
+                (gives-refused g m sign limit edition field₂ names₂ crossings rows (rowDistances queue₂) (rowCells queue₂) (rowTriangles queue₂) ran c y q))

@@ -52,7 +52,7 @@ pub record Agree (o p : Outcome) : Type 0 where
 
 pub same-outcome : (j : Job) (b c : Lent) → Alike b c → lengthsOf b ≡ lengthsOf c → Agree (outcome j b) (outcome j c)
 unfolding outcome unlessRefused
-same-outcome j b c h e = go (refusal j b) (refusal j c) (ap (refusalBy (j .grid) (j .mesh)) e)
+same-outcome j b c h e = go (refusal j b) (refusal j c) (ap (refusalBy (j .grid) (j .edition) (j .mesh)) e)
   where
     ends : ended j b (runOf j b) ≡ ended j c (runOf j c)
     ends = same-ended j b c (runOf j b) e ∙ ap (ended j c) (same-run j b c e)
@@ -97,9 +97,9 @@ one-outcome-row field field′ names names′ crossings crossings′ rows rows�
 -- ---- "Neither answer nor buffers may show which was picked" (document 02, §4)
 
 -- a job has no pass, so that two calls which differ in the pass alone ask for one job: over three buffers, and over a row of records
-pub pass-not-shown : (g : Grid) (vertices : List Float) (topology : Topology) (given : Indices) (indices : List ℕ) (limit : ℕ) (p q : Pass) (sign : SignMethod) (b : Lent)
+pub pass-not-shown : (g : Grid) (vertices : List Float) (topology : Topology) (given : Indices) (indices : List ℕ) (limit : ℕ) (p q : Pass) (sign : SignMethod) (edition : ℕ) (b : Lent)
     {answer answer′ : Answer} {left left′ : Lent}
-    → Gives (outcome (jobOf g vertices topology given indices (record { limit = limit; pass = p; sign = sign })) b) answer left
-    → Gives (outcome (jobOf g vertices topology given indices (record { limit = limit; pass = q; sign = sign })) b) answer′ left′
+    → Gives (outcome (jobOf g vertices topology given indices (record { limit = limit; pass = p; sign = sign; edition = edition })) b) answer left
+    → Gives (outcome (jobOf g vertices topology given indices (record { limit = limit; pass = q; sign = sign; edition = edition })) b) answer′ left′
     → (answer ≡ answer′) × (left ≡ left′)
-pass-not-shown g vertices topology given indices limit p q sign b = one-outcome
+pass-not-shown g vertices topology given indices limit p q sign edition b = one-outcome

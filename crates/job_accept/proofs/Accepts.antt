@@ -18,8 +18,8 @@ use Rattle.run_field.specs.Running.{Fresh}
 use Rattle.job_outcome.specs.Finished.{Long}
 
 module _ (j : Job) (b : Lent) (h : refusal j b ≡ 0) where
-  a : Accepted (j .grid) (j .mesh) (lengthsOf b)
-  a = accepted (j .grid) (j .mesh) (lengthsOf b) h
+  a : Accepted (j .grid) (j .edition) (j .mesh) (lengthsOf b)
+  a = accepted (j .grid) (j .edition) (j .mesh) (lengthsOf b) h
 
   module _ {field : List Float} {names crossings rows ds cs ts : List ℕ} (e : lentOf field names crossings rows ds cs ts ≡ cleared b) where
     pub fresh : Fresh (j .grid) field names ds cs ts

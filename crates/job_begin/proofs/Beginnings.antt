@@ -17,15 +17,15 @@ use Rattle.job_checks.specs.Refusals.{refusalBy}
 use Rattle.job_checks.proofs.Accepted.{Accepted, accepted}
 use Rattle.job_begin.specs.Begins.{lengthsWith, Begins}
 
-module _ (g : Grid) (m : Mesh) (sign : SignMethod) (crossings rows room : ℕ) (field : List Float) (names : List ℕ) (k : ℕ) (e : k ≡ refusalBy g m (lengthsWith field names crossings rows room)) where
-  pub begins-refused : (k ≡ 0 → ⊥) → Begins g m sign crossings rows room field names field names (record { refused = k; number = 0 })
+module _ (g : Grid) (m : Mesh) (sign : SignMethod) (edition crossings rows room : ℕ) (field : List Float) (names : List ℕ) (k : ℕ) (e : k ≡ refusalBy g edition m (lengthsWith field names crossings rows room)) where
+  pub begins-refused : (k ≡ 0 → ⊥) → Begins g m sign edition crossings rows room field names field names (record { refused = k; number = 0 })
   begins-refused z =
       record { refused-is = e; unchanged = λ w. (refl, refl); unseeded = λ w. refl; seeded = λ w. absurd (z w) }
 
   -- not refused, and then cleared
   module _ (z : k ≡ 0) where
-    pub begins-fit : Accepted g m (lengthsWith field names crossings rows room)
-    begins-fit = accepted g m (lengthsWith field names crossings rows room) (sym e ∙ z)
+    pub begins-fit : Accepted g edition m (lengthsWith field names crossings rows room)
+    begins-fit = accepted g edition m (lengthsWith field names crossings rows room) (sym e ∙ z)
 
     module _ {bare : List Float} {unnamed : List ℕ} (f : bare ≡ replicate (length field) fMax) (n : unnamed ≡ replicate (length names) none) where
       field-bare : bare ≡ replicate (total g) fMax
@@ -39,7 +39,7 @@ module _ (g : Grid) (m : Mesh) (sign : SignMethod) (crossings rows room : ℕ) (
 
       pub begins-seeded : (number : ℕ) {field′ : List Float} {names′ : List ℕ}
           → turns (overTriangle g m sign) (length (trianglesIn m)) (seedState bare unnamed) ≡ told number (seedState field′ names′)
-          → Begins g m sign crossings rows room field names field′ names′ (record { refused = 0; number = number })
+          → Begins g m sign edition crossings rows room field names field′ names′ (record { refused = 0; number = number })
       begins-seeded number t =
           record {
             refused-is = sym z ∙ e;

@@ -30,8 +30,8 @@ lengthsWith field names crossings rows room =
     }
 
 -- The field and the names become field′ and names′: as they were where a number of the checks refuses, else seeded from bare ones.
-pub record Begins (g : Grid) (m : Mesh) (sign : SignMethod) (crossings rows room : ℕ) (field : List Float) (names : List ℕ) (field′ : List Float) (names′ : List ℕ) (r : Begun) : Type 0 where
-  pub refused-is : r .refused ≡ refusalBy g m (lengthsWith field names crossings rows room)
+pub record Begins (g : Grid) (m : Mesh) (sign : SignMethod) (edition crossings rows room : ℕ) (field : List Float) (names : List ℕ) (field′ : List Float) (names′ : List ℕ) (r : Begun) : Type 0 where
+  pub refused-is : r .refused ≡ refusalBy g edition m (lengthsWith field names crossings rows room)
   pub unchanged : (r .refused ≡ 0 → ⊥) → (field′ ≡ field) × (names′ ≡ names)
   pub unseeded : (r .refused ≡ 0 → ⊥) → r .number ≡ 0
   pub seeded : r .refused ≡ 0

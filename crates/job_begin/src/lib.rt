@@ -30,7 +30,7 @@ pub fn begin(
 ) -> Begun
     ensures { λ r.
         let m = meshOf (now (vertices .entry)) topology given (now (indices .entry)) in
-        ⌜ Begins grid m (terms .sign) crossings rows room (now (field .entry)) (now (names .entry)) (now (field .exit))
+        ⌜ Begins grid m (terms .sign) (terms .edition) crossings rows room (now (field .entry)) (now (names .entry)) (now (field .exit))
         (now (names .exit)) r ⌝ }
 {
     let lengths = Lengths {
@@ -42,7 +42,16 @@ pub fn begin(
         cells: room,
         triangles: room,
     };
-    let refused = job_checks::first_refusal(grid, vertices, topology, given, indices, lengths);
+    let edition = terms.edition;
+    let refused = job_checks::first_refusal(
+        grid,
+        edition,
+        vertices,
+        topology,
+        given,
+        indices,
+        lengths,
+    );
     if refused != 0 {
         return Begun {
             refused: refused,

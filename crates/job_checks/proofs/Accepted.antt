@@ -1,13 +1,15 @@
 -- What a job that is not refused before the run is known to be. Each test of the list that did not apply is a fact. Assumes nothing.
-use mathlib.Core.Path.{_≡_}
-use mathlib.Core.Bool.{true, false, not, _||_}
+use mathlib.Core.Path.{_≡_, sym, ap₂, _∙_}
+use mathlib.Core.Bool.{Bool, true, false, not, _||_, false≢true}
+use mathlib.Core.Logic.{_⊎_, inl, inr}
 use mathlib.Core.List.{List}
 use Prim.Native.Nat.{ℕ, _*_, _%_, _≤_}
+use native.Mathlib.Decide.{ℕ-discrete}
 use native.Mathlib.Omega.{arith}
 use lib.Dec.{ltb, eqb}
 use lib.ListN.{length}
 use lib.Ieee.{Float}
-use borrow.Author.Tests.{ltb-false, eqb-true, not-false}
+use borrow.Author.Tests.{ltb-false, eqb-true, ne-eqb, not-false}
 use Rattle.lists.proofs.Checks.{Numbered, none-applies}
 use Rattle.grid.specs.declared.Grid.{Grid}
 use Rattle.grid.specs.Index.{total}
@@ -19,7 +21,7 @@ use Rattle.mesh_topology.specs.Refusals.{allBelowCount}
 use Rattle.mesh_off_grid.specs.OffGrid.{allOnGrid}
 use Rattle.run_state.specs.Told.{Fit}
 use Rattle.job_checks.specs.declared.Lengths.{Lengths}
-use Rattle.job_checks.specs.Refusals.{allCoordinates, wrongGrid, wrongVertices, wrongTopology, wrongTriangles, wrongIndices, wrongPlaces, wrongLengths, checks, refusalBy}
+use Rattle.job_checks.specs.Refusals.{allCoordinates, wrongGrid, wrongEdition, wrongVertices, wrongTopology, wrongTriangles, wrongIndices, wrongPlaces, wrongLengths, checks, refusalBy}
 use Rattle.job_checks.proofs.MeshPassed.{neither, no-strip}
 
 pub few-vertices : (vs : List Float) → wrongVertices vs ≡ false → vertexCount vs ≤ 393216
@@ -70,24 +72,36 @@ fits g l h =
       triangles = same (l .triangles) (l .distances) (to-c .1);
     }
 
+-- ---- the edition
+
+one-or-two : (e : ℕ) → wrongEdition e ≡ false → (e ≡ 1) ⊎ (e ≡ 2)
+one-or-two e h = go (ℕ-discrete e 1) (ℕ-discrete e 2)
+  where
+    go : Dec (e ≡ 1) → Dec (e ≡ 2) → (e ≡ 1) ⊎ (e ≡ 2)
+    go (yes one) d = inl one
+    go (no other) (yes two) = inr two
+    go (no other) (no another) = absurd (false≢true (sym h ∙ ap₂ (λ (a : Bool) (b : Bool). not (a || b)) (ne-eqb e 1 other) (ne-eqb e 2 another)))
+
 -- ---- all of it
 
-pub record Accepted (g : Grid) (m : Mesh) (l : Lengths) : Type 0 where
+pub record Accepted (g : Grid) (e : ℕ) (m : Mesh) (l : Lengths) : Type 0 where
+  pub edition : (e ≡ 1) ⊎ (e ≡ 2)
   pub a-list : m .topology ≡ TriangleList
   pub fit : Fit g m
   pub on-grid : allOnGrid g m ≡ true
   pub long : Fits g l
 
 -- no check has the number 0
-numbered : (g : Grid) (m : Mesh) (l : Lengths) → Numbered (checks g m l)
-numbered g m l = omega arith
+numbered : (g : Grid) (e : ℕ) (m : Mesh) (l : Lengths) → Numbered (checks g e m l)
+numbered g e m l = omega arith
 
 -- each fact is found among the checks, wherever it stands in the list
-pub accepted : (g : Grid) (m : Mesh) (l : Lengths) → refusalBy g m l ≡ 0 → Accepted g m l
+pub accepted : (g : Grid) (e : ℕ) (m : Mesh) (l : Lengths) → refusalBy g e m l ≡ 0 → Accepted g e m l
 unfolding refusalBy
-accepted g m l h =
-    let p = none-applies (checks g m l) (numbered g m l) h in
+accepted g e m l h =
+    let p = none-applies (checks g e m l) (numbered g e m l) h in
     let grid-right : wrongGrid g ≡ false = search p in
+    let edition-right : wrongEdition e ≡ false = search p in
     let vertices-right : wrongVertices (m .vertices) ≡ false = search p in
     let topology-right : wrongTopology m ≡ false = search p in
     let triangles-right : wrongTriangles m ≡ false = search p in
@@ -95,6 +109,7 @@ accepted g m l h =
     let places-right : wrongPlaces g m ≡ false = search p in
     let lengths-right : wrongLengths g l ≡ false = search p in
     record {
+      edition = one-or-two e edition-right;
       a-list = no-strip (m .topology) topology-right;
       fit = record {
         ready = record {

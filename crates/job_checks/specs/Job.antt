@@ -15,10 +15,19 @@ pub record Job : Type 0 where
   -- the method of the signs, and the pop limit
   pub sign : SignMethod
   pub limit : ℕ
+  -- the edition of the layer table
+  pub edition : ℕ
 
--- of the terms the method and the limit: no job has a pass, so what a call promises of its answer and its buffers cannot show one
+-- of the terms all but the pass: no job has a pass, so what a call promises of its answer and its buffers cannot show one
 abbrev pub jobOf : Grid → List Float → Topology → Indices → List ℕ → Terms → Job
-jobOf grid vertices topology given indices terms = record { grid = grid; mesh = meshOf vertices topology given indices; sign = terms .sign; limit = terms .limit }
+jobOf grid vertices topology given indices terms =
+    record {
+      grid = grid;
+      mesh = meshOf vertices topology given indices;
+      sign = terms .sign;
+      limit = terms .limit;
+      edition = terms .edition;
+    }
 
 -- the lent buffers: the field, the names, the crossings, the rows, and the queue's distances, cells and triangles
 pub record Lent : Type 0 where

@@ -1,6 +1,6 @@
 -- "Reply numbers. Checked in this order; the first that applies is given, and no number is given otherwise." (document 01). Those that are
--- checked before the run: document 01's 1 to 5; 10, "after 4 and before 5" (document 02, §6); 13, "after 2 and before 3" (§7). Definitions
--- only.
+-- checked before the run: document 01's 1 to 5; 10, "after 4 and before 5" (document 02, §6); 13, "after 2 and before 3" (§7); 14, "after 1" (§11).
+-- Definitions only.
 use Prim.Native.Nat.{ℕ, _*_, _%_}
 use mathlib.Core.Bool.{Bool, not, _||_}
 use mathlib.Core.List.{List, [], _∷_, _++_}
@@ -27,6 +27,10 @@ allCoordinates xs = every isCoordinate xs
 -- 1: "grid out of bounds", an upright axis outside 0 to 2 too
 abbrev pub wrongGrid : Grid → Bool
 wrongGrid g = not (inBounds g)
+
+-- 14: "any other edition" of the layer table than 1 and 2 (document 02, §11)
+abbrev pub wrongEdition : ℕ → Bool
+wrongEdition e = not (eqb e 1 || eqb e 2)
 
 -- 2: "coordinate count not a multiple of three, too many vertices, or a coordinate out of bounds (unused vertices too)"
 abbrev pub wrongVertices : List Float → Bool
@@ -72,9 +76,12 @@ lengthsOf b =
       triangles = length (b .triangles);
     }
 
--- the checks of the grid, of the mesh, of where it lies, and of the lent buffers
+-- the checks of the grid, of the edition, of the mesh, of where it lies, and of the lent buffers
 abbrev pub gridChecks : Grid → List Check
 gridChecks g = record { applies = wrongGrid g; number = 1 } ∷ []
+
+abbrev pub editionChecks : ℕ → List Check
+editionChecks e = record { applies = wrongEdition e; number = 14 } ∷ []
 
 abbrev pub meshChecks : Mesh → List Check
 meshChecks m =
@@ -91,12 +98,12 @@ abbrev pub lengthChecks : Grid → Lengths → List Check
 lengthChecks g l = record { applies = wrongLengths g l; number = 5 } ∷ []
 
 -- "checked in this order"
-abbrev pub checks : Grid → Mesh → Lengths → List Check
-checks g m l = gridChecks g ++ meshChecks m ++ placeChecks g m ++ lengthChecks g l
+abbrev pub checks : Grid → ℕ → Mesh → Lengths → List Check
+checks g e m l = gridChecks g ++ editionChecks e ++ meshChecks m ++ placeChecks g m ++ lengthChecks g l
 
 -- "the first that applies is given", and 0 where none does
-unfoldable pub refusalBy : Grid → Mesh → Lengths → ℕ
-refusalBy g m l = firstThatApplies (checks g m l)
+unfoldable pub refusalBy : Grid → ℕ → Mesh → Lengths → ℕ
+refusalBy g e m l = firstThatApplies (checks g e m l)
 
 abbrev pub refusal : Job → Lent → ℕ
-refusal j b = refusalBy (j .grid) (j .mesh) (lengthsOf b)
+refusal j b = refusalBy (j .grid) (j .edition) (j .mesh) (lengthsOf b)

@@ -1,5 +1,5 @@
-// The refusals that are checked before the run, in their order: 1, 2, 13, 3, 4, 10 and 5 (document 01, "Reply numbers",
-// and document 02, §6 and §7). A part of the port: users call `sdf`.
+// The refusals that are checked before the run, in their order: 1, 14, 2, 13, 3, 4, 10 and 5 (document 01, "Reply numbers",
+// and document 02, §6, §7 and §11). A part of the port: users call `sdf`.
 ghost use mathlib.Core.Path.{_≡_};
 ghost use mathlib.Core.Bool.{true};
 ghost use Prim.Native.Nat.{_+_, _*_, _%_, _<_};
@@ -8,7 +8,7 @@ ghost use Rattle.grid.specs.Bounds.{inBounds};
 ghost use Rattle.mesh.specs.Mesh.{Sound, meshOf};
 ghost use Rattle.lists.specs.Checks.{firstThatApplies};
 ghost use Rattle.job_checks.specs.Refusals.{allCoordinates, wrongVertices, wrongLengths};
-ghost use Rattle.job_checks.specs.Refusals.{gridChecks, meshChecks, placeChecks, lengthChecks, refusalBy};
+ghost use Rattle.job_checks.specs.Refusals.{gridChecks, editionChecks, meshChecks, placeChecks, lengthChecks, refusalBy};
 use grid::Grid;
 use mesh_topology::Indices;
 use mesh_topology::Topology;
@@ -83,6 +83,16 @@ fn grid_refusal(grid: Grid) -> u32
     0
 }
 
+// 14 where the edition of the layer table is neither 1 nor 2, and 0 where it is one of them.
+fn edition_refusal(edition: u32) -> u32
+    ensures { λ r. ⌜ r ≡ firstThatApplies (editionChecks edition) ⌝ }
+{
+    if (edition == 1) | (edition == 2) {
+        return 0;
+    }
+    14
+}
+
 // The first of 2, 13, 3 and 4 that applies to the mesh, and 0 where none does.
 pub fn mesh_refusal(vertices: &[f32], topology: Topology, given: Indices, indices: &[u32]) -> u32
     ensures { λ r. ⌜ r ≡ firstThatApplies (meshChecks (meshOf (now (vertices .entry)) topology given (now (indices .entry)))) ⌝ }
@@ -142,17 +152,22 @@ fn length_refusal(grid: Grid, l: Lengths) -> u32
 // The first number that applies before the run, and 0 where none does.
 pub fn first_refusal(
     grid: Grid,
+    edition: u32,
     vertices: &[f32],
     topology: Topology,
     given: Indices,
     indices: &[u32],
     l: Lengths,
 ) -> u32
-    ensures { λ r. ⌜ r ≡ refusalBy grid (meshOf (now (vertices .entry)) topology given (now (indices .entry))) l ⌝ }
+    ensures { λ r. ⌜ r ≡ refusalBy grid edition (meshOf (now (vertices .entry)) topology given (now (indices .entry))) l ⌝ }
 {
     let by_grid = grid_refusal(grid);
     if by_grid != 0 {
         return by_grid;
+    }
+    let by_edition = edition_refusal(edition);
+    if by_edition != 0 {
+        return by_edition;
     }
     let by_mesh = mesh_refusal(vertices, topology, given, indices);
     if by_mesh != 0 {

@@ -44,7 +44,16 @@ pub fn generate_grid_sdf(
         cells: cells.len(),
         triangles: triangles.len(),
     };
-    let number = job_checks::first_refusal(grid, vertices, topology, given, indices, lengths);
+    let edition = terms.edition;
+    let number = job_checks::first_refusal(
+        grid,
+        edition,
+        vertices,
+        topology,
+        given,
+        indices,
+        lengths,
+    );
     if number != 0 {
         return Answer::Refused(number);
     }

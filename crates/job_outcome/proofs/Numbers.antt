@@ -1,4 +1,4 @@
--- No number is given otherwise: a job is done, or refused by a number of the checks or of the run; so a refusal's number is one of the ten, and
+-- No number is given otherwise: a job is done, or refused by a number of the checks or of the run; so a refusal's number is one of the eleven, and
 -- number 0 means that the job is done. Assumes nothing.
 use Prim.Native.Nat.{ℕ, zero, suc, _≤_}
 use native.Mathlib.Omega.{arith}
@@ -23,7 +23,7 @@ use Rattle.job_outcome.specs.Numbers.{checkNumbers, runNumbers, refusalN
 -- what the checks come to is 0 or one of their numbers
 check-given : (j : Job) (b : Lent) → (refusal j b ≡ 0) ⊎ List·Memᴰ (refusal j b) (checkNumbers j b)
 unfolding refusalBy
-check-given j b = first-is (checks (j .grid) (j .mesh) (lengthsOf b))
+check-given j b = first-is (checks (j .grid) (j .edition) (j .mesh) (lengthsOf b))
 
 -- the run refuses by 6, 7 or 8 alone
 run-given : (j : Job) (b : Lent) → OnlyBy (λ n. List·Memᴰ n runNumbers) (runOf j b)

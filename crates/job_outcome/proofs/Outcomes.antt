@@ -34,22 +34,22 @@ gives e l = record { answers = e; number = ap numberOf e; pops = ap popsOf e; pe
 -- ---- what follows the run
 
 -- what a run that came to p gives
-abbrev comesTo : Grid → Mesh → SignMethod → ℕ → List Float → List ℕ → List ℕ → List ℕ → List ℕ → List ℕ → List ℕ → Progress → Outcome
-comesTo g m sign limit field names crossings layers ds cs ts p =
-    ended (record { grid = g; mesh = m; sign = sign; limit = limit }) (lentOf field names crossings layers ds cs ts) (told (p .number) (stateOf (orderIn m) field names ds cs ts p))
+abbrev comesTo : Grid → Mesh → SignMethod → ℕ → ℕ → List Float → List ℕ → List ℕ → List ℕ → List ℕ → List ℕ → List ℕ → Progress → Outcome
+comesTo g m sign limit edition field names crossings layers ds cs ts p =
+    ended (record { grid = g; mesh = m; sign = sign; limit = limit; edition = edition }) (lentOf field names crossings layers ds cs ts) (told (p .number) (stateOf (orderIn m) field names ds cs ts p))
 
 -- by what `close` did with all but the queue
-module _ (g : Grid) (m : Mesh) (sign : SignMethod) (limit : ℕ) (field : List Float) (names crossings layers ds cs ts : List ℕ) (p : Progress)
-    {field′ : List Float} {names′ crossings′ layers′ : List ℕ} {r : Answer} (closed : Closed g m sign p field names crossings layers field′ names′ crossings′ layers′ r) where
+module _ (g : Grid) (m : Mesh) (sign : SignMethod) (limit edition : ℕ) (field : List Float) (names crossings layers ds cs ts : List ℕ) (p : Progress)
+    {field′ : List Float} {names′ crossings′ layers′ : List ℕ} {r : Answer} (closed : Closed g m sign edition p field names crossings layers field′ names′ crossings′ layers′ r) where
   pub gives-refused : {ds′ cs′ ts′ : List ℕ} → (p .number ≡ 0 → ⊥) → Cleared ds cs ts ds′ cs′ ts′
-      → Gives (comesTo g m sign limit field names crossings layers ds cs ts p) r (lentOf field′ names′ crossings′ layers′ ds′ cs′ ts′)
+      → Gives (comesTo g m sign limit edition field names crossings layers ds cs ts p) r (lentOf field′ names′ crossings′ layers′ ds′ cs′ ts′)
   unfolding ended
   gives-refused z q =
       rw (told-refuses (p .number) (stateOf (orderIn m) field names ds cs ts p) z)
       (gives (closed .refused z .0) (all-cleared field names crossings layers ds cs ts (closed .refused z .1) q))
 
   pub gives-done : p .number ≡ 0 → Ran g field names ds cs ts p
-      → Gives (comesTo g m sign limit field names crossings layers ds cs ts p) r (lentOf field′ names′ crossings′ layers′ ds cs ts)
+      → Gives (comesTo g m sign limit edition field names crossings layers ds cs ts p) r (lentOf field′ names′ crossings′ layers′ ds cs ts)
   unfolding ended
   gives-done z ran =
       let h = subst (Held byKeys ds cs ts) (ran .over z) (ran .holds .held) in

@@ -1,8 +1,9 @@
--- No table goes out of a strip, nor with a triangle off the grid: a job that is done was not refused, so no check applied, neither 13 nor
--- 10. Assumes nothing.
+-- No table goes out of a strip, nor with a triangle off the grid, nor of another edition than 1 and 2: a job that is done was not refused, so no check
+-- applied, neither 13 nor 10 nor 14. Assumes nothing.
 use Prim.Native.Nat.{ℕ, zero, suc, _<_}
 use mathlib.Core.Path.{_≡_, refl}
 use mathlib.Core.Bool.{false, not}
+use mathlib.Core.Logic.{_⊎_}
 use native.Mathlib.Omega.{arith}
 use lib.ListN.{length}
 use borrow.Author.Tests.{not-true}
@@ -27,11 +28,14 @@ passed j b t h = go (refusal j b) h
     go (suc n) e = absurd (let z : _≡_ {A = ℕ} 0 1 = cc in omega arith)
 
 pub done-a-list : (j : Job) (b : Lent) (t : Tally) → outcome j b .answer ≡ Done t → j .mesh .topology ≡ TriangleList
-done-a-list j b t h = accepted (j .grid) (j .mesh) (lengthsOf b) (passed j b t h) .a-list
+done-a-list j b t h = accepted (j .grid) (j .edition) (j .mesh) (lengthsOf b) (passed j b t h) .a-list
+
+pub done-edition : (j : Job) (b : Lent) (t : Tally) → outcome j b .answer ≡ Done t → (j .edition ≡ 1) ⊎ (j .edition ≡ 2)
+done-edition j b t h = accepted (j .grid) (j .edition) (j .mesh) (lengthsOf b) (passed j b t h) .edition
 
 pub done-on-grid : (j : Job) (b : Lent) (t : Tally) → outcome j b .answer ≡ Done t
     → (k : ℕ) → k < length (trianglesIn (j .mesh)) → offGrid (j .grid) (cornersAt (j .mesh) k) ≡ false
 unfolding allOnGrid cornersAt
 done-on-grid j b t h k below =
     not-true _ (every-at (λ T. not (offGrid (j .grid) (cornersOf (j .mesh .vertices) T))) (triangle 0 0 0) (trianglesIn (j .mesh)) k
-    (accepted (j .grid) (j .mesh) (lengthsOf b) (passed j b t h) .on-grid) below)
+    (accepted (j .grid) (j .edition) (j .mesh) (lengthsOf b) (passed j b t h) .on-grid) below)

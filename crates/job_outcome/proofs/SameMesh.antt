@@ -14,14 +14,14 @@ use Rattle.job_clear.specs.Cleared.{zeros}
 use Rattle.job_outcome.specs.declared.Answer.the-variants.{Done}
 use Rattle.job_outcome.specs.Outcome.{ended, runOf}
 
-abbrev pub jobWith : Grid → SignMethod → ℕ → Mesh → Job
-jobWith g sign limit m = record { grid = g; mesh = m; sign = sign; limit = limit }
+abbrev pub jobWith : Grid → SignMethod → ℕ → ℕ → Mesh → Job
+jobWith g sign limit edition m = record { grid = g; mesh = m; sign = sign; limit = limit; edition = edition }
 
-module _ (g : Grid) (sign : SignMethod) (limit : ℕ) {m n : Mesh} (same : SameMesh m n) (b : Lent) where
-  pub run-same : runOf (jobWith g sign limit m) b ≡ runOf (jobWith g sign limit n) b
+module _ (g : Grid) (sign : SignMethod) (limit edition : ℕ) {m n : Mesh} (same : SameMesh m n) (b : Lent) where
+  pub run-same : runOf (jobWith g sign limit edition m) b ≡ runOf (jobWith g sign limit edition n) b
   run-same = ap run (input-same g same sign (length (b .distances)) limit)
 
-  pub ended-same : (o : Turn State) → ended (jobWith g sign limit m) b o ≡ ended (jobWith g sign limit n) b o
+  pub ended-same : (o : Turn State) → ended (jobWith g sign limit edition m) b o ≡ ended (jobWith g sign limit edition n) b o
   unfolding ended
   ended-same (goes s) =
       let field = field-by-same g same sign (s .field) in
@@ -32,7 +32,7 @@ module _ (g : Grid) (sign : SignMethod) (limit : ℕ) {m n : Mesh} (same : SameM
           field = field i;
           names = s .names;
           crossings = crossings-by-same g same sign i;
-          rows = rows g (field i);
+          rows = rows edition g (field i);
           distances = zeros (b .distances);
           cells = zeros (b .cells);
           triangles = zeros (b .triangles);

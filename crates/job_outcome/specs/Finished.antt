@@ -21,14 +21,14 @@ pub record Long (g : Grid) (crossings rows : List ℕ) : Type 0 where
   pub crossings-long : length crossings ≡ 3 * total g
   pub rows-long : length rows ≡ layers g
 
--- the counts, the signs and the rows of a field, by the method of the signs
-pub record Finished (g : Grid) (m : Mesh) (sign : SignMethod) (old new : List Float) (counts layers : List ℕ) : Type 0 where
+-- the counts, the signs and the rows of a field, by the method of the signs and the edition of the table
+pub record Finished (g : Grid) (m : Mesh) (sign : SignMethod) (edition : ℕ) (old new : List Float) (counts layers : List ℕ) : Type 0 where
   pub crossings : counts ≡ crossingsBy sign g m
   pub field : new ≡ fieldBy sign g m old
-  pub rows : layers ≡ rows g (fieldBy sign g m old)
+  pub rows : layers ≡ rows edition g (fieldBy sign g m old)
 
 -- After a run that came to ran: field to layers, the rows, are then field′ to layers′. A refusal is answered by its number and clears
 -- them; else the answer is what was taken, waited and grazed, and the names stay.
-pub record Closed (g : Grid) (m : Mesh) (sign : SignMethod) (ran : Progress) (field : List Float) (names crossings layers : List ℕ) (field′ : List Float) (names′ crossings′ layers′ : List ℕ) (answer : Answer) : Type 0 where
+pub record Closed (g : Grid) (m : Mesh) (sign : SignMethod) (edition : ℕ) (ran : Progress) (field : List Float) (names crossings layers : List ℕ) (field′ : List Float) (names′ crossings′ layers′ : List ℕ) (answer : Answer) : Type 0 where
   pub refused : (ran .number ≡ 0 → ⊥) → (answer ≡ Refused (ran .number)) × ClearedFields field field′ names crossings layers names′ crossings′ layers′
-  pub done : ran .number ≡ 0 → (answer ≡ Done (record { pops = ran .pops; peak = ran .peak; grazed = grazedBy sign g m })) × (names′ ≡ names) × Finished g m sign field field′ crossings′ layers′
+  pub done : ran .number ≡ 0 → (answer ≡ Done (record { pops = ran .pops; peak = ran .peak; grazed = grazedBy sign g m })) × (names′ ≡ names) × Finished g m sign edition field field′ crossings′ layers′

@@ -1,5 +1,5 @@
 -- "Reply numbers. Checked in this order; the first that applies is given, and no number is given otherwise." (document 01; document
--- 02 adds 10 and 13). Which numbers a job may be answered, and what each leaves in the lent buffers. Definitions only; proofs/Numbers.antt
+-- 02 adds 10, 13 and 14). Which numbers a job may be answered, and what each leaves in the lent buffers. Definitions only; proofs/Numbers.antt
 -- shows it of every job (`replies`).
 use Prim.Native.Nat.{ℕ}
 use mathlib.Core.Path.{_≡_}
@@ -13,9 +13,9 @@ use Rattle.job_outcome.specs.declared.Answer.the-variants.{Refused, Done
 use Rattle.job_outcome.specs.declared.Tally.{Tally}
 use Rattle.job_outcome.specs.Outcome.{Outcome}
 
--- the numbers of the checks before the run, as their list has them: 1, 2, 13, 3, 4, 10 and 5
+-- the numbers of the checks before the run, as their list has them: 1, 14, 2, 13, 3, 4, 10 and 5
 abbrev pub checkNumbers : Job → Lent → List ℕ
-checkNumbers j b = numbersOf (checks (j .grid) (j .mesh) (lengthsOf b))
+checkNumbers j b = numbersOf (checks (j .grid) (j .edition) (j .mesh) (lengthsOf b))
 
 -- the numbers that are met in the run
 abbrev pub runNumbers : List ℕ
@@ -23,7 +23,7 @@ runNumbers = 6 ∷ 7 ∷ 8 ∷ []
 
 -- all of them: those of the checks in their order, then those of the run
 abbrev pub refusalNumbers : List ℕ
-refusalNumbers = 1 ∷ 2 ∷ 13 ∷ 3 ∷ 4 ∷ 10 ∷ 5 ∷ runNumbers
+refusalNumbers = 1 ∷ 14 ∷ 2 ∷ 13 ∷ 3 ∷ 4 ∷ 10 ∷ 5 ∷ runNumbers
 
 pub record IsDone (a : Answer) : Type 0 where
   pub tally : Tally

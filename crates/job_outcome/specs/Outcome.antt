@@ -20,11 +20,11 @@ pub record Outcome : Type 0 where
   -- what each lent buffer then holds
   pub left : Lent
 
--- "Numbers 1 to 5 change no lent buffer." (document 01); 10 and 13: "buffers unchanged" (document 02, §6 and §7)
+-- "Numbers 1 to 5 change no lent buffer." (document 01); 10, 13 and 14: "buffers unchanged" (document 02, §6, §7 and §11)
 abbrev pub unchanged : ℕ → Lent → Outcome
 unchanged n b = record { answer = Refused n; left = b }
 
--- 0: the field with its signs, the names, the counts and the rows, by the method of the signs, and the queue all zero
+-- 0: the field with its signs, the names and the counts, by the method of the signs, the rows by the edition of the table, and the queue all zero
 abbrev pub filled : Job → State → Lent → Lent
 filled j s b =
     let field = fieldBy (j .sign) (j .grid) (j .mesh) (s .field) in
@@ -32,7 +32,7 @@ filled j s b =
       field = field;
       names = s .names;
       crossings = crossingsBy (j .sign) (j .grid) (j .mesh);
-      rows = rows (j .grid) field;
+      rows = rows (j .edition) (j .grid) field;
       distances = zeros (b .distances);
       cells = zeros (b .cells);
       triangles = zeros (b .triangles);

@@ -27,7 +27,7 @@ asked-of-terms h vertices given indices t pass = refl
 module _ (j : TextJob) where
   -- the same job with the axis of this number upright
   abbrev standing : ℕ → Job
-  standing n = jobWith (stood n (askedJob j .grid)) (askedJob j .sign) (askedJob j .limit) (askedJob j .mesh)
+  standing n = jobWith (stood n (askedJob j .grid)) (askedJob j .sign) (askedJob j .limit) (askedJob j .edition) (askedJob j .mesh)
 
   pub said-stands : (u : Upright) → askedJob (saying u j) ≡ standing (uprightMeant u)
   said-stands u = refl

@@ -53,7 +53,7 @@ pub same-listed : (j : Job) (b c : Lent) → lengthsOf b ≡ lengthsOf c → lis
 unfolding listedOf outcome unlessRefused listed
 same-listed j b c e =
     by (refusal j b)
-    ∙ ap (λ (n : ℕ). listed (unlessRefused n c (ended j c (runOf j c)) .answer) (unlessRefused n c (ended j c (runOf j c)) .left)) (ap (refusalBy (j .grid) (j .mesh)) e)
+    ∙ ap (λ (n : ℕ). listed (unlessRefused n c (ended j c (runOf j c)) .answer) (unlessRefused n c (ended j c (runOf j c)) .left)) (ap (refusalBy (j .grid) (j .edition) (j .mesh)) e)
   where
     by : (n : ℕ) → listed (unlessRefused n b (ended j b (runOf j b)) .answer) (unlessRefused n b (ended j b (runOf j b)) .left)
         ≡ listed (unlessRefused n c (ended j c (runOf j c)) .answer) (unlessRefused n c (ended j c (runOf j c)) .left)
@@ -66,7 +66,7 @@ ran-low : (j : Job) (b : Lent) → refusal j b ≡ 0 → (s : State) → runOf j
 unfolding runInput
 ran-low j b r s h =
     let room = length (b .distances) in
-    let fit = accepted (j .grid) (j .mesh) (lengthsOf b) r .fit in
+    let fit = accepted (j .grid) (j .edition) (j .mesh) (lengthsOf b) r .fit in
     run-done (runInput (j .grid) (j .mesh) (j .sign) room (j .limit))
     (fair-input (j .grid) (j .mesh) (j .sign) room (j .limit) (λ a. on-axis (bounds-of (j .grid) (fit .ready .bounded)) a .some) (omega (arith, fit .few)))
     s

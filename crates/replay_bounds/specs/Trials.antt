@@ -27,4 +27,4 @@ lentLong field names crossings rows distances cells triangles =
     (take distances (replicate 5 0)) (take cells (replicate 5 0)) (take triangles (replicate 5 0))
 
 abbrev pub onePop : Terms
-onePop = record { limit = 1; pass = Quick; sign = Raycast }
+onePop = record { limit = 1; pass = Quick; sign = Raycast; edition = 1 }

@@ -97,6 +97,7 @@ pub fn asked(
             limit: 1,
             pass: Pass::Quick,
             sign: SignMethod::Raycast,
+            edition: 1,
         },
     );
     number_of(answer)

@@ -1,3 +1,5 @@
+pub mod Sums
+pub mod Weights
 pub mod Rows
 pub mod Theorem
 pub mod Counted

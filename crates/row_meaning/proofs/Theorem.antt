@@ -9,28 +9,31 @@ use Rattle.job_checks.specs.Job.{Job, Lent}
 use Rattle.job_outcome.specs.declared.Answer.{Answer}
 use Rattle.job_outcome.specs.Outcome.{outcome}
 use Rattle.job_outcome.proofs.Numbers.{number-0}
+use Rattle.job_outcome.proofs.Passed.{done-edition}
 use Rattle.c_job.specs.declared.SdfJobAnswer.{SdfJobAnswer}
 use Rattle.demand_3.specs.Meaning.{CellMeans}
 use Rattle.demand_3.specs.Demand3.{inputFor}
 use Rattle.demand_3.proofs.Theorem.{done-ended, demand-3}
 use Rattle.row_meaning.specs.Rows.{RowsOfOutcome, RowsAfterCall, RowsAfterCallFromC}
-use Rattle.row_meaning.proofs.Rows.{row-signs, row-for-each, rows-by-rays}
+use Rattle.row_meaning.proofs.Rows.{row-for-each, rows-by-sign, rows-add-up, rows-by-rays}
 
 -- ---- the theorem
 
 pub rows-mean : (j : Job) (b : Lent) → RowsOfOutcome j b
 rows-mean j b t h =
     record {
-      row-each = row-for-each (j .grid) (outcome j b .left) rows-left;
-      row-by-sign = row-signs (j .grid) (outcome j b .left) rows-left;
+      row-each = row-for-each (j .edition) (j .grid) (outcome j b .left) rows-left;
+      row-by-sign = rows-by-sign (j .edition) (j .grid) (outcome j b .left) rows-left;
+      one-or-two = done-edition j b t h;
+      rows-sum = rows-add-up (j .edition) (j .grid) (outcome j b .left) rows-left;
       by-rays = λ e.
-          rows-by-rays (j .grid) (j .mesh) (inputFor j b) (outcome j b .left)
+          rows-by-rays (j .edition) (j .grid) (j .mesh) (inputFor j b) (outcome j b .left)
           (λ i l. subst (λ (s : SignMethod). CellMeans s (j .grid) (j .mesh) (inputFor j b) (outcome j b .left .field) (outcome j b .left .names) (outcome j b .left .crossings) (cellAt (j .grid) i)) e
           (demand-3 j b t h (cellAt (j .grid) i) (cell-within l)))
           rows-left;
     }
   where
-    rows-left : outcome j b .left .rows ≡ rows (j .grid) (outcome j b .left .field)
+    rows-left : outcome j b .left .rows ≡ rows (j .edition) (j .grid) (outcome j b .left .field)
     rows-left = rw (done-ended j b t h .fills)
 
 -- ---- the corollaries, of the lent buffers after a call

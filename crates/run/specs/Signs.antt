@@ -9,8 +9,8 @@ use lib.Dec.{leb, ltb, eqb}
 use lib.IntN.{ℤ, pos, negsuc}
 use lib.ListN.{length, getD}
 use lib.Ieee.{Float, nan, neg}
-use Rattle.float.specs.Arith.{_⊘_, if_then_else_}
-use Rattle.float.specs.Steps.{signBit}
+use Rattle.float.specs.Arith.{_⊘_, _≺_, _≐_, f0, if_then_else_}
+use Rattle.float.specs.Steps.{absOf, signBit}
 use Rattle.float_floor.specs.Cell.{floorOf}
 use Rattle.lists.specs.Range.{countBelow, sumBelow}
 use Rattle.lists.specs.Table.{table}
@@ -89,17 +89,23 @@ signed g m field c = if inside g m (cellAt g c) then neg (getD field c nan) else
 unfoldable pub signedField : Grid → Mesh → List Float → List Float
 signedField g m field = table (signed g m field) (total g)
 
--- ---- "Row z: how many cells of layer z" are inside, where the layers lie along the upright axis (document 02, §9): "a cell counts as inside
--- when at least two of its crossing counts are odd, which is when its sign bit is set" (document 01, "The run"; document 02, §2). So −0
--- counts, and +0 does not. That the one is when the other is, of every job answered Done, is shown in crate `row_meaning`.
+-- ---- "Row z: how many cells of layer z" are inside, where the layers lie along the upright axis (document 02, §9). A row is the sum of its cells'
+-- weights, which the edition of the table says (§11).
 
--- what counts in a row
-abbrev pub counted : Float → Bool
-counted d = signBit d
+-- Edition 1: "a cell counts as inside when at least two of its crossing counts are odd, which is when its sign bit is set" (document 01, "The
+-- run"; document 02, §2). So −0 counts, and +0 does not. That the one is when the other is, of every job answered Done, is shown in crate
+-- `row_meaning`.
+abbrev pub wholeWeight : Float → ℕ
+wholeWeight d = if signBit d then 1 else 0
 
--- with what weight a cell's distance is added to its row
-abbrev pub rowWeight : Float → ℕ
-rowWeight d = if counted d then 1 else 0
+-- Edition 2: "Rows of edition 2 are in half cells: 2 for a set sign bit and a magnitude above zero, 1 for magnitude zero with either sign, 0
+-- otherwise" (document 02, §11)
+abbrev pub halfWeight : Float → ℕ
+halfWeight d = if signBit d && (f0 ≺ absOf d) then 2 else if absOf d ≐ f0 then 1 else 0
+
+-- with what weight a cell's distance is added to its row; a job of another edition is refused
+abbrev pub rowWeight : ℕ → Float → ℕ
+rowWeight edition d = if eqb edition 2 then halfWeight d else wholeWeight d
 
 -- the weights of the cells of layer n, of those below c in the order of their index
 unfoldable pub rowBelow : (Float → ℕ) → Grid → List Float → ℕ → ℕ → ℕ
@@ -108,5 +114,5 @@ rowBelow w g field n c = sumBelow (λ i. if eqb (layerOf g i) n then w (getD fie
 unfoldable pub rowsBy : (Float → ℕ) → Grid → List Float → List ℕ
 rowsBy w g field = table (λ n. rowBelow w g field n (total g)) (layers g)
 
-abbrev pub rows : Grid → List Float → List ℕ
-rows g field = rowsBy rowWeight g field
+abbrev pub rows : ℕ → Grid → List Float → List ℕ
+rows edition g field = rowsBy (rowWeight edition) g field

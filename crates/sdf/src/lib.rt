@@ -3,8 +3,8 @@
 //
 //   generate_grid_sdf          the whole job, over lent buffers (its contract stands in crate `job_generate`)
 //   generate_grid_sdf_records  the same with the queue as a lent row of records (crate `entries_generate`)
-//   Terms                      what both are asked for by value: the pop limit, and the pass, plain or quick, which neither
-//                              answer nor buffers show (crate `terms`)
+//   Terms                      what both are asked for by value: the pop limit; the pass, plain or quick, which neither
+//                              answer nor buffers show; the method of the signs; the edition of the layer table (crate `terms`)
 //   stl_count, read_stl        a scanner's file, binary STL: its facets, and their corners (crate `stl_read`)
 //   write_stl                  corners to such a file (crate `stl_write`)
 //   tidy_mesh                  a mesh with its repeats merged and dropped, and what went (crate `tidy_mesh`)

@@ -1,5 +1,5 @@
 // The terms of a job: what its caller says by value beside the grid and the mesh (document 01, "Bounds on a job"; document
-// 02, §4 and §8). They are handed on whole, as the grid is, from the call to the step that asks for one of them, so that a further
+// 02, §4, §8 and §11). They are handed on whole, as the grid is, from the call to the step that asks for one of them, so that a further
 // one moves no signature and no walk. A part of the port: users call `sdf`.
 
 // How the crossings are counted. The plain pass adds one to every cell that a hit reaches. The quick pass marks the last of
@@ -16,9 +16,11 @@ pub enum SignMethod {
     Normal,
 }
 
-// The pop limit: how many entries may be taken. The pass, which no answer and no buffer shows. And the method of the signs.
+// The pop limit: how many entries may be taken. The pass, which no answer and no buffer shows. The method of the signs. And the
+// edition of the layer table: 1, whose rows count cells, or 2, whose rows are in half cells; any other number is refused.
 pub struct Terms {
     pub limit: u32,
     pub pass: Pass,
     pub sign: SignMethod,
+    pub edition: u32,
 }

@@ -1,8 +1,10 @@
--- What the upright axis means for a whole job. What the run is told, the rays and the signs do not look at it (crate `run`, proofs/Standing.antt), so both jobs
--- have one run and end alike; of the checks only two look at it. Once over the axes, for any number. Assumes nothing.
+-- What the upright axis and the edition mean for a whole job. What the run is told, the rays and the signs do not look at the axis (crate `run`,
+-- proofs/Standing.antt) and have no edition, so both jobs have one run and end alike; of the checks only two look at the one, and one at the other. Once
+-- over the axes and the editions, for any numbers. Assumes nothing.
 use Prim.Native.Nat.{ℕ, _*_, _≤_}
 use mathlib.Core.Path.{_≡_, refl, sym, ap, _∙_}
-use mathlib.Core.Bool.{not, _||_}
+use mathlib.Core.Bool.{false, not, _||_}
+use mathlib.Core.Logic.{_⊎_, inl, inr}
 use mathlib.Core.List.{[], _∷_, _++_}
 use lib.Dec.{eqb}
 use lib.ListN.{length, replicate}
@@ -21,12 +23,12 @@ use Rattle.run.specs.Run.{State, run, none}
 use Rattle.run.specs.Input.{runInput}
 use Rattle.run.proofs.Standing.{input-stood, field-by-stood, crossings-by-stood, grazed-by-stood}
 use Rattle.job_checks.specs.Job.{Job, Lent}
-use Rattle.job_checks.specs.Refusals.{refusalBy, wrongLengths, lengthsOf, meshChecks}
+use Rattle.job_checks.specs.Refusals.{refusalBy, wrongLengths, lengthsOf, wrongEdition, meshChecks}
 use Rattle.job_checks.proofs.Accepted.{Fits, accepted}
 use Rattle.job_outcome.specs.declared.Answer.{Answer}
 use Rattle.job_outcome.specs.declared.Answer.the-variants.{Done}
 use Rattle.job_outcome.specs.Outcome.{ended, runOf, unlessRefused, outcome}
-use Rattle.upright_meaning.specs.Upright.{stoodJob, SameButRows, IsAccepted, BothAccepted, OnlyRowsDiffer, OnlyRowsDifferAfterCalls, LentAlike, RefusedAlike}
+use Rattle.upright_meaning.specs.Upright.{otherTable, SameButRows, IsAccepted, BothAccepted, OnlyRowsDiffer, OnlyRowsDifferAfterCalls, LentAlike, RefusedAlike}
 
 -- ---- both accepted
 
@@ -39,15 +41,15 @@ same-zeros : {n k : ℕ} → n ≡ k → replicate {A = ℕ} n 0 ≡ replicate k
 same-zeros e = ap (λ (n : ℕ). replicate {A = ℕ} n 0) e
 
 -- the buffers of two accepted jobs are alike in length, but for the rows
-module _ (j : Job) (u : ℕ) (b c : Lent) (both : BothAccepted j u b c) where
+module _ (j : Job) (u e : ℕ) (b c : Lent) (both : BothAccepted j u e b c) where
   fits : Fits (j .grid) (lengthsOf b)
-  fits = accepted (j .grid) (j .mesh) (lengthsOf b) (both .first) .long
+  fits = accepted (j .grid) (j .edition) (j .mesh) (lengthsOf b) (both .first) .long
 
   fits-too : Fits (stood u (j .grid)) (lengthsOf c)
-  fits-too = accepted (stood u (j .grid)) (j .mesh) (lengthsOf c) (both .second) .long
+  fits-too = accepted (stood u (j .grid)) e (j .mesh) (lengthsOf c) (both .second) .long
 
   -- one run
-  one-run : runOf j b ≡ runOf (stoodJob u j) c
+  one-run : runOf j b ≡ runOf (otherTable u e j) c
   one-run =
       ap (λ (room : ℕ). run (runInput (j .grid) (j .mesh) (j .sign) room (j .limit))) (both .same-room)
       ∙ ap run (sym (input-stood u (j .grid) (j .mesh) (j .sign) (length (c .distances)) (j .limit)))
@@ -59,7 +61,7 @@ module _ (j : Job) (u : ℕ) (b c : Lent) (both : BothAccepted j u b c) where
   triangles-long = fits .triangles ∙ both .same-room ∙ sym (fits-too .triangles)
 
   -- ended alike
-  same-end : (o : Turn State) → SameButRows (ended j b o) (ended (stoodJob u j) c o)
+  same-end : (o : Turn State) → SameButRows (ended j b o) (ended (otherTable u e j) c o)
   unfolding ended
   same-end (goes s) =
       record {
@@ -82,17 +84,17 @@ module _ (j : Job) (u : ℕ) (b c : Lent) (both : BothAccepted j u b c) where
         triangles = same-zeros triangles-long;
       }
 
-  pub same-but-rows : SameButRows (outcome j b) (outcome (stoodJob u j) c)
+  pub same-but-rows : SameButRows (outcome j b) (outcome (otherTable u e j) c)
   same-but-rows =
-      rw (comes-to-run j b (both .first), comes-to-run (stoodJob u j) c (both .second), ← one-run) (same-end (runOf j b))
+      rw (comes-to-run j b (both .first), comes-to-run (otherTable u e j) c (both .second), ← one-run) (same-end (runOf j b))
 
-pub only-rows-differ : (j : Job) (u : ℕ) (b c : Lent) → OnlyRowsDiffer j u b c
-only-rows-differ j u b c both = same-but-rows j u b c both
+pub only-rows-differ : (j : Job) (u e : ℕ) (b c : Lent) → OnlyRowsDiffer j u e b c
+only-rows-differ j u e b c both = same-but-rows j u e b c both
 
-pub only-rows-differ-after-calls : (j : Job) (u : ℕ) (b c : Lent) (answer : Answer) (left : Lent) (answer′ : Answer) (left′ : Lent)
-    → OnlyRowsDifferAfterCalls j u b c answer left answer′ left′
-only-rows-differ-after-calls j u b c answer left answer′ left′ both g h =
-    rw (g .answers, g .leaves, h .answers, h .leaves) (same-but-rows j u b c both)
+pub only-rows-differ-after-calls : (j : Job) (u e : ℕ) (b c : Lent) (answer : Answer) (left : Lent) (answer′ : Answer) (left′ : Lent)
+    → OnlyRowsDifferAfterCalls j u e b c answer left answer′ left′
+only-rows-differ-after-calls j u e b c answer left answer′ left′ both g h =
+    rw (g .answers, g .leaves, h .answers, h .leaves) (same-but-rows j u e b c both)
 
 -- ---- refused alike
 
@@ -106,8 +108,8 @@ unfolding allOnGrid boxMin boxMax
 places-alike u g m = refl
 
 -- the rows are as long as each asks for
-lengths-alike : (j : Job) (u : ℕ) (b c : Lent) → LentAlike j u b c → wrongLengths (j .grid) (lengthsOf b) ≡ wrongLengths (stood u (j .grid)) (lengthsOf c)
-lengths-alike j u b c l =
+lengths-alike : (j : Job) (u e : ℕ) (b c : Lent) → LentAlike j u e b c → wrongLengths (j .grid) (lengthsOf b) ≡ wrongLengths (stood u (j .grid)) (lengthsOf c)
+lengths-alike j u e b c l =
     let rows : eqb (length (b .rows)) (layers (j .grid)) ≡ eqb (length (c .rows)) (layers (stood u (j .grid))) = eq-eqb _ _ (l .rows .0) ∙ sym (eq-eqb _ _ (l .rows .1)) in
     λ i.
     not (eqb (l .field i) (total (j .grid)))
@@ -117,11 +119,16 @@ lengths-alike j u b c l =
     || not (eqb (l .cells i) (l .distances i))
     || not (eqb (l .triangles i) (l .distances i))
 
-pub refused-alike : (j : Job) (u : ℕ) (b c : Lent) → RefusedAlike j u b c
+edition-right : (e : ℕ) → (e ≡ 1) ⊎ (e ≡ 2) → wrongEdition e ≡ false
+edition-right e (inl is) = ap wrongEdition is
+edition-right e (inr is) = ap wrongEdition is
+
+pub refused-alike : (j : Job) (u e : ℕ) (b c : Lent) → RefusedAlike j u e b c
 unfolding refusalBy
-refused-alike j u b c l =
+refused-alike j u e b c l =
     let bounds = bounds-alike u (j .grid) (l .stands .0) (l .stands .1) in
     λ i.
     firstThatApplies (
     record { applies = not (bounds i); number = 1 } ∷
-    (meshChecks (j .mesh) ++ record { applies = not (places-alike u (j .grid) (j .mesh) i); number = 10 } ∷ record { applies = lengths-alike j u b c l i; number = 5 } ∷ []))
+    record { applies = (edition-right (j .edition) (l .editions .0) ∙ sym (edition-right e (l .editions .1))) i; number = 14 } ∷
+    (meshChecks (j .mesh) ++ record { applies = not (places-alike u (j .grid) (j .mesh) i); number = 10 } ∷ record { applies = lengths-alike j u e b c l i; number = 5 } ∷ []))

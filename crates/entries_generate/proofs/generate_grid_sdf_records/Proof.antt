@@ -76,13 +76,13 @@ module _ {M : Type 1} (𝓤 : URA M) (H : Heap 𝓤) (A : Atoms 𝓤) (W : Given
       goes =
           -- the refusals that change nothing, or the field and the names seeded
           lends-on ! refl refl refl tt tt tt tt $ lends-on ! refl refl refl tt tt tt tt $ copies ! refl (tt, refl) $ copies ! refl (tt, refl) $ copies ! refl (tt, refl) $
-          calls ! 𝓣 to-begin (a-begun W) (λ b zs. Begins (grid .it) mesh (terms .it .sign) (crossings .count) (rows .count) (queue .count) (field .ref .now) (names .ref .now) (zs .0) (zs .1 .0) b) (asking-nothing to-begin (λ n. met .0 (bound-to to-begin n))) refl refl (tt, refl) (λ b zs₁ l₁ begins.
-          knowing ! (subst (λ (X : Type 0). X) (λ i. Begins (grid .it) mesh (terms .it .sign) (crossings .long i) (rows .long i) (queue .long i) (field .ref .now) (names .ref .now) (zs₁ .0) (zs₁ .1 .0) (b .it)) begins) (λ starts.
+          calls ! 𝓣 to-begin (a-begun W) (λ b zs. Begins (grid .it) mesh (terms .it .sign) (terms .it .edition) (crossings .count) (rows .count) (queue .count) (field .ref .now) (names .ref .now) (zs .0) (zs .1 .0) b) (asking-nothing to-begin (λ n. met .0 (bound-to to-begin n))) refl refl (tt, refl) (λ b zs₁ l₁ begins.
+          knowing ! (subst (λ (X : Type 0). X) (λ i. Begins (grid .it) mesh (terms .it .sign) (terms .it .edition) (crossings .long i) (rows .long i) (queue .long i) (field .ref .now) (names .ref .now) (zs₁ .0) (zs₁ .1 .0) (b .it)) begins) (λ starts.
           puts ! (bin ! (opd ! refl) (opd ! refl) tt) tt (tt, tt) $
           returns-if ! (opd ! refl) (λ d. calls-is ! 𝓣 (to-refused b) (an-answer W) (Refused (b .it .refused)) (asking-nothing (to-refused b) (λ n. met .1 (bound-to (to-refused b) n))) refl refl (tt, refl) (λ is _ _.
           returns-at ! Post refl refl tt $
           leaves (zs₁ .0, (zs₁ .1 .0, (crossings .ref .now, (rows .ref .now, (queue .ref .now, tt))))) (l₁ .0, (l₁ .1 .0, (refl, (refl, (refl, tt))))) (record { it = Refused (b .it .refused); is = is })
-          (refused-first (grid .it) mesh (terms .it .sign) (terms .it .limit) (field .ref .now) (names .ref .now) (crossings .ref .now) (rows .ref .now) (queue .ref .now) (zs₁ .0) (zs₁ .1 .0) (b .it) starts (Refused (b .it .refused)) refl (not-zero (b .it .refused) d)))) (λ d.
+          (refused-first (grid .it) mesh (terms .it .sign) (terms .it .limit) (terms .it .edition) (field .ref .now) (names .ref .now) (crossings .ref .now) (rows .ref .now) (queue .ref .now) (zs₁ .0) (zs₁ .1 .0) (b .it) starts (Refused (b .it .refused)) refl (not-zero (b .it .refused) d)))) (λ d.
           -- the row is cleared
           lends-on ! refl refl refl tt tt tt tt $ move ! (0 ∷ 7 ∷ []) $
           calls ! 𝓣 (to-clear queue) (a-unit W) (λ r zs. ClearedRow (queue .ref .now) (zs .0)) (asking-nothing (to-clear queue) (λ n. met .2 (bound-to (to-clear queue) n))) refl refl (tt, refl) (λ _ q₁ lq₁ clear₁. move ! (0 ∷ 2 ∷ 3 ∷ 4 ∷ 5 ∷ 6 ∷ 7 ∷ 1 ∷ []) $
@@ -90,24 +90,24 @@ module _ {M : Type 1} (𝓤 : URA M) (H : Heap 𝓤) (A : Atoms 𝓤) (W : Given
           lends-on ! refl refl refl tt tt tt tt $ lends-on ! refl refl refl tt tt tt tt $ lends-on ! refl refl refl tt tt tt tt $ move ! (0 ∷ 1 ∷ 2 ∷ 3 ∷ 4 ∷ 7 ∷ []) $
           calls ! 𝓣 (to-run (field₁ zs₁ l₁) (names₁ zs₁ l₁) (holding queue (q₁ .0) (lq₁ .0)) b) (a-progress W) (λ r zs. LeavesRow (grid .it) mesh (terms .it .sign) (length (q₁ .0)) (terms .it .limit) (zs .0) (zs .1 .0) (zs .1 .1 .0) r)
           (asking (to-run (field₁ zs₁ l₁) (names₁ zs₁ l₁) (holding queue (q₁ .0) (lq₁ .0)) b) _ (
-            fits (grid .it) mesh (terms .it .sign) (terms .it .limit) (field .ref .now) (names .ref .now) (crossings .ref .now) (rows .ref .now) (queue .ref .now) (zs₁ .0) (zs₁ .1 .0) (b .it) starts (is-zero (b .it .refused) d),
-            seeds (grid .it) mesh (terms .it .sign) (terms .it .limit) (field .ref .now) (names .ref .now) (crossings .ref .now) (rows .ref .now) (queue .ref .now) (zs₁ .0) (zs₁ .1 .0) (b .it) starts (is-zero (b .it .refused) d) (l₁ .0) (l₁ .1 .0) (q₁ .0) (lq₁ .0) clear₁,
+            fits (grid .it) mesh (terms .it .sign) (terms .it .limit) (terms .it .edition) (field .ref .now) (names .ref .now) (crossings .ref .now) (rows .ref .now) (queue .ref .now) (zs₁ .0) (zs₁ .1 .0) (b .it) starts (is-zero (b .it .refused) d),
+            seeds (grid .it) mesh (terms .it .sign) (terms .it .limit) (terms .it .edition) (field .ref .now) (names .ref .now) (crossings .ref .now) (rows .ref .now) (queue .ref .now) (zs₁ .0) (zs₁ .1 .0) (b .it) starts (is-zero (b .it .refused) d) (l₁ .0) (l₁ .1 .0) (q₁ .0) (lq₁ .0) clear₁,
           )
           (λ n. met .3 (bound-to (to-run (field₁ zs₁ l₁) (names₁ zs₁ l₁) (holding queue (q₁ .0) (lq₁ .0)) b) n))) refl refl (tt, refl) (λ ran zs₂ l₂ went. move ! (0 ∷ 1 ∷ 2 ∷ 3 ∷ 4 ∷ 6 ∷ 7 ∷ 5 ∷ []) $
           -- what follows it
           lends-on ! refl refl refl tt tt tt tt $ lends-on ! refl refl refl tt tt tt tt $ lends-on ! refl refl refl tt tt tt tt $ lends-on ! refl refl refl tt tt tt tt $
           calls ! 𝓣 (to-close (holding (field₁ zs₁ l₁) (zs₂ .0) (l₂ .0)) (holding (names₁ zs₁ l₁) (zs₂ .1 .0) (l₂ .1 .0)) ran) (an-answer W)
-          (λ r zs. Closed (grid .it) mesh (terms .it .sign) (ran .it) (zs₂ .0) (zs₂ .1 .0) (crossings .ref .now) (rows .ref .now) (zs .0) (zs .1 .0) (zs .1 .1 .0) (zs .1 .1 .1 .0) r)
+          (λ r zs. Closed (grid .it) mesh (terms .it .sign) (terms .it .edition) (ran .it) (zs₂ .0) (zs₂ .1 .0) (crossings .ref .now) (rows .ref .now) (zs .0) (zs .1 .0) (zs .1 .1 .0) (zs .1 .1 .1 .0) r)
           (asking (to-close (holding (field₁ zs₁ l₁) (zs₂ .0) (l₂ .0)) (holding (names₁ zs₁ l₁) (zs₂ .1 .0) (l₂ .1 .0)) ran) _ (
-            fits (grid .it) mesh (terms .it .sign) (terms .it .limit) (field .ref .now) (names .ref .now) (crossings .ref .now) (rows .ref .now) (queue .ref .now) (zs₁ .0) (zs₁ .1 .0) (b .it) starts (is-zero (b .it .refused) d),
-            field-long (grid .it) mesh (terms .it .sign) (terms .it .limit) (field .ref .now) (names .ref .now) (crossings .ref .now) (rows .ref .now) (queue .ref .now) (zs₁ .0) (zs₁ .1 .0) (b .it) starts (is-zero (b .it .refused) d) (l₁ .0) (l₁ .1 .0) (q₁ .0) (lq₁ .0) clear₁ (zs₂ .0) (zs₂ .1 .0) (zs₂ .1 .1 .0) (ran .it) (l₂ .0) (l₂ .1 .0) (l₂ .1 .1 .0) went,
-            is-long (grid .it) mesh (terms .it .sign) (terms .it .limit) (field .ref .now) (names .ref .now) (crossings .ref .now) (rows .ref .now) (queue .ref .now) (zs₁ .0) (zs₁ .1 .0) (b .it) starts (is-zero (b .it .refused) d),
+            fits (grid .it) mesh (terms .it .sign) (terms .it .limit) (terms .it .edition) (field .ref .now) (names .ref .now) (crossings .ref .now) (rows .ref .now) (queue .ref .now) (zs₁ .0) (zs₁ .1 .0) (b .it) starts (is-zero (b .it .refused) d),
+            field-long (grid .it) mesh (terms .it .sign) (terms .it .limit) (terms .it .edition) (field .ref .now) (names .ref .now) (crossings .ref .now) (rows .ref .now) (queue .ref .now) (zs₁ .0) (zs₁ .1 .0) (b .it) starts (is-zero (b .it .refused) d) (l₁ .0) (l₁ .1 .0) (q₁ .0) (lq₁ .0) clear₁ (zs₂ .0) (zs₂ .1 .0) (zs₂ .1 .1 .0) (ran .it) (l₂ .0) (l₂ .1 .0) (l₂ .1 .1 .0) went,
+            is-long (grid .it) mesh (terms .it .sign) (terms .it .limit) (terms .it .edition) (field .ref .now) (names .ref .now) (crossings .ref .now) (rows .ref .now) (queue .ref .now) (zs₁ .0) (zs₁ .1 .0) (b .it) starts (is-zero (b .it .refused) d),
           )
           (λ n. met .4 (bound-to (to-close (holding (field₁ zs₁ l₁) (zs₂ .0) (l₂ .0)) (holding (names₁ zs₁ l₁) (zs₂ .1 .0) (l₂ .1 .0)) ran) n))) refl refl (tt, refl) (λ answer zs₃ l₃ closed.
           puts ! (bin ! (opd ! refl) (opd ! refl) tt) tt (tt, tt) $
           returns-if ! (opd ! refl) (λ e. copies ! refl (tt, refl) $ returns-at ! Post refl refl tt $
           leaves (zs₃ .0, (zs₃ .1 .0, (zs₃ .1 .1 .0, (zs₃ .1 .1 .1 .0, (zs₂ .1 .1 .0, tt))))) (l₃ .0 ∙ l₂ .0 ∙ l₁ .0, (l₃ .1 .0 ∙ l₂ .1 .0 ∙ l₁ .1 .0, (l₃ .1 .1 .0, (l₃ .1 .1 .1 .0, (l₂ .1 .1 .0 ∙ lq₁ .0, tt))))) answer
-          (done-with (grid .it) mesh (terms .it .sign) (terms .it .limit) (field .ref .now) (names .ref .now) (crossings .ref .now) (rows .ref .now) (queue .ref .now) (zs₁ .0) (zs₁ .1 .0) (b .it) starts (is-zero (b .it .refused) d) (l₁ .0) (l₁ .1 .0) (q₁ .0) (lq₁ .0) clear₁ (zs₂ .0) (zs₂ .1 .0) (zs₂ .1 .1 .0) (ran .it) (l₂ .0) (l₂ .1 .0) (l₂ .1 .1 .0) went
+          (done-with (grid .it) mesh (terms .it .sign) (terms .it .limit) (terms .it .edition) (field .ref .now) (names .ref .now) (crossings .ref .now) (rows .ref .now) (queue .ref .now) (zs₁ .0) (zs₁ .1 .0) (b .it) starts (is-zero (b .it .refused) d) (l₁ .0) (l₁ .1 .0) (q₁ .0) (lq₁ .0) clear₁ (zs₂ .0) (zs₂ .1 .0) (zs₂ .1 .1 .0) (ran .it) (l₂ .0) (l₂ .1 .0) (l₂ .1 .1 .0) went
           (zs₃ .0) (zs₃ .1 .0) (zs₃ .1 .1 .0) (zs₃ .1 .1 .1 .0) (answer .it) closed (eqb→eq (ran .it .number) 0 e))) (λ e.
           -- the run was refused: the row is cleared again
           lends-on ! refl refl refl tt tt tt tt $ move ! (0 ∷ 7 ∷ []) $
@@ -115,7 +115,7 @@ module _ {M : Type 1} (𝓤 : URA M) (H : Heap 𝓤) (A : Atoms 𝓤) (W : Given
           (asking-nothing (to-clear (holding (holding queue (q₁ .0) (lq₁ .0)) (zs₂ .1 .1 .0) (l₂ .1 .1 .0))) (λ n. met .2 (bound-to (to-clear (holding (holding queue (q₁ .0) (lq₁ .0)) (zs₂ .1 .1 .0) (l₂ .1 .1 .0))) n))) refl refl (tt, refl) (λ _ q₃ lq₃ clear₃.
           move ! (0 ∷ 2 ∷ 3 ∷ 4 ∷ 5 ∷ 6 ∷ 7 ∷ 1 ∷ []) $ copies ! refl (tt, refl) $ returns-at ! Post refl refl tt $
           leaves (zs₃ .0, (zs₃ .1 .0, (zs₃ .1 .1 .0, (zs₃ .1 .1 .1 .0, (q₃ .0, tt))))) (l₃ .0 ∙ l₂ .0 ∙ l₁ .0, (l₃ .1 .0 ∙ l₂ .1 .0 ∙ l₁ .1 .0, (l₃ .1 .1 .0, (l₃ .1 .1 .1 .0, (lq₃ .0 ∙ l₂ .1 .1 .0 ∙ lq₁ .0, tt))))) answer
-          (cleared-after (grid .it) mesh (terms .it .sign) (terms .it .limit) (field .ref .now) (names .ref .now) (crossings .ref .now) (rows .ref .now) (queue .ref .now) (zs₁ .0) (zs₁ .1 .0) (b .it) starts (is-zero (b .it .refused) d) (l₁ .0) (l₁ .1 .0) (q₁ .0) (lq₁ .0) clear₁ (zs₂ .0) (zs₂ .1 .0) (zs₂ .1 .1 .0) (ran .it) (l₂ .0) (l₂ .1 .0) (l₂ .1 .1 .0) went
+          (cleared-after (grid .it) mesh (terms .it .sign) (terms .it .limit) (terms .it .edition) (field .ref .now) (names .ref .now) (crossings .ref .now) (rows .ref .now) (queue .ref .now) (zs₁ .0) (zs₁ .1 .0) (b .it) starts (is-zero (b .it .refused) d) (l₁ .0) (l₁ .1 .0) (q₁ .0) (lq₁ .0) clear₁ (zs₂ .0) (zs₂ .1 .0) (zs₂ .1 .1 .0) (ran .it) (l₂ .0) (l₂ .1 .0) (l₂ .1 .1 .0) went
           (zs₃ .0) (zs₃ .1 .0) (zs₃ .1 .1 .0) (zs₃ .1 .1 .1 .0) (answer .it) closed (not-zero (ran .it .number) e) (q₃ .0) clear₃)))))))))
         where
           -- the field and the names that were seeded

@@ -32,7 +32,7 @@ cleared-job-requires c κs =
     let cleared : tie.After-clear-all = search in
     let s = entry cleared in
     let mesh = meshOf (s .args .vertices .now) (s .args .topology) (s .args .given) (s .args .indices .now) in (
-      accepted (s .args .grid) mesh (lengthsOf (lent s)) (s .pre) .fit,
+      accepted (s .args .grid) (s .args .terms .edition) mesh (lengthsOf (lent s)) (s .pre) .fit,
       (fresh (job s) (lent s) (s .pre) (cleared .clear-all .ensures), long (job s) (lent s) (s .pre) (cleared .clear-all .ensures)),
     )
 

@@ -23,7 +23,7 @@ abbrev mesh : tie.Start → Mesh
 mesh s = meshOf (s .args .vertices .now) (s .args .topology) (s .args .given) (s .args .indices .now)
 
 returns : tie.Need-returns
-returns c = begins-refused _ _ _ _ _ _ _ _ _ (c .before .first-refusal .ensures) (c .if1 .taken)
+returns c = begins-refused _ _ _ _ _ _ _ _ _ _ (c .before .first-refusal .ensures) (c .if1 .taken)
 
 seed-requires : tie.Need-seed-requires
 seed-requires c κs =
@@ -33,9 +33,9 @@ seed-requires c κs =
     let m = mesh (entry e) in
     let a = entry e .args in
     let checks = e .before .first-refusal .ensures in
-    let fit = begins-fit (a .grid) m (a .terms .sign) (a .crossings) (a .rows) (a .room) (a .field .now) (a .names .now) _ checks (e .if1 .left) .fit in
+    let fit = begins-fit (a .grid) m (a .terms .sign) (a .terms .edition) (a .crossings) (a .rows) (a .room) (a .field .now) (a .names .now) _ checks (e .if1 .left) .fit in
     let long =
-    bare-long (a .grid) m (a .terms .sign) (a .crossings) (a .rows) (a .room) (a .field .now) (a .names .now) _ checks (e .if1 .left)
+    bare-long (a .grid) m (a .terms .sign) (a .terms .edition) (a .crossings) (a .rows) (a .room) (a .field .now) (a .names .now) _ checks (e .if1 .left)
     (f .fill-field .ensures) (n .fill-numbers .ensures) in
     (fit .ready .bounded, (long, (fit .ready .sound, omega (arith, fit .few))))
 
@@ -46,7 +46,7 @@ returns-2 c =
     let f = field n in
     let e = passed f in
     let checks = e .before .first-refusal .ensures in
-    begins-seeded _ (mesh (entry e)) _ _ _ _ _ _ _ checks (e .if1 .left) (f .fill-field .ensures) (n .fill-numbers .ensures) _ (d .seed .ensures)
+    begins-seeded _ (mesh (entry e)) _ _ _ _ _ _ _ _ checks (e .if1 .left) (f .fill-field .ensures) (n .fill-numbers .ensures) _ (d .seed .ensures)
 
 pub begin-spec : {M : Type 1} → statement M
 begin-spec =

@@ -16,7 +16,7 @@ returns c =
     let signed : tie.After-sign-field = search in
     let r : tie.After-count-rows = search in
     let e = signed .sign-field .ensures in (
-      record { crossings = e .1; field = e .0; rows = r .count-rows .ensures ∙ ap (λ (l : List Float). Signs.rows (s .args .grid) l) (e .0) },
+      record { crossings = e .1; field = e .0; rows = r .count-rows .ensures ∙ ap (λ (l : List Float). Signs.rows (s .args .terms .edition) (s .args .grid) l) (e .0) },
       e .2,
     )
 

@@ -24,7 +24,7 @@ returns c =
     let closed : tie.After-close = search in
     let s = entry closed in
     let a = s .args in
-    gives-refused (a .grid) (mesh s) (a .terms .sign) (a .terms .limit) (a .field .now) (a .names .now) (a .crossings .now) (a .rows .now)
+    gives-refused (a .grid) (mesh s) (a .terms .sign) (a .terms .limit) (a .terms .edition) (a .field .now) (a .names .now) (a .crossings .now) (a .rows .now)
     (a .distances .now) (a .cells .now) (a .triangles .now) (a .ran) (closed .close .ensures) (refused .if1 .taken) (cleared .clear .ensures)
 
 returns-2 : tie.Need-returns-2
@@ -32,7 +32,7 @@ returns-2 c =
     let closed : tie.After-close = search in
     let s = entry closed in
     let a = s .args in
-    gives-done (a .grid) (mesh s) (a .terms .sign) (a .terms .limit) (a .field .now) (a .names .now) (a .crossings .now) (a .rows .now)
+    gives-done (a .grid) (mesh s) (a .terms .sign) (a .terms .limit) (a .terms .edition) (a .field .now) (a .names .now) (a .crossings .now) (a .rows .now)
     (a .distances .now) (a .cells .now) (a .triangles .now) (a .ran) (closed .close .ensures) (c .if1 .left) (s .pre .1 .0)
 
 pub conclude-spec : {M : Type 1} → statement M

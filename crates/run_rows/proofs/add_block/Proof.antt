@@ -18,11 +18,11 @@ column-long start size rows {step} e h = go (rw e at h)
     go : start + length rows * 1 ≤ size → start + length rows ≤ size
     go h = omega arith
 
-column-room : (rows : List ℕ) {step : ℕ} → step ≡ 1 → Room step rows → Room 1 rows
+column-room : (rows : List ℕ) {step : ℕ} → step ≡ 1 → Room (2 * step) rows → Room 2 rows
 column-room rows e h = rw e at h
 
-as-block : (field : List Float) (start : ℕ) (old new : List ℕ) {step : ℕ} → step ≡ 1 → BlockAdded field start 1 old new → BlockAdded field start step old new
-as-block field start old new e h = subst (λ (k : ℕ). BlockAdded field start k old new) (sym e) h
+as-block : {w : Float → ℕ} (field : List Float) (start : ℕ) (old new : List ℕ) {step : ℕ} → step ≡ 1 → BlockAdded w field start 1 old new → BlockAdded w field start step old new
+as-block {w} field start old new e h = subst (λ (k : ℕ). BlockAdded w field start k old new) (sym e) h
 
 add-column-requires : tie.Need-add-column-requires
 add-column-requires c κs =
@@ -35,7 +35,7 @@ returns c =
     let s : tie.Start = search in
     let column : tie.Then1 = search in
     let added : tie.After-add-column = search in
-    as-block (s .args .field .now) (s .args .start) (s .args .rows .now) (added .add-column .last .1 .1 .0) (column .if1 .taken) (added .add-column .ensures)
+    as-block (s .args .field .now) (s .args .start) (s .args .rows .now) (added .add-column .last .1 .1 .1 .0) (column .if1 .taken) (added .add-column .ensures)
 
 pub add-block-spec : {M : Type 1} → statement M
 add-block-spec =

@@ -5,15 +5,16 @@ use mathlib.Core.Path.{_≡_, refl, ap, _∙_}
 use lib.ListN.{length, getD}
 use Rattle.lists.specs.Table.{Filled}
 use Rattle.lists.proofs.Table.{filled-none, filled-more}
+use Rattle.run.specs.Signs.{rowWeight}
 use Rattle.run_rows.proofs.Blocks.{more, run-few, run-within}
 use Rattle.run_rows.proofs.add_runs.Statement.{statement}
 use Rattle.run_rows.proofs.add_runs.Tie as tie
 
 abbrev Inv-loop : tie.InvT-loop
-Inv-loop field start step rows₀ n₀ rows n = (n ≤ length rows₀) × (length rows ≡ length rows₀) × Filled 0 (more field start step rows₀) rows₀ n rows
+Inv-loop edition field start step rows₀ n₀ rows n = (n ≤ length rows₀) × (length rows ≡ length rows₀) × Filled 0 (more (rowWeight edition) field start step rows₀) rows₀ n rows
 
 abbrev μ-loop : tie.MeasureT-loop
-μ-loop field start step rows₀ n₀ rows n = length rows₀ - n
+μ-loop edition field start step rows₀ n₀ rows n = length rows₀ - n
 
 -- the function's entry, from the loop's head; the loop's head, from behind the call that counts a run
 abbrev entry : tie.At-loop Inv-loop μ-loop → tie.Start Inv-loop μ-loop
@@ -24,7 +25,7 @@ head c = c .before .before
 
 -- what each row is to hold, and what is stored in this turn
 abbrev rows-then : tie.At-loop Inv-loop μ-loop → ℕ → ℕ
-rows-then l = let a = entry l .args in more (a .field .now) (a .start) (a .step) (a .rows .now)
+rows-then l = let a = entry l .args in more (rowWeight (a .edition)) (a .field .now) (a .start) (a .step) (a .rows .now)
 
 stored : (c : tie.After-count-run Inv-loop μ-loop) → let l = head c in getD (l .loop .rows) (l .loop .n) 0 + c .count-run .result ≡ rows-then l (l .loop .n)
 stored c =
@@ -41,7 +42,7 @@ within c =
 loop-holds : tie.Need-loop-holds Inv-loop μ-loop
 loop-holds c =
     let s : tie.Start Inv-loop μ-loop = search in
-    (omega arith, refl, filled-none 0 (more (s .args .field .now) (s .args .start) (s .args .step) (s .args .rows .now)) (s .args .rows .now))
+    (omega arith, refl, filled-none 0 (more (rowWeight (s .args .edition)) (s .args .field .now) (s .args .start) (s .args .step) (s .args .rows .now)) (s .args .rows .now))
 
 mul-count-run : tie.Need-mul-count-run Inv-loop μ-loop
 mul-count-run c = let turn : tie.In-loop Inv-loop μ-loop = search in record { fits = omega (arith, within turn) }
@@ -61,7 +62,7 @@ add-rows c =
     let l = head told in
     let s = entry l in
     let n = l .loop .n in
-    omega (arith, stored told, run-few (s .args .field .now) (s .args .start + n * s .args .step) (s .args .step), s .pre .1 n)
+    omega (arith, stored told, run-few (s .args .edition) (s .args .field .now) (s .args .start + n * s .args .step) (s .args .step), s .pre .1 n)
 
 loop-again : tie.Need-loop-again Inv-loop μ-loop
 loop-again c =

@@ -10,6 +10,7 @@ use Rattle.grid.specs.declared.Grid.{Grid}
 use Rattle.grid.specs.Index.{total, strideOn}
 use Rattle.grid.specs.Layers.{uprightOf, layers}
 use Rattle.grid.proofs.Facts.{bounds-of, on-axis, stride-pos}
+use Rattle.run.specs.Signs.{rowWeight}
 use Rattle.run_rows.proofs.Blocks.{Rowed, rowed-none, rowed-more, rowed-room, rowed-all, blocksOn, total-blocks, some-blocks, whole-block}
 use Rattle.run_rows.proofs.count_rows.Statement.{statement}
 use Rattle.run_rows.proofs.count_rows.Tie as tie
@@ -19,10 +20,10 @@ le-mul : (h s : ℕ) → 0 < h → s ≤ h * s
 le-mul h s w = let more : 1 ≤ h = w in omega (arith, mul-le-mul-right s more)
 
 abbrev Inv-loop : tie.InvT-loop
-Inv-loop field rows₀ step block start₀ rows start = (start ≤ length field) × Rowed (length rows₀) step field start rows
+Inv-loop edition field rows₀ step block start₀ rows start = (start ≤ length field) × Rowed (rowWeight edition) (length rows₀) step field start rows
 
 abbrev μ-loop : tie.MeasureT-loop
-μ-loop field rows₀ step block start₀ rows start = length field - start
+μ-loop edition field rows₀ step block start₀ rows start = length field - start
 
 -- the function's entry, from where the loop begins; the rows when they are filled, the layers and the cells of a layer in a block
 abbrev entry : tie.After-stride-on Inv-loop μ-loop → tie.Start Inv-loop μ-loop
@@ -80,7 +81,7 @@ loop-holds : tie.Need-loop-holds Inv-loop μ-loop
 loop-holds c =
     let s = entry c in
     let filled = c .before .before .before .before .fill-numbers in
-    (omega arith, rowed-none (height c) (step c) (s .args .field .now) (zeros c) (filled .ensures ∙ ap (λ (n : ℕ). replicate n 0) (s .pre .1 .1 ∙ sym (tall c))))
+    (omega arith, rowed-none (rowWeight (s .args .edition)) (height c) (step c) (s .args .field .now) (zeros c) (filled .ensures ∙ ap (λ (n : ℕ). replicate n 0) (s .pre .1 .1 ∙ sym (tall c))))
 
 add-block-requires : tie.Need-add-block-requires Inv-loop μ-loop
 add-block-requires c κs =
@@ -90,7 +91,7 @@ add-block-requires c κs =
     let long = l .inv .1 .long in
     let cells : step begin ≤ height begin * step begin = le-mul (height begin) (step begin) (some begin .0) in (
       rw long (within turn),
-      rowed-room (height begin) (step begin) (entry begin .args .field .now) (l .start) (l .rows) (omega (arith, within turn, few begin)) (l .inv .1),
+      rowed-room (entry begin .args .edition) (height begin) (step begin) (entry begin .args .field .now) (l .start) (l .rows) (omega (arith, within turn, few begin)) (l .inv .1),
     )
 
 -- a block has cells
@@ -106,7 +107,7 @@ loop-again c =
     let turn : tie.In-loop Inv-loop μ-loop = search in
     let l = turn .before .loop in
     let begin = turn .before .before in
-    (within turn, rowed-more (height begin) (step begin) (entry begin .args .field .now) (l .start) (l .inv .1) (added .add-block .ensures))
+    (within turn, rowed-more (rowWeight (entry begin .args .edition)) (height begin) (step begin) (entry begin .args .field .now) (l .start) (l .inv .1) (added .add-block .ensures))
 
 same-length : tie.Need-same-length Inv-loop μ-loop
 same-length c = let begin = c .before .before in c .before .loop .inv .1 .long ∙ tall begin ∙ sym (entry begin .pre .1 .1)
@@ -116,7 +117,7 @@ returns c =
     let l = c .before .loop in
     let begin = c .before .before in
     let all : l .start ≡ total (grid begin) = omega (arith, entry begin .pre .1 .0) in
-    rowed-all (grid begin) (entry begin .args .field .now) (l .rows) (tall begin) (stepped begin) all (l .inv .1)
+    rowed-all (entry begin .args .edition) (grid begin) (entry begin .args .field .now) (l .rows) (tall begin) (stepped begin) all (l .inv .1)
 
 pub count-rows-spec : {M : Type 1} → statement M
 count-rows-spec =

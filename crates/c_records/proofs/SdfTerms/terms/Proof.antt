@@ -1,4 +1,4 @@
--- `SdfTerms::terms`: the limit as it is, pass and sign by their numbers. Assumes nothing.
+-- `SdfTerms::terms`: limit and edition as they are, pass and sign by their numbers. Assumes nothing.
 use Rattle.c_records.proofs.SdfTerms.terms.Statement.{statement}
 use Rattle.c_records.proofs.SdfTerms.terms.Tie as tie
 
