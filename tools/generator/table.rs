@@ -1,7 +1,7 @@
 //! Jobs that say the edition of the layer table (document 02, §11): in edition 2 a cell at distance zero counts half, and nothing but the rows looks at
 //! it. The line is `table=1` or `table=2`, or there is none, which is edition 1; the kinds take these in turn, edition 2 three times of five, and with
 //! them what they say of the upright axis. Many have floors and walls on layers of centres, whose cells are at −0 within a hull and at +0 outside.
-//! Beside these stand jobs of editions that there are none of, the kinds of the other sets with such a line, and texts whose line is spoiled. A kind
+//! Beside these stand jobs whose number is no edition, the kinds of the other sets with such a line, and texts whose line is spoiled. A kind
 //! that has ways takes them in turn.
 
 use crate::inside::{ends, hull_in, plane_in, plate};
@@ -67,7 +67,7 @@ pub const OFF_GRID: [&str; 4] = ["table-refused", "table-off-grid", "table-uprig
 
 /// What is said of the edition.
 const EDITIONS: [Option<u32>; 5] = [Some(2), None, Some(2), Some(1), Some(2)];
-/// Editions that there are none of: next to the two, and such as have them for their first digit, or for their lowest bits.
+/// Numbers that are no edition: next to the two, and such as have them for their first digit, or for their lowest bits.
 pub const NO_EDITIONS: [u32; 16] =
     [0, 3, u32::MAX, 257, 65_538, 1 << 31, 21, 12, 4, 258, 65_537, (1 << 31) + 1, 20, 10, (1 << 31) + 2, 22];
 /// What the tidier and the converter are told: an edition, or a number that is none.
@@ -197,7 +197,7 @@ fn normal_zeros(r: &mut Random) -> Job {
 
 // What is refused.
 
-/// Editions that there are none of, with what would be done, and with what is refused by 9 or 1 before.
+/// Numbers that are no edition, with what would be done, and with what is refused by 9 or 1 before.
 fn no_edition(r: &mut Random) -> Job {
     let make = find(r.turn(&["floor-inside", "document-01", "strip-box", "count-zero", "soup", "beyond-limits", "deck-flat"]));
     Job { edition: Some(r.turn(&NO_EDITIONS)), ..make(r) }
