@@ -26,7 +26,7 @@ use Rattle.text.specs.Words.{space, decimal, decimalLong, hex8, spaced, line}
 use Rattle.lists.specs.Joined.{joined}
 use Rattle.float_bits.specs.Patterns.{floatsOf}
 use Rattle.text.specs.Answering.{answerLine}
-use Rattle.text.specs.TextJob.{TextJob, Readable, jobText, uprightMeant, indexList, givenOf, flat}
+use Rattle.text.specs.TextJob.{TextJob, Readable, jobText, uprightMeant, tableMeant, indexList, givenOf, flat}
 
 -- ---- the job that a text asks for
 
@@ -44,13 +44,20 @@ gridOf h =
       upright = uprightMeant (h .upright);
     }
 
--- a text says the pop limit and the method of the signs, and no pass, which the program picks
+-- a text says the pop limit, the method of the signs and the edition of the layer table, and no pass, which the program picks
 abbrev pub termsOf : Head → Tail → Pass → Terms
-termsOf h t pass = record { limit = t .limit; pass = pass; sign = h .sign }
+termsOf h t pass = record { limit = t .limit; pass = pass; sign = h .sign; edition = tableMeant (t .table) }
 
 -- by the parts of a text, with the floats of its coordinates
 abbrev pub jobBy : Head → List Float → Indices → List ℕ → Tail → Job
-jobBy h vertices given indices t = record { grid = gridOf h; mesh = meshOf vertices (h .topology) given indices; sign = h .sign; limit = t .limit }
+jobBy h vertices given indices t =
+    record {
+      grid = gridOf h;
+      mesh = meshOf vertices (h .topology) given indices;
+      sign = h .sign;
+      limit = t .limit;
+      edition = tableMeant (t .table);
+    }
 
 abbrev pub askedJob : TextJob → Job
 askedJob j = jobBy (j .head) (floatsOf (flat (j .vertices))) (givenOf (j .indices)) (indexList (j .indices)) (j .tail)

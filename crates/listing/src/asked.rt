@@ -6,6 +6,7 @@ use terms::Pass;
 use terms::Terms;
 use text::Head;
 use text::MOST_CELLS;
+use text::Table;
 use text::Tail;
 use text::Three;
 use text::Upright;
@@ -13,7 +14,7 @@ ghost use Prim.Native.Nat.{_≤_};
 ghost use mathlib.Core.Path.{_≡_};
 ghost use Rattle.grid.specs.Layers.{layers};
 ghost use Rattle.text.specs.Limits.{mostCells};
-ghost use Rattle.text.specs.TextJob.{uprightMeant, cellsOf};
+ghost use Rattle.text.specs.TextJob.{uprightMeant, tableMeant, cellsOf};
 ghost use Rattle.listing.specs.Listing.{pointOf, gridOf, termsOf};
 
 fn point_of(t: Three) -> Point
@@ -85,13 +86,26 @@ pub fn rows_of(head: Head) -> usize
     layers_of(n)
 }
 
+// The edition of the layer table, which is 1 where nothing is said.
+fn edition_of(said: Table) -> u32
+    ensures { λ r. ⌜ r ≡ tableMeant said ⌝ }
+{
+    match said {
+        Table::Unsaid => 1,
+        Table::Said(edition) => edition,
+    }
+}
+
 pub fn terms_of(head: Head, tail: Tail, pass: Pass) -> Terms
     ensures { λ r. ⌜ r ≡ termsOf head tail pass ⌝ }
 {
     let sign = head.sign;
+    let said = tail.table;
+    let edition = edition_of(said);
     Terms {
         limit: tail.limit,
         pass,
         sign,
+        edition,
     }
 }

@@ -12,7 +12,7 @@ fn room() -> [u8; LISTING_ROOM]
 }
 
 fn main() {
-    // The longest text of a job has 37,482 bytes: one that fills the buffer is none.
+    // The longest text of a job has 37,499 bytes: one that fills the buffer is none.
     let mut text = io::large_buffer();
     let n = io::read_full(0, &mut text);
     let mut out = room();

@@ -18,6 +18,8 @@ use Rattle.text.specs.declared.Three.{Three}
 use Rattle.text.specs.declared.Upright.{Upright}
 use Rattle.text.specs.declared.Upright.the-variants.{Unsaid, X, Y, Z}
 use Rattle.text.specs.declared.Head.{Head}
+use Rattle.text.specs.declared.Table.{Table}
+use Rattle.text.specs.declared.Table.the-variants as Table
 use Rattle.text.specs.declared.Tail.{Tail}
 use Rattle.text.specs.Words.{bytes, space, lf, decimal, hex8, spaced, line, lines}
 use Rattle.text.specs.Limits.{mostVertices, mostIndices, mostCells, mostEntries, indexRoom}
@@ -36,8 +38,10 @@ use Rattle.text.specs.TextJob.{
   verticesText,
   indexLine,
   indicesText,
+  tableText,
   tailText,
   jobText,
+  tableMeant,
   Word,
   Words,
   All,
@@ -46,6 +50,7 @@ use Rattle.text.specs.TextJob.{
   HeadFits,
   VerticesFit,
   IndicesFit,
+  TableFits,
   TailFits,
   Readable,
 }
@@ -54,6 +59,7 @@ use Rattle.text.specs.Reader.{
   took,
   nothing,
   follow,
+  kept,
   orTry,
   wordAt,
   oneOf,
@@ -70,6 +76,8 @@ use Rattle.text.specs.Reader.{
   topologyLine,
   normalLine,
   signAt,
+  tableLine,
+  tableAt,
   linesAt,
   head,
   headAt,
@@ -88,7 +96,6 @@ use Rattle.text.proofs.Formats.{
   ReadsBefore,
   ReadsLast,
   reshaped,
-  narrowed,
   kept-reads,
   chain-before,
   chain,
@@ -96,6 +103,7 @@ use Rattle.text.proofs.Formats.{
   either-reads,
   option-reads,
   option-then,
+  option-last,
   whole-sound,
   whole-complete,
   keyed-reads,
@@ -193,6 +201,47 @@ sign-line = reshaped (option-reads Raycast (one-reads signText (Normal ∷ []) r
     one : (m : SignMethod) → List·Memᴰ m (Normal ∷ []) ⊎ (m ≡ Raycast)
     one Normal = inl (List·Memᴰ·head refl)
     one Raycast = inr refl
+
+-- where the edition is said
+abbrev Saying : Table → Type 0
+Saying Table.Unsaid = ⊥
+Saying (Table.Said n) = Word n
+
+table-line : Reads Saying tableText tableLine
+unfolding tableLine
+table-line =
+    reshaped
+    (chain tableMeant _ (number-line "table=" 4294967295 (omega arith)) few
+    (λ n i. finished (Table.Said n) (omega arith, refl) (λ t h. same t n (h .0) (h .1))))
+    (λ t h. h)
+    (λ t h. h)
+    text
+  where
+    few : (t : Table) → Saying t → tableMeant t ≤ 4294967295
+    few Table.Unsaid h = absurd h
+    few (Table.Said n) h = omega arith
+
+    same : (t : Table) (n : ℕ) → Saying t → tableMeant t ≡ n → t ≡ Table.Said n
+    same Table.Unsaid n h e = absurd h
+    same (Table.Said m) n h e = ap Table.Said e
+
+    text : (t : Table) → Saying t → line "table=" (decimal (tableMeant t)) ++ [] ≡ tableText t
+    text Table.Unsaid h = absurd h
+    text (Table.Said n) h = append-nil _
+
+-- the last line of a text, which may be left out
+table-read : ReadsLast TableFits tableText tableAt
+unfolding tableLine numberLine wordAt kept follow
+table-read = reshaped (option-last Table.Unsaid table-line refl refl) fits said (λ t h. refl)
+  where
+    fits : (t : Table) → Saying t ⊎ (t ≡ Table.Unsaid) → TableFits t
+    fits Table.Unsaid h = tt
+    fits (Table.Said n) (inl h) = h
+    fits (Table.Said n) (inr e) = absurd (let z : _≡_ {A = ℕ} 0 1 = cc in omega arith)
+
+    said : (t : Table) → TableFits t → Saying t ⊎ (t ≡ Table.Unsaid)
+    said Table.Unsaid h = inr refl
+    said (Table.Said n) h = inl h
 
 -- ---- the parts of a job
 
@@ -319,19 +368,25 @@ head-read =
     (λ h i. i)
     (λ h i. simp (append-assoc, append-nil))
 
-tail-read : Reads TailFits tailText tailAt
+-- the last line of the tail may be left out, and is read before the end of the text
+tail-read : ReadsLast TailFits tailText tailAt
 unfolding tailAt tailText
 tail-read =
     reshaped
-    (chain {g = λ t. line "pops=" (decimal (t .limit)) ++ []} (λ (t : Tail). t .room) _ (number-line "queue=" mostEntries (omega arith))
+    (chain {g = λ t. line "pops=" (decimal (t .limit)) ++ (tableText (t .table) ++ [])} (λ (t : Tail). t .room) _
+    (number-line "queue=" mostEntries (omega arith))
     (λ t i. i .room-few)
     (λ room ir.
-    chain (λ (t : Tail). t .limit) _ (number-line "pops=" 4294967295 (omega arith)) (λ t i. let w = i .0 .limit-fits in omega arith)
+    chain {g = λ t. tableText (t .table) ++ []} (λ (t : Tail). t .limit) _ (number-line "pops=" 4294967295 (omega arith))
+    (λ t i. let w = i .0 .limit-fits in omega arith)
     (λ limit il.
-    finished (tail room limit) ((record { room-few = ir; limit-fits = omega arith }, refl), refl) (λ t i. rw (← i .0 .1, ← i .1)))))
+    chain-before (λ (t : Tail). t .table) _ table-read (λ t r i b. b) (λ t i. i .0 .0 .table-fits)
+    (λ table it.
+    finished (tail room limit table) (((record { room-few = ir; limit-fits = omega arith; table-fits = it }, refl), refl), refl)
+    (λ t i. rw (← i .0 .0 .1, ← i .0 .1, ← i .1))))))
     (λ t i. i)
     (λ t i. i)
-    (λ t i. simp append-nil)
+    (λ t i. simp (append-assoc, append-nil))
 
 -- ---- the whole
 
@@ -340,7 +395,8 @@ before-vertices : (vs : List Three) (others r : List ℕ) → NoSign ((verticesT
 unfolding normalLine oneOf wordAt follow orTry verticesText line
 before-vertices vs others r = refl
 
-pub job-reads : Reads Readable jobText jobAt
+-- where the text ends
+job-reads : ReadsLast Readable jobText jobAt
 unfolding jobAt jobText
 job-reads =
     reshaped
@@ -354,7 +410,7 @@ job-reads =
     chain {g = λ j. tailText (j .tail) ++ []} (λ (j : TextJob). j .indices) _ (indices-read (h .topology))
     (λ j i. subst (λ (k : Head). IndicesFit (k .topology) (j .indices)) (i .0 .1) (i .0 .0 .indices-fit))
     (λ is ii.
-    chain (λ (j : TextJob). j .tail) _ tail-read (λ j i. i .0 .0 .0 .tail-fits)
+    chain-before (λ (j : TextJob). j .tail) _ tail-read (λ j r i b. b) (λ j i. i .0 .0 .0 .tail-fits)
     (λ t it.
     finished (assembled h vs is t)
     ((((record { head-fits = ih; vertices-fit = iv; indices-fit = ii; tail-fits = it }, refl), refl), refl), refl)
@@ -363,17 +419,14 @@ job-reads =
     (λ j i. i)
     (λ j i. simp (append-assoc, append-nil))
 
-last : ReadsLast Readable jobText jobAt
-last = narrowed job-reads (λ r e. tt)
-
 -- what is taken whole is the text of a job within the limits
 pub whole-taken : (s : List ℕ) (j : TextJob) (r : List ℕ) → wholeJob s ≡ took j r → Readable j × (s ≡ jobText j)
 unfolding wholeJob
-whole-taken = whole-sound last
+whole-taken = whole-sound job-reads
 
 pub whole-takes : (j : TextJob) → Readable j → wholeJob (jobText j) ≡ took j []
 unfolding wholeJob
-whole-takes = whole-complete last
+whole-takes = whole-complete job-reads
 
 -- what is refused is the text of no such job
 pub whole-refused : (s : List ℕ) → wholeJob s ≡ nothing → (j : TextJob) → Readable j → s ≡ jobText j → ⊥

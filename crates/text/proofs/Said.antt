@@ -1,5 +1,6 @@
 -- What is said of the upright axis is one line of a text, directly behind that of the cell size: jobs that differ in it alone have texts that
--- differ in that line alone, and are readable together. No line means what `upright=z` means. By the definitions. Assumes nothing.
+-- differ in that line alone, and are readable together. No line means what `upright=z` means. What is said of the table's edition is one line
+-- likewise, the last one: no line means what `table=1` means. By the definitions. Assumes nothing.
 use mathlib.Core.Path.{_≡_, refl}
 use mathlib.Core.List.{List, _++_, append-assoc}
 use Prim.Native.Nat.{ℕ}
@@ -8,7 +9,9 @@ use Rattle.terms.specs.declared.SignMethod.{SignMethod}
 use Rattle.text.specs.declared.Head.{Head}
 use Rattle.text.specs.declared.Upright.{Upright}
 use Rattle.text.specs.declared.Upright.the-variants.{Unsaid, Z}
-use Rattle.text.specs.Words.{line}
+use Rattle.text.specs.declared.Table.{Table}
+use Rattle.text.specs.declared.Table.the-variants as Table
+use Rattle.text.specs.Words.{line, decimal}
 use Rattle.text.specs.TextJob.{
   TextJob,
   numbers,
@@ -19,13 +22,18 @@ use Rattle.text.specs.TextJob.{
   headText,
   verticesText,
   indicesText,
+  tableText,
   tailText,
   jobText,
   uprightMeant,
+  tableMeant,
   HeadFits,
+  TableFits,
   Readable,
 }
-use Rattle.text.specs.Reader.{head, assembled}
+use Rattle.text.specs.Reader.{head, tail, assembled}
+
+-- ---- the upright axis
 
 -- the same job with this said of the axis
 abbrev pub saying : Upright → TextJob → TextJob
@@ -72,3 +80,44 @@ said-readable u j r =
 -- "without the line it is z"
 pub unsaid-is-z : uprightMeant Unsaid ≡ uprightMeant Z
 unsaid-is-z = refl
+
+-- ---- the edition of the layer table
+
+-- the same job with this said of the edition
+abbrev pub sayingTable : Table → TextJob → TextJob
+sayingTable t j = assembled (j .head) (j .vertices) (j .indices) (tail (j .tail .room) (j .tail .limit) t)
+
+module _ (j : TextJob) where
+  -- the lines up to that of the pop limit
+  abbrev pub upToPops : List ℕ
+  upToPops =
+      headText (j .head)
+      ++ verticesText (j .vertices)
+      ++ indicesText (j .indices)
+      ++ line "queue=" (decimal (j .tail .room))
+      ++ line "pops=" (decimal (j .tail .limit))
+
+  -- "as its last line"
+  pub said-last : (t : Table) → jobText (sayingTable t j) ≡ upToPops ++ tableText t
+  unfolding jobText tailText
+  said-last t =
+      regrouped (headText (j .head) ++ verticesText (j .vertices) ++ indicesText (j .indices)) (line "queue=" (decimal (j .tail .room)))
+      (line "pops=" (decimal (j .tail .limit)))
+      (tableText t)
+    where
+      regrouped : (before queue pops table : List ℕ) → before ++ (queue ++ pops ++ table) ≡ before ++ queue ++ pops ++ table
+      regrouped before queue pops table = simp append-assoc
+
+-- whatever number of the format is said
+pub table-readable : (t : Table) (j : TextJob) → TableFits t → Readable j → Readable (sayingTable t j)
+table-readable t j f r =
+    record {
+      head-fits = r .head-fits;
+      vertices-fit = r .vertices-fit;
+      indices-fit = r .indices-fit;
+      tail-fits = record { room-few = r .tail-fits .room-few; limit-fits = r .tail-fits .limit-fits; table-fits = f };
+    }
+
+-- "a job without it is edition 1"
+pub unsaid-is-one : tableMeant Table.Unsaid ≡ tableMeant (Table.Said 1)
+unsaid-is-one = refl

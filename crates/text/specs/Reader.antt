@@ -14,6 +14,8 @@ use Rattle.text.specs.declared.Three.{Three}
 use Rattle.text.specs.declared.Upright.{Upright}
 use Rattle.text.specs.declared.Upright.the-variants.{Unsaid, X, Y, Z}
 use Rattle.text.specs.declared.Head.{Head}
+use Rattle.text.specs.declared.Table.{Table}
+use Rattle.text.specs.declared.Table.the-variants as Table
 use Rattle.text.specs.declared.Tail.{Tail}
 use Rattle.text.specs.Words.{bytes, space, lf, line}
 use Rattle.text.specs.Limits.{mostVertices, mostIndices, mostCells, mostEntries}
@@ -138,6 +140,13 @@ normalLine s = oneOf signText (Normal ∷ []) s
 abbrev pub signAt : List ℕ → Got SignMethod
 signAt s = optional Raycast normalLine s
 
+-- the line of the table's edition, whatever number it says
+unfoldable pub tableLine : List ℕ → Got Table
+tableLine s = follow (numberLine (bytes "table=") 4294967295 s) (λ n s. took (Table.Said n) s)
+
+abbrev pub tableAt : List ℕ → Got Table
+tableAt s = optional Table.Unsaid tableLine s
+
 -- n lines, each by the reader p
 unfoldable pub linesAt : {A : Type 0} → ℕ → (List ℕ → Got A) → List ℕ → Got (List A)
 linesAt zero p s = took [] s
@@ -178,13 +187,14 @@ indicesAt t s =
     (follow (numberLine (bytes "indices=") (mostIndices t) s)
     (λ n s. follow (linesAt n indexAt s) (λ is s. took (these is) s)))
 
-abbrev pub tail : ℕ → ℕ → Tail
-tail room limit = record { room = room; limit = limit }
+abbrev pub tail : ℕ → ℕ → Table → Tail
+tail room limit table = record { room = room; limit = limit; table = table }
 
 unfoldable pub tailAt : List ℕ → Got Tail
 tailAt s =
     follow (numberLine (bytes "queue=") mostEntries s)
-    (λ room s. follow (numberLine (bytes "pops=") 4294967295 s) (λ limit s. took (tail room limit) s))
+    (λ room s.
+    follow (numberLine (bytes "pops=") 4294967295 s) (λ limit s. follow (tableAt s) (λ table s. took (tail room limit table) s)))
 
 abbrev pub assembled : Head → List Three → TextIndices → Tail → TextJob
 assembled h vs is t = record { head = h; vertices = vs; indices = is; tail = t }

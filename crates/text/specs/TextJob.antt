@@ -15,6 +15,8 @@ use Rattle.text.specs.declared.Three.{Three}
 use Rattle.text.specs.declared.Upright.{Upright}
 use Rattle.text.specs.declared.Upright.the-variants.{Unsaid, X, Y, Z}
 use Rattle.text.specs.declared.Head.{Head}
+use Rattle.text.specs.declared.Table.{Table}
+use Rattle.text.specs.declared.Table.the-variants as Table
 use Rattle.text.specs.declared.Tail.{Tail}
 use Rattle.text.specs.Words.{bytes, decimal, hex8, spaced, line, lines}
 use Rattle.text.specs.Limits.{mostVertices, mostIndices, mostCells, mostEntries}
@@ -31,7 +33,7 @@ pub record TextJob : Type 0 where
   -- the bits of each vertex
   pub vertices : List Three
   pub indices : TextIndices
-  -- the queue room and the pop limit
+  -- the queue room, the pop limit, and what is said of the table's edition
   pub tail : Tail
 
 -- a number in either form
@@ -89,9 +91,16 @@ unfoldable pub indicesText : TextIndices → List ℕ
 indicesText none = line "indices=" (bytes "none")
 indicesText (these is) = line "indices=" (decimal (length is)) ++ lines indexLine is
 
+-- "The job has `table=1` or `table=2` as its last line, and a job without it is edition 1. .. any other edition is 14" (document 02, §11): any
+-- number may be said, since a job of another edition is answered 14 and not 9. A text with the line `table=1` is not that without a line, so
+-- that nothing was said is a value of its own.
+abbrev pub tableText : Table → List ℕ
+tableText Table.Unsaid = []
+tableText (Table.Said n) = line "table=" (decimal n)
+
 -- the lines after the indices
 unfoldable pub tailText : Tail → List ℕ
-tailText t = line "queue=" (decimal (t .room)) ++ line "pops=" (decimal (t .limit))
+tailText t = line "queue=" (decimal (t .room)) ++ line "pops=" (decimal (t .limit)) ++ tableText (t .table)
 
 -- the lines "in a fixed order", "nothing after the last"
 unfoldable pub jobText : TextJob → List ℕ
@@ -105,6 +114,11 @@ uprightMeant Unsaid = 2
 uprightMeant X = 0
 uprightMeant Y = 1
 uprightMeant Z = 2
+
+-- the edition of the layer table: "a job without it is edition 1"
+abbrev pub tableMeant : Table → ℕ
+tableMeant Table.Unsaid = 1
+tableMeant (Table.Said n) = n
 
 -- the indices of a text, which are none without them
 abbrev pub indexList : TextIndices → List ℕ
@@ -156,9 +170,15 @@ pub record IndicesFit (t : Topology) (l : TextIndices) : Type 0 where
   pub few : length (indexList l) ≤ mostIndices t
   pub fit : All Word (indexList l)
 
+-- of an edition that is said
+abbrev pub TableFits : Table → Type 0
+TableFits Table.Unsaid = Unit
+TableFits (Table.Said n) = Word n
+
 pub record TailFits (t : Tail) : Type 0 where
   pub room-few : t .room ≤ mostEntries
   pub limit-fits : Word (t .limit)
+  pub table-fits : TableFits (t .table)
 
 pub record Readable (j : TextJob) : Type 0 where
   pub head-fits : HeadFits (j .head)

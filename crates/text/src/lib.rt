@@ -75,8 +75,17 @@ pub struct Head {
     pub sign: SignMethod,
 }
 
-// The lines after the indices: the queue room and the pop limit.
+// What a text says of the edition of the layer table: a number, or nothing, which means 1. That nothing was said is
+// kept, since a text with the line `table=1` is another text of the same job. Any number may be said: whether there
+// is such an edition is asked where the job is checked.
+pub enum Table {
+    Unsaid,
+    Said(u32),
+}
+
+// The lines after the indices: the queue room, the pop limit, and the table's edition, whose line may be left out.
 pub struct Tail {
     pub room: u32,
     pub limit: u32,
+    pub table: Table,
 }

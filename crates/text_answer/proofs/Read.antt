@@ -1,26 +1,29 @@
 -- A job that was read, by its parts, is listed as its text asks; and a text has one answer, which is the same with the line `upright=z` as
--- without it. Assumes nothing.
+-- without it, the same with the line `table=1` as without it, and 14 with another edition than 1 and 2. Assumes nothing.
 use Prim.Native.Nat.{ℕ, _*_, _≤_}
 use native.Mathlib.Omega.{arith}
 use mathlib.Core.Path.{_≡_, refl, sym, ap, _∙_, subst}
+use mathlib.Core.Bool.{true, false}
 use mathlib.Core.List.{List}
 use lib.ListN.{length, take}
 use lib.Seq.{length-take-le}
 use Rattle.text.specs.declared.Head.{Head}
 use Rattle.text.specs.declared.Tail.{Tail}
 use Rattle.text.specs.declared.Upright.the-variants.{Unsaid, Z}
+use Rattle.text.specs.declared.Table.the-variants as Table
 use Rattle.text.specs.Limits.{mostCells, mostEntries, coordinateRoom, listingRoom}
-use Rattle.text.specs.Answering.{Answered}
-use Rattle.text.specs.TextJob.{TextJob, cellsOf, Readable, jobText}
+use Rattle.text.specs.Answering.{Answered, answerLine}
+use Rattle.text.specs.TextJob.{TextJob, cellsOf, Word, Readable, jobText}
 use Rattle.text.proofs.Job.{one-job}
-use Rattle.text.proofs.Said.{saying, said-readable}
+use Rattle.text.proofs.Said.{saying, said-readable, sayingTable, table-readable}
 use Rattle.text_read_job.specs.declared.Asked.{Asked}
 use Rattle.text_read_job.specs.Reading.{HoldsJob}
 use Rattle.lists.specs.Put.{Put}
 use Rattle.lists.proofs.Puts.{said}
 use Rattle.float_bits.specs.Patterns.{floatsOf}
-use Rattle.listing.specs.Listing.{jobBy, lentFor, listing, Prints, listing-of, unreadable}
-use Rattle.listing.proofs.AskedJob.{z-or-nothing-listed}
+use Rattle.job_checks.specs.Refusals.{wrongGrid, wrongEdition}
+use Rattle.listing.specs.Listing.{gridOf, jobBy, lentFor, listing, Prints, listing-of, unreadable}
+use Rattle.listing.proofs.AskedJob.{z-or-nothing-listed, one-or-nothing-listed, other-edition-listed}
 use Rattle.listing_run.specs.Parts.{listedOf, heldJob, Small}
 
 module _ {j : TextJob} {a : Asked} {vertices indices : List ℕ} (h : HoldsJob j a vertices indices) where
@@ -64,3 +67,27 @@ z-or-nothing-printed j r o p without with =
     one-output o (listing (saying Unsaid j)) without (listing-of (saying Unsaid j) (said-readable Unsaid j r) refl refl)
     ∙ z-or-nothing-listed j
     ∙ one-output (listing (saying Z j)) p (listing-of (saying Z j) (said-readable Z j r) refl refl) with
+
+-- "a job without it is edition 1": the line `table=1` can be put at the end or left out (`said-last`, likewise)
+pub one-or-nothing-printed : (j : TextJob) → Readable j → (o p : List ℕ)
+    → Prints (jobText (sayingTable Table.Unsaid j)) o
+    → Prints (jobText (sayingTable (Table.Said 1) j)) p
+    → o ≡ p
+one-or-nothing-printed j r o p without with =
+    one-output o (listing (sayingTable Table.Unsaid j)) without (listing-of (sayingTable Table.Unsaid j) (table-readable Table.Unsaid j tt r) refl refl)
+    ∙ one-or-nothing-listed j
+    ∙ one-output (listing (sayingTable (Table.Said 1) j)) p
+    (listing-of (sayingTable (Table.Said 1) j) (table-readable (Table.Said 1) j (omega arith) r) refl refl)
+    with
+
+-- "any other edition is 14, after 1": it is read, and no number of the format is 9
+pub other-edition-printed : (j : TextJob) → Readable j → (n : ℕ) → Word n
+    → wrongGrid (gridOf (j .head)) ≡ false
+    → wrongEdition n ≡ true
+    → (o : List ℕ)
+    → Prints (jobText (sayingTable (Table.Said n) j)) o
+    → o ≡ answerLine 14
+other-edition-printed j r n w g e o p =
+    one-output o (listing (sayingTable (Table.Said n) j)) p
+    (listing-of (sayingTable (Table.Said n) j) (table-readable (Table.Said n) j w r) refl refl)
+    ∙ other-edition-listed j n g e

@@ -1,5 +1,5 @@
--- What a conversion keeps: it names the same triangles in the same order, it says of upright axis and signs what the job said, it is within the
--- limits where the job was, and a conversion is converted to itself. A strip of n corners has n − 2 triangles, and 3 · (768 − 2) is 2,298.
+-- What a conversion keeps: it names the same triangles in the same order, it says of upright axis, signs and edition what the job said, it is within
+-- the limits where the job was, and a conversion is converted to itself. A strip of n corners has n − 2 triangles, and 3 · (768 − 2) is 2,298.
 -- Assumes nothing.
 use Prim.Native.Nat.{ℕ, zero, suc, _+_, _*_, _≤_}
 use native.Mathlib.Omega.{arith}
@@ -38,13 +38,19 @@ same-triangles j = by (j .head .topology)
     by TriangleStrip = explicit-names (trianglesNamed j) (length (j .vertices))
 
 -- each line that may be left out is there where it was, with what it said, and nowhere else
-pub said-as-before : (j : TextJob) → (converted j .head .upright ≡ j .head .upright) × (converted j .head .sign ≡ j .head .sign)
+pub said-as-before : (j : TextJob)
+    → (converted j .head .upright ≡ j .head .upright)
+    × (converted j .head .sign ≡ j .head .sign)
+    × (converted j .tail .table ≡ j .tail .table)
 unfolding convertedBy
 said-as-before j = by (j .head .topology)
   where
-    by : (t : Topology) → (convertedBy t j .head .upright ≡ j .head .upright) × (convertedBy t j .head .sign ≡ j .head .sign)
-    by TriangleList = (refl, refl)
-    by TriangleStrip = (refl, refl)
+    by : (t : Topology)
+        → (convertedBy t j .head .upright ≡ j .head .upright)
+        × (convertedBy t j .head .sign ≡ j .head .sign)
+        × (convertedBy t j .tail .table ≡ j .tail .table)
+    by TriangleList = (refl, refl, refl)
+    by TriangleStrip = (refl, refl, refl)
 
 -- a conversion is a list
 pub list-of : (j : TextJob) → converted j .head .topology ≡ TriangleList

@@ -16,6 +16,7 @@ use Rattle.mesh_explicit.specs.Explicit.{explicit}
 use Rattle.mesh_explicit.proofs.Laws.{explicit-long}
 use Rattle.lists.specs.Put.{Put}
 use Rattle.text.specs.declared.Head.{Head}
+use Rattle.text.specs.declared.Tail.{Tail}
 use Rattle.text.specs.Limits.{mostIndices, indexRoom}
 use Rattle.text.specs.TextJob.{these, indexList, givenOf}
 use Rattle.text.specs.Reader.{assembled}
@@ -55,17 +56,18 @@ module _ (a : Asked) (vertices indices : List ℕ) where
         (few-triangles (a .given) (take (a .indices) indices) (a .vertices) (omega (arith, few, length-take-le (a .indices) indices (fits .indices-held))) (fits .vertices-few))
 
     module _ {old new : List ℕ} {n : ℕ} (put : Put old 0 (explicit heldTriangles) new n) {h : Head} (head : h ≡ listHead (a .head)) where
-      -- the conversion's record
-      abbrev pub list : Asked
-      list = record { head = h; vertices = a .vertices; given = Given; indices = n; tail = a .tail }
+      -- the conversion's record, with a tail
+      abbrev pub list : Tail → Asked
+      list t = record { head = h; vertices = a .vertices; given = Given; indices = n; tail = t }
 
-      pub list-is : jobIn list vertices new ≡ asList (jobIn a vertices indices)
+      pub list-is : jobIn (list (a .tail)) vertices new ≡ asList (jobIn a vertices indices)
       list-is =
           let is = put .front ∙ ap explicit held-named in
           λ i. assembled (head i) (threesIn (a .vertices) vertices) (these (is i)) (a .tail)
 
-      pub list-fits : length old ≡ indexRoom → RoomToWrite list vertices new out
-      list-fits long =
+      -- whatever its tail
+      pub list-fits : (t : Tail) → length old ≡ indexRoom → RoomToWrite (list t) vertices new out
+      list-fits t long =
           rw head (
           record {
             room = fits .room;

@@ -4,15 +4,17 @@ use mesh_topology::Topology;
 use terms::SignMethod;
 use text::Form;
 use text::MOST_CELLS;
+use text::Table;
 use text::Three;
 use text::Upright;
 use text_read_words::Next;
 use text_read_words::Number;
 ghost use mathlib.Core.Path.{_≡_};
 ghost use lib.ListN.{drop};
-ghost use Rattle.text.specs.Reader.{valueAt, threeNumbers, numberLine, floatsLine, fewCells, countLine, uprightAt, topologyLine, signAt};
+ghost use Rattle.text.specs.Reader.{valueAt, threeNumbers, numberLine, floatsLine, fewCells, countLine};
+ghost use Rattle.text.specs.Reader.{uprightAt, topologyLine, signAt, tableAt};
 ghost use Rattle.text_read_words.specs.Told.{gotNumber};
-ghost use Rattle.text_read_lines.specs.Told.{gotTriple, gotUpright, gotShape, gotMethod};
+ghost use Rattle.text_read_lines.specs.Told.{gotTriple, gotUpright, gotShape, gotMethod, gotTable};
 
 // Three numbers, and the place behind them.
 pub enum Triple {
@@ -35,6 +37,12 @@ pub enum Shape {
 // The method of the signs, and the place behind its line, or behind nothing where there is no such line.
 pub struct Method {
     pub sign: SignMethod,
+    pub next: usize,
+}
+
+// What is said of the table's edition, and the place behind its line, or behind nothing where there is no such line.
+pub struct Edition {
+    pub table: Table,
     pub next: usize,
 }
 
@@ -180,6 +188,22 @@ pub fn sign_line(text: &[u8], at: usize) -> Method
     }
     Method {
         sign: SignMethod::Raycast,
+        next: at,
+    }
+}
+
+// The line of the table's edition, which may be left out. Any number is taken.
+pub fn table_line(text: &[u8], at: usize) -> Edition
+    ensures { λ r. ⌜ gotTable (now (text .entry)) r ≡ tableAt (drop at (now (text .entry))) ⌝ }
+{
+    if let Number::Is { value, next } = number_line(text, at, b"table=", 4294967295) {
+        return Edition {
+            table: Table::Said(value),
+            next,
+        };
+    }
+    Edition {
+        table: Table::Unsaid,
         next: at,
     }
 }

@@ -196,21 +196,22 @@ pub fn tail(text: &[u8], at: usize) -> Back
 {
     let Number::Is {
         value: room,
-        next: behind,
+        next: behind_queue,
     } = text_read_lines::number_line(text, at, b"queue=", MOST_ENTRIES)
     else {
         return Back::Not;
     };
-    let Number::Is { value: limit, next } = text_read_lines::number_line(
-        text,
-        behind,
-        b"pops=",
-        4294967295,
-    ) else {
+    let Number::Is {
+        value: limit,
+        next: behind_pops,
+    } = text_read_lines::number_line(text, behind_queue, b"pops=", 4294967295)
+    else {
         return Back::Not;
     };
+    let edition = text_read_lines::table_line(text, behind_pops);
+    let table = edition.table;
     Back::Is {
-        tail: Tail { room, limit },
-        next,
+        tail: Tail { room, limit, table },
+        next: edition.next,
     }
 }

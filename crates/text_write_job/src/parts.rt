@@ -4,6 +4,7 @@ use mesh_topology::Topology;
 use terms::SignMethod;
 use text::Form;
 use text::Head;
+use text::Table;
 use text::Tail;
 use text::Three;
 use text::Upright;
@@ -14,7 +15,7 @@ ghost use Prim.Native.Nat.{_+_, _*_, _≤_};
 ghost use lib.ListN.{length, take};
 ghost use Rattle.text.specs.Words.{line, lines};
 ghost use Rattle.text.specs.Limits.{mostVertices, indexRoom};
-ghost use Rattle.text.specs.TextJob.{uprightText, topologyText, signText, headText, tailText};
+ghost use Rattle.text.specs.TextJob.{uprightText, topologyText, signText, headText, tableText, tailText};
 ghost use Rattle.text.specs.TextJob.{vertexLine, verticesText, indexLine, indicesText};
 ghost use Rattle.text_read_parts.specs.Told.{threesIn, listedAs};
 ghost use Rattle.lists.specs.Put.{Put};
@@ -144,11 +145,24 @@ pub fn put_indices(out: &mut [u8], at: usize, given: Indices, indices: &[u32], n
     }
 }
 
-// The queue room and the pop limit.
+// The line of the table's edition, where it was said.
+fn put_table(out: &mut [u8], at: usize, table: Table) -> usize
+    requires { ⌜ at + 17 ≤ length (now out) ⌝ }
+    ensures { λ r. ⌜ Put (now (out .entry)) at (tableText table) (now (out .exit)) r ⌝ }
+{
+    match table {
+        Table::Unsaid => at,
+        Table::Said(edition) => put_number(out, at, b"table=", edition),
+    }
+}
+
+// The queue room, the pop limit and the table's edition.
 pub fn put_tail(out: &mut [u8], at: usize, tail: Tail) -> usize
-    requires { ⌜ at + 33 ≤ length (now out) ⌝ }
+    requires { ⌜ at + 50 ≤ length (now out) ⌝ }
     ensures { λ r. ⌜ Put (now (out .entry)) at (tailText tail) (now (out .exit)) r ⌝ }
 {
-    let next = put_number(out, at, b"queue=", tail.room);
-    put_number(out, next, b"pops=", tail.limit)
+    let table = tail.table;
+    let a = put_number(out, at, b"queue=", tail.room);
+    let b = put_number(out, a, b"pops=", tail.limit);
+    put_table(out, b, table)
 }

@@ -51,6 +51,11 @@ put-converted-requires c κs =
     writable (known r .3) (bits-long r) (indices-long r) (roomy (read r) .if1 .left)
 
 -- more indices than an old job has
+put-number-requires-2 : tie.Need-put-number-requires-2
+put-number-requires-2 c κs =
+    let r : tie.After-read = search in
+    omega (arith, roomy (read r) .if1 .left)
+
 returns-2 : tie.Need-returns-2
 unfolding line
 returns-2 c =
@@ -88,7 +93,7 @@ convert-text-spec =
     returns
     (λ c κs. tt) (λ c κs. tt) (λ c. search needs) (λ c. search needs) (λ c κs. search needs)
     (λ c. search needs) (λ c. search needs) (λ c κs. search needs)
-    (λ c. search needs) (λ c. search needs) (λ c κs. search needs)
+    (λ c. search needs) (λ c. search needs) put-number-requires-2
     (λ c. search needs) returns-2
     (λ c. search needs) (λ c. search needs) put-converted-requires
     (λ c. search needs) returns-3

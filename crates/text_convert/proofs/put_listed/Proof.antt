@@ -27,7 +27,7 @@ put-job-requires c κs =
     let w : tie.After-index-words = search in
     let l : tie.After-list-triangles = search in
     let h : tie.After-list-head = search in
-    list-fits _ _ _ (s .pre .0) (s .pre .1) (l .list-triangles .ensures) (h .list-head .ensures) (sym (w .index-words .ensures))
+    list-fits _ _ _ (s .pre .0) (s .pre .1) (l .list-triangles .ensures) (h .list-head .ensures) _ (sym (w .index-words .ensures))
 
 returns : tie.Need-returns
 returns c =

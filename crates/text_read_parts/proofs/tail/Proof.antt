@@ -1,5 +1,6 @@
--- `text_read_parts::tail`: its two lines, as in the reader on lists. Assumes nothing.
-use mathlib.Core.Path.{refl, _∙_}
+-- `text_read_parts::tail`: its two lines and the one that may be left out, as in the reader on lists. Assumes nothing.
+use borrow.Author.Needs.{needs}
+use mathlib.Core.Path.{_∙_}
 use Rattle.text.specs.Reader.{tailAt}
 use Rattle.text.proofs.Calls.{onward, stopped}
 use Rattle.text_read_parts.proofs.tail.Statement.{statement}
@@ -20,19 +21,16 @@ returns-2 c =
 returns-3 : tie.Need-returns-3
 unfolding tailAt
 returns-3 c =
-    let u = c .before in
-    let v = u .before .before .before .before .before in
-    onward _ (rw (u .limit .given .1) at (u .before .before .number-line2 .ensures))
+    let v : tie.After-room = search in
+    let u : tie.After-limit = search in
+    let e : tie.After-table-line = search in
+    onward _ (e .table-line .ensures)
+    ∙ onward _ (rw (u .limit .given .1) at (u .before .before .number-line2 .ensures))
     ∙ onward _ (rw (v .room .given .1) at (v .before .before .number-line .ensures))
 
 pub tail-spec : {M : Type 1} → statement M
 tail-spec =
     tie.close (tie.spec
-    (λ c. refl) (λ c κs. tt)
-    (λ c. c .match .keys1)
-    (λ c. c .match .keys2)
-    returns
-    (λ c. refl) (λ c κs. tt)
-    (λ c. c .match2 .keys1)
-    (λ c. c .match2 .keys2)
-    returns-2 returns-3)
+    (λ c. search needs) (λ c κs. search needs) (λ c. search needs) (λ c. search needs) returns
+    (λ c. search needs) (λ c κs. search needs) (λ c. search needs) (λ c. search needs) returns-2
+    (λ c κs. search needs) returns-3)
