@@ -47,8 +47,8 @@ def values(listing):
 
 def owed(jobs, originals=None):
     """The listings that the jobs are owed: the unmodified Rust's field and pops (with Normal signs those of the Rust with the queue's order of
-    document 02, §8, put in), rows that the oracle counts off that field along the upright axis, and the model's number, peak, grazed and names
-    (the Rust says nothing of a ray that grazes; tools/grazed-check counts them once more). Where two speak they must agree. With `originals`
+    document 02, §8, put in), rows that the oracle counts off that field along the upright axis in the job's edition of the table, and the model's
+    number, peak, grazed and names (the Rust says nothing of a ray that grazes; tools/grazed-check counts them once more). Where two speak they must agree. With `originals`
     the jobs are conversions of these, and the Rust is given the originals: it still takes strips. Builds the oracle and the model."""
     build("tools/oracle/build")
     build("tools/model/build")

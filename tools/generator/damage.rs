@@ -124,9 +124,77 @@ pub const UPRIGHTS: [(&str, &str); 38] = [
     ("upright=0", "topology="),
 ];
 
+/// The same of the line `table=` (document 02, §11), whose own place is the end, where any number without leading zeros is a job's. "$" is what stands
+/// behind the last line feed, as it is.
+pub const TABLES: [(&str, &str); 60] = [
+    ("table=2", "pops="),
+    ("table=2\ntable=2", ""),
+    ("table=02", ""),
+    ("table=2", "$"),
+    ("table=", ""),
+    ("\ntable=2", ""),
+    ("table=4294967296", ""),
+    ("Table=2", ""),
+    ("table=2\nx", "$"),
+    ("table=2", "queue="),
+    ("table=2\n\n", "$"),
+    ("table=1", "pops="),
+    ("table=2 ", ""),
+    ("table=1\ntable=2", ""),
+    ("table=2\r", ""),
+    ("table=2", "sign="),
+    ("table=01", ""),
+    ("table=2\n ", "$"),
+    (" table=2", ""),
+    ("table=1", "$"),
+    ("table= 2", ""),
+    ("table=2", "upright="),
+    ("table=2\ntable=1", ""),
+    ("table=-1", ""),
+    ("table=+2", ""),
+    ("table=2", "count="),
+    ("table=00", ""),
+    ("table", ""),
+    ("table=two", ""),
+    ("table=2", "topology="),
+    ("table==2", ""),
+    ("table=1\ntable=1", ""),
+    ("TABLE=2", ""),
+    ("table=4294967297", ""),
+    ("tables=2", ""),
+    ("table=2", "vertices="),
+    ("table:2", ""),
+    ("table=2\n\0", "$"),
+    ("2", ""),
+    ("table=1 2", ""),
+    ("table=2", "indices="),
+    ("table=18446744073709551618", ""),
+    ("table=none", ""),
+    ("table=2", "v="),
+    ("table=0x2", ""),
+    ("table=1", "count="),
+    ("table=2.0", ""),
+    ("table=2", "size="),
+    ("table=2\npops=100", ""),
+    ("table=00000002", ""),
+    ("tabl=2", ""),
+    ("table=2", "i="),
+    ("edition=2", ""),
+    ("table=3", "pops="),
+    ("table 2", ""),
+    ("table=2", "first="),
+    ("table=2,", ""),
+    ("table=2\ntable=3", ""),
+    ("table=3", "$"),
+    ("table=1", "queue="),
+];
+
 /// The text with another spelling for the line of this key, in another place or in its own.
 pub fn damage_line(key: &str, (spelling, place): (&str, &str), text: &str) -> Vec<u8> {
     let mut lines: Vec<&str> = text.lines().filter(|line| !line.starts_with(key)).collect();
+    if place == "$" {
+        return (lines.join("\n") + "\n" + spelling).into_bytes();
+    }
     let found = lines.iter().position(|line| !place.is_empty() && line.starts_with(place));
     lines.insert(found.unwrap_or(lines.len()), spelling);
     (lines.join("\n") + "\n").into_bytes()

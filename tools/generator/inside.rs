@@ -427,5 +427,6 @@ pub fn queue_order(r: &mut Random) -> Job {
         indices: None,
         queue: 2_048,
         pops: 1_000_000,
+        edition: None,
     }
 }

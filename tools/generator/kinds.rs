@@ -7,6 +7,7 @@ use crate::off_grid;
 use crate::old;
 use crate::random::Random;
 use crate::shapes::{self, Mesh};
+use crate::table;
 use crate::tidy;
 use crate::upright;
 use model::grid::Grid;
@@ -138,6 +139,7 @@ pub fn of_set(set: Option<&str>) -> Vec<&'static str> {
         Some("normal") => names(&normal::KINDS).collect(),
         Some("upright") => names(&upright::KINDS).collect(),
         Some("tidy") => names(&tidy::KINDS).collect(),
+        Some("table") => names(&table::KINDS).collect(),
         _ => names(&BASE).chain(names(&inside::KINDS)).chain(names(&off_grid::KINDS)).collect(),
     }
 }
@@ -151,7 +153,7 @@ pub fn of_set(set: Option<&str>) -> Vec<&'static str> {
 pub fn make(kind: &str, r: &mut Random) -> Option<Vec<u8>> {
     let make = find(kind)?;
     let first = draw(kind, make, r);
-    let lists = [&OFF_GRID[..], &normal::OFF_GRID, &upright::OFF_GRID].concat();
+    let lists = [&OFF_GRID[..], &normal::OFF_GRID, &upright::OFF_GRID, &table::OFF_GRID].concat();
     let by_design = lists.contains(&kind) || off_grid::KINDS.iter().chain(&tidy::KINDS).any(|(name, _)| *name == kind);
     let limits = !kind.starts_with("large-");
     if by_design || !refused_by_10(&first, limits) || r.once_in(4) {
@@ -164,7 +166,8 @@ pub fn make(kind: &str, r: &mut Random) -> Option<Vec<u8>> {
 /// The kind of this name, of any set.
 pub fn find(kind: &str) -> Option<Make> {
     let later = old::KINDS.iter().chain(&old::LONG).chain(&normal::KINDS).chain(&normal::ALONE).chain(&upright::KINDS).chain(&upright::ALONE);
-    let mut all = BASE.iter().chain(&inside::KINDS).chain(&off_grid::KINDS).chain(&ALONE).chain(later).chain(&tidy::KINDS);
+    let last = tidy::KINDS.iter().chain(&table::KINDS).chain(&table::ALONE);
+    let mut all = BASE.iter().chain(&inside::KINDS).chain(&off_grid::KINDS).chain(&ALONE).chain(later).chain(last);
     all.find(|(name, _)| *name == kind).map(|(_, make)| *make)
 }
 
@@ -184,9 +187,12 @@ fn draw(kind: &str, make: Make, r: &mut Random) -> Vec<u8> {
     let text = text::write(&make(r));
     match kind {
         // Each pair begins at different ways, so that together they show all of them sooner.
-        "damaged" | "damaged-strip" | "damaged-normal" | "damaged-upright" | "damaged-tidy" => damage::damage(r.turn(&damage::WAYS), &text, r),
+        "damaged" | "damaged-strip" | "damaged-normal" | "damaged-upright" | "damaged-tidy" | "damaged-table" => {
+            damage::damage(r.turn(&damage::WAYS), &text, r)
+        }
         "damaged-sign" | "damaged-strip-sign" => damage::damage_line("sign=", r.turn(&damage::SIGNS), &text),
         "damaged-upright-line" | "damaged-strip-upright-line" => damage::damage_line("upright=", r.turn(&damage::UPRIGHTS), &text),
+        "damaged-table-line" | "damaged-strip-table-line" => damage::damage_line("table=", r.turn(&damage::TABLES), &text),
         "damaged-small" | "damaged-strip-no-indices" => {
             let mut ways = damage::WAYS;
             ways.rotate_left(damage::WAYS.len() / 2);
@@ -237,7 +243,7 @@ pub fn job(grid: Grid, mesh: &Mesh, r: &mut Random) -> Job {
     let indices = Some(mesh.triangles.iter().flatten().copied().collect());
     let queue = if r.once_in(12) { r.between(0, MOST_ENTRIES) } else { MOST_ENTRIES };
     let pops = r.pick(&[100_000, 1_000_000, u32::MAX]);
-    Job { grid, topology: Topology::List, sign: SignMethod::Raycast, vertices, indices, queue, pops }
+    Job { grid, topology: Topology::List, sign: SignMethod::Raycast, vertices, indices, queue, pops, edition: None }
 }
 
 /// A place in cell units as a point, held within the bounds.
@@ -1038,6 +1044,7 @@ fn document_01(r: &mut Random) -> Job {
         indices: Some(vec![0, 1, 2]),
         queue: 8,
         pops: 100,
+        edition: None,
     };
     match r.turn(&[0, 1, 2, 3, 4, 5, 6]) {
         0 => {}

@@ -2,7 +2,8 @@
 //! the job's text. The same seed gives the same jobs; job INDEX does not depend on N. Without a KIND the kinds take turns:
 //! those of the set `base`, of the set `inside` (all triangles within the grid's box), of the set `off-grid` (about its sides), or of
 //! all three. By name alone: the set `old` (old jobs, for the converter), the set `long` (longer lists than an old job had), the set
-//! `normal` (jobs with Normal signs), the set `upright` (jobs that say which axis is upright), and the set `tidy` (jobs for the tidier).
+//! `normal` (jobs with Normal signs), the set `upright` (jobs that say which axis is upright), the set `tidy` (jobs for the tidier), and the set
+//! `table` (jobs that say the edition of the layer table).
 //! jobs --kinds: prints the names of the kinds.
 
 mod damage;
@@ -13,6 +14,7 @@ mod off_grid;
 mod old;
 mod random;
 mod shapes;
+mod table;
 mod tidy;
 mod upright;
 
@@ -30,19 +32,21 @@ fn main() {
         normal::KINDS.iter().for_each(|(name, _)| println!("{name} (normal)"));
         upright::KINDS.iter().for_each(|(name, _)| println!("{name} (upright)"));
         tidy::KINDS.iter().for_each(|(name, _)| println!("{name} (tidy)"));
-        kinds::ALONE.iter().chain(&normal::ALONE).chain(&upright::ALONE).for_each(|(name, _)| println!("{name} (by name alone)"));
+        table::KINDS.iter().for_each(|(name, _)| println!("{name} (table)"));
+        let alone = kinds::ALONE.iter().chain(&normal::ALONE).chain(&upright::ALONE).chain(&table::ALONE);
+        alone.for_each(|(name, _)| println!("{name} (by name alone)"));
         return;
     }
     let number = |i: usize| args.get(i).and_then(|a| a.parse::<u64>().ok());
     let (Some(jobs), Some(seed)) = (number(0), number(1)) else {
-        eprintln!("usage: jobs N SEED [KIND | base | inside | off-grid | old | long | normal | upright | tidy] | jobs --kinds");
+        eprintln!("usage: jobs N SEED [KIND | base | inside | off-grid | old | long | normal | upright | tidy | table] | jobs --kinds");
         std::process::exit(2);
     };
     let mut out = std::io::BufWriter::new(std::io::stdout().lock());
     // One kind by name is a turn by itself.
     let word = args.get(2).map(String::as_str);
     let kinds = match word {
-        None | Some("base" | "inside" | "off-grid" | "old" | "long" | "normal" | "upright" | "tidy") => kinds::of_set(word),
+        None | Some("base" | "inside" | "off-grid" | "old" | "long" | "normal" | "upright" | "tidy" | "table") => kinds::of_set(word),
         Some(kind) => vec![kind],
     };
     let turns = kinds.len() as u64;

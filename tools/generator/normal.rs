@@ -243,7 +243,7 @@ fn deck_with_pontoons(r: &mut Random) -> Job {
 // Facets whose magnitudes are alike and whose signs are not.
 
 /// A grid with one layer of centres across the axis, at 0 there, of cells of one size.
-fn layer_at_zero(axis: usize, size: f32, r: &mut Random) -> Grid {
+pub fn layer_at_zero(axis: usize, size: f32, r: &mut Random) -> Grid {
     let mut count = counts(r);
     count[axis] = 1;
     let mut first = [0; 3].map(|_| r.between(0, 4) as f32 * 0.5 * size);
@@ -252,7 +252,7 @@ fn layer_at_zero(axis: usize, size: f32, r: &mut Random) -> Grid {
 }
 
 /// Plates right across the grid at these places along the axis, each of two facets that look up along it, or down.
-fn plates_at(grid: Grid, axis: usize, places: &[(f32, bool)], r: &mut Random) -> Job {
+pub fn plates_at(grid: Grid, axis: usize, places: &[(f32, bool)], r: &mut Random) -> Job {
     let mut mesh = Mesh::default();
     for &(_, looks_up) in places {
         let (mut low, mut high) = ends(&grid, r);

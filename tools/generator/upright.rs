@@ -53,7 +53,7 @@ pub const ALONE: [(&str, Make); 3] = [
 pub const OFF_GRID: [&str; 2] = ["upright-refused", "upright-off-grid"];
 
 /// What is said of the upright axis.
-const SAID: [Option<u32>; 4] = [Some(0), Some(1), None, Some(2)];
+pub const SAID: [Option<u32>; 4] = [Some(0), Some(1), None, Some(2)];
 
 /// A job of these kinds, in turn, that says one of the four, in turn.
 fn of(r: &mut Random, kinds: &[&str]) -> Job {
@@ -66,14 +66,14 @@ fn said(upright: Option<u32>, mut job: Job) -> Job {
 }
 
 /// A grid of some cells along each axis, with three different counts.
-fn uneven_grid(r: &mut Random) -> Grid {
+pub fn uneven_grid(r: &mut Random) -> Grid {
     let mut counts = [2, 3, 4, 5, 6];
     shuffle(&mut counts, r);
     Grid { count: [counts[0], counts[1], counts[2]], ..roomy_grid(r) }
 }
 
 /// A job with room for all entries.
-fn of_mesh(grid: Grid, mesh: &Mesh, r: &mut Random) -> Job {
+pub fn of_mesh(grid: Grid, mesh: &Mesh, r: &mut Random) -> Job {
     said(r.turn(&SAID), Job { queue: 2_048, ..job(grid, mesh, r) })
 }
 
@@ -95,7 +95,7 @@ fn tank(r: &mut Random) -> Job {
 }
 
 /// What is said, and the axis across which something lies: the upright one four times, and then another four times.
-fn across(r: &Random) -> (Option<u32>, usize) {
+pub fn across(r: &Random) -> (Option<u32>, usize) {
     let (upright, step) = (r.turn(&SAID), r.turn(&[0, 0, 0, 0, 1, 2, 1, 2]));
     (upright, (upright.unwrap_or(2) as usize + step) % 3)
 }

@@ -4,7 +4,7 @@
 //! entries were taken and waited. Sizes above EDGE (100) are left out, and with WORD all workloads that have it neither in their name nor
 //! in their counts, as 1024; `raycast` and `normal` are the workloads with these signs. z is upright, or with UPRIGHT `x` or `y` that axis:
 //! the rows run along it (document 02, §9), and nothing else depends on it. With `rows` as the WORD the rows alone are timed, with x, y and z
-//! upright in turn.
+//! upright in turn and in both editions of the table (§11).
 //!
 //! The Rust's parts are what its own log lines say. The library has one call for a whole job. Its crossings are timed from
 //! when their counts are cleared (clock.c) to the end of the call, so the signs and the rows stand in them. Seeding and
@@ -235,26 +235,34 @@ fn normal(workloads: impl Iterator<Item = Workload>, rounds: u32) {
     }
 }
 
-/// The rows with each axis upright. With Normal signs, which have no rays, a call comes to them sooner.
+/// The rows with each axis upright, in both editions. With Normal signs, which have no rays, a call comes to them sooner.
 fn rows(workloads: impl Iterator<Item = Workload>, rounds: u32) {
-    println!("{:<16}{:>18}{:>12}{:>12}{:>12}{:>8}{:>8}", "rows, ms", "cells", "x upright", "y", "z", "x by z", "y by z");
+    let head = ["rows, ms", "cells", "edition", "x upright", "y", "z", "x by z", "y by z"];
+    println!("{:<16}{:>18}{:>9}{:>12}{:>10}{:>10}{:>8}{:>8}", head[0], head[1], head[2], head[3], head[4], head[5], head[6], head[7]);
     for mut workload in workloads {
         workload.job.sign = SignMethod::Normal;
-        let mut of = [0, 1, 2].map(|upright| {
-            let job = workload.job.clone();
-            let job = Job { grid: Grid { upright: Some(upright), ..job.grid.clone() }, ..job };
-            let mut lent = Lent::fitting(&job.grid, 2 * job.grid.cells() as usize);
-            ask_with_room(&job, &mut lent, TAKEN);
-            (job, lent, f64::MAX)
+        let asked = [1, 2].map(|edition| [0, 1, 2].map(|upright| (edition, upright)));
+        let mut of = asked.map(|axes| {
+            axes.map(|(edition, upright)| {
+                let job = workload.job.clone();
+                let job = Job { grid: Grid { upright: Some(upright), ..job.grid.clone() }, edition: Some(edition), ..job };
+                let mut lent = Lent::fitting(&job.grid, 2 * job.grid.cells() as usize);
+                ask_with_room(&job, &mut lent, TAKEN);
+                (job, lent, f64::MAX)
+            })
         });
         // More turns where a call is short.
         for _ in 0..rounds_of(&workload, rounds) * (10_000 / workload.edge.pow(2)).max(1) {
-            for (job, lent, time) in &mut of {
+            for (job, lent, time) in of.as_flattened_mut() {
                 least(time, whole(job, lent, TAKEN).rows);
             }
         }
-        let [x, y, z] = of.map(|(_, _, time)| time);
-        println!("{:<16}{:>18}{x:>12.4}{y:>12.4}{z:>12.4}{:>8.2}{:>8.2}", workload.name, workload.counts(), x / z, y / z);
+        let times = of.map(|axes| axes.map(|(_, _, time)| time));
+        for ([x, y, z], edition) in times.into_iter().zip([1, 2]) {
+            println!("{:<16}{:>18}{edition:>9}{x:>12.4}{y:>10.4}{z:>10.4}{:>8.2}{:>8.2}", workload.name, workload.counts(), x / z, y / z);
+        }
+        let [x, y, z] = [0, 1, 2].map(|axis| times[1][axis] / times[0][axis]);
+        println!("{:<16}{:>18}{:>9}{x:>12.2}{y:>10.2}{z:>10.2}", "", "", "2 by 1");
     }
 }
 

@@ -1,11 +1,11 @@
-//! bench-two [ROUNDS [EDGE [PASS [QUEUE [SIGN [UPRIGHT]]]]]]: the libraries of two checkouts on the same jobs in one run, call by call in turn, on one
-//! thread. Prints for each workload and size of tools/bench, and for as many facets as a job may have, the least time of the checks
+//! bench-two [ROUNDS [EDGE [PASS [QUEUE [SIGN [UPRIGHT [EDITION]]]]]]]: the libraries of two checkouts on the same jobs in one run, call by call in
+//! turn, on one thread. Prints for each workload and size of tools/bench, and for as many facets as a job may have, the least time of the checks
 //! before the run, of the spreading, of the crossings, of the rows and of the whole over the rounds (5; more where a call is short), in
 //! milliseconds of the processor's time, before and after, and after by before. Sizes above EDGE (100) are left out. PASS is `plain`,
 //! or `quick` (the default) where a library has it. QUEUE is `flat` (the default), the queue in three slices, or `row`, a row of
 //! records. SIGN is `raycast` (the default) or `normal`, which both libraries must know (document 02, §8); then there are no crossings to time.
-//! UPRIGHT is `z` (the default), or `x` or `y`, which both must know (§9). Ends with 1 if the two leave another field, other names or
-//! crossings, or count other pops or peak.
+//! UPRIGHT is `z` (the default), or `x` or `y`, which both must know (§9). EDITION of the table is 1 (the default), or 2, which both must know (§11).
+//! Ends with 1 if the two leave another field, other names or crossings, or count other pops or peak.
 //!
 //! The checks are a call that is lent a row too few: it is refused by 5, which is looked at last. The spreading is what is left of a
 //! call before its crossings, less a call whose pop limit is 0: that one is refused by 8 when the cells are seeded and queued. It is a
@@ -53,11 +53,12 @@ struct Lent {
     room: usize,
 }
 
-type Call = unsafe extern "C" fn(*const Lent, limit: u32, pass: u32, sign: u32, upright: u32, number: *mut u32, pops: *mut u32, peak: *mut usize);
+/// The limit, the pass, the signs, the upright axis and the edition; then what is answered.
+type Call = unsafe extern "C" fn(*const Lent, u32, u32, u32, u32, u32, number: *mut u32, pops: *mut u32, peak: *mut usize);
 
 extern "C" {
-    fn job_before(lent: *const Lent, limit: u32, pass: u32, sign: u32, upright: u32, number: *mut u32, pops: *mut u32, peak: *mut usize);
-    fn job_after(lent: *const Lent, limit: u32, pass: u32, sign: u32, upright: u32, number: *mut u32, pops: *mut u32, peak: *mut usize);
+    fn job_before(lent: *const Lent, _: u32, _: u32, _: u32, _: u32, _: u32, number: *mut u32, pops: *mut u32, peak: *mut usize);
+    fn job_after(lent: *const Lent, _: u32, _: u32, _: u32, _: u32, _: u32, number: *mut u32, pops: *mut u32, peak: *mut usize);
 }
 
 const SIDES: [Call; 2] = [job_before, job_after];
@@ -132,15 +133,16 @@ impl Buffers {
             queued: queued.as_mut_ptr(),
             triangles: triangles.as_mut_ptr(),
         };
-        let (mut answer, sign, upright) = (Answer::default(), u32::from(job.sign == SignMethod::Normal), job.grid.upright());
+        let (mut answer, sign) = (Answer::default(), u32::from(job.sign == SignMethod::Normal));
+        let (upright, edition) = (job.grid.upright(), job.edition());
         // SAFETY: every pointer is that of a slice or a number, with at most the slice's own length; none are shared.
-        let call = || unsafe { side(&lent, limit, pass, sign, upright, &mut answer.number, &mut answer.pops, &mut answer.peak) };
+        let call = || unsafe { side(&lent, limit, pass, sign, upright, edition, &mut answer.number, &mut answer.pops, &mut answer.peak) };
         let times = match to {
             To::Checks => Times { crossings: 0.0, rows: 0.0, whole: clock::whole(call) },
             _ => clock::timed(lent.crossings, lent.rows, call),
         };
         if answer.number == u32::MAX {
-            eprintln!("bench-two: a library that knows no such signs, or no upright axis but z");
+            eprintln!("bench-two: a library that knows no such signs, no upright axis but z, or no edition but 1");
             std::process::exit(2);
         }
         assert_eq!(answer.number, number, "the job is done, or refused where it should be");
@@ -181,6 +183,14 @@ fn main() {
         }
     };
     let upright = workloads::upright(std::env::args().nth(6).as_deref());
+    let edition = match std::env::args().nth(7).as_deref() {
+        None | Some("1") => 1,
+        Some("2") => 2,
+        Some(word) => {
+            eprintln!("bench-two: no such edition: {word}");
+            std::process::exit(2);
+        }
+    };
     println!("load before: {}", load());
     let words = ["workload", "cells", "part", "before, ms", "after, ms", "ratio", "of middles"];
     println!("{:<15}{:>15}  {:<10}{:>12}{:>12}{:>8}{:>12}", words[0], words[1], words[2], words[3], words[4], words[5], words[6]);
@@ -188,7 +198,7 @@ fn main() {
     for workload in workloads::all(largest).chain(workloads::most_facets(largest)) {
         let counts = workload.counts();
         let Workload { name: workload, edge, job } = workload.standing(upright);
-        let job = Job { sign, ..job };
+        let job = Job { sign, edition: Some(edition), ..job };
         // Twice as many entries as cells are enough for these jobs.
         let mut buffers = Buffers::fitting(&job, 2 * job.grid.cells() as usize, in_row);
         let [before, after] = SIDES.map(|side| (buffers.ask(side, &job, pass, To::End).0, buffers.left()));

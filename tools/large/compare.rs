@@ -5,12 +5,13 @@
 //! `small` all four.
 //!
 //!   small    the kinds of tools/jobs within the job program's limits, old jobs and long lists among them, and lent buffers of other
-//!            lengths: every answer 0 to 8, 10 and 13, with every buffer, against the model of document 01; then against the Rust
+//!            lengths: every answer 0 to 8, 10, 13 and 14, with every buffer, against the model of document 01; then against the Rust
 //!   middle   to 64 x 64 x 64 cells and 6,000 triangles
 //!   large    to 100 x 100 x 100 cells and 20,000 triangles (the default); the crossing counts of every second
 //!            job, since the Rust works them out again for it
-//!   bounds   one job at each bound of document 01, and one whose rays that graze pass 32 bits; then jobs of as many triangles as there
-//!            may be, whose last alone is off the grid by one float, or touches its box; and strips about that number; with N = 0 the
+//!   bounds   one job at each bound of document 01, one whose rays that graze pass 32 bits, and one whose one row is the most that there can be;
+//!            then jobs of as many triangles as there may be, whose last alone is off the grid by one float, or touches its box; and strips
+//!            about that number; with N = 0 the
 //!            library alone, which takes a minute where the Rust takes many; SEED does not matter
 //!
 //! These have Raycast signs, and the Rust is the unmodified one. With Normal signs (document 02, §8), against the Rust with the queue's order of
@@ -21,6 +22,13 @@
 //! the Rust's field along it. The other form of the queue and the other pass are asked for with the next axis upright: all but the rows is the
 //! same then; in `bounds` the third axis too. Buffers of a wrong length have, for the rows, the count of another axis among others: 5. An axis that
 //! is none of the three is refused by 1, before all else.
+//!
+//! Each job has an edition of the layer table by chance (document 02, §11), or the one that its text says, and its rows are those that the oracle
+//! counts off the Rust's field in it. Where the next axis is asked for, the other edition is: all but the rows is the same then. In `small` and
+//! in `bounds` the other edition is asked for along the same axis too. In `middle` and `large` one job in six is held once more with plates on
+//! layers of centres, so that many cells are at zero; how many zeros of each sign were counted is told. An edition that there is not is refused by
+//! 14, over buffers of right and of wrong lengths that stay as they were lent; as a strip, and with an index or a vertex out of bounds, too; with
+//! a grid or an axis out of bounds it is 1.
 //!
 //! In `middle` and `large` every job is accepted. One in twelve is asked for with a ladder off the grid too (document 02, §6): that
 //! is refused by 10, in all four ways, and over buffers of a wrong length as well (where the queue's lists differ, in two), and each
@@ -53,6 +61,8 @@ mod random;
 mod rust;
 #[path = "../generator/shapes.rs"]
 mod shapes;
+#[path = "../generator/table.rs"]
+mod table;
 #[path = "../generator/tidy.rs"]
 mod tidy;
 #[path = "../generator/upright.rs"]
@@ -80,7 +90,7 @@ struct Seen {
     kinds: BTreeMap<String, u64>,
     answers: BTreeMap<u32, u64>,
     to_rust: u64,
-    /// Jobs that were refused by 10 and by 13 over buffers of right and of wrong lengths: both come before 5.
+    /// Jobs that were refused by 10, 13 and 14 over buffers of right and of wrong lengths: these come before 5.
     unchanged: BTreeMap<u32, [u64; 2]>,
     /// Lists that were held to what the Rust gives the strip.
     strips: u64,
@@ -90,6 +100,13 @@ struct Seen {
     upright: [u64; 3],
     /// Jobs with an axis that is none.
     no_axis: u64,
+    /// Jobs that left the rows of each edition, and how many cells at +0 and at -0 those of edition 2 counted.
+    editions: [u64; 2],
+    zeros: [u64; 2],
+    /// Jobs of an edition that there is not.
+    no_edition: u64,
+    /// Jobs that were held once more with plates on layers of centres.
+    plates: u64,
     /// Jobs whose rays that graze were counted here; those with any, how many in all, the most.
     counted: u64,
     with_grazed: u64,
@@ -127,22 +144,33 @@ impl Seen {
         Ok(held)
     }
 
-    /// A job that was asked for over new buffers gives the same over the other form of the queue and by the other pass with the next axis upright;
-    /// but for the rows, which count the same field along that one.
+    /// A job that was asked for over new buffers gives the same over the other form of the queue and by the other pass with the next axis upright
+    /// and in the other edition of the table; but for the rows, which count the same field along that axis and in that edition.
     fn hold_other(&mut self, job: &Job, by: By, held: &Held, left: &Lent) -> Result<(), String> {
         self.tell(by);
-        self.upright[job.grid.upright() as usize] += 1;
-        self.hold_standing(job, 1, by.other(), held, left)
+        self.tell_rows(job, held, left);
+        self.hold_standing(job, 1, true, by.other(), held, left)
     }
 
-    /// The same with the axis so many further on.
-    fn hold_standing(&mut self, job: &Job, step: u32, by: By, held: &Held, left: &Lent) -> Result<(), String> {
-        let upright = (job.grid.upright() + step) % 3;
-        let job = &Job { grid: Grid { upright: Some(upright), ..job.grid.clone() }, ..job.clone() };
+    /// The same with the axis so many further on, and in the other edition or in this one. Where the job is refused, the rows are all zero in both.
+    fn hold_standing(&mut self, job: &Job, step: u32, other: bool, by: By, held: &Held, left: &Lent) -> Result<(), String> {
+        let upright = Some((job.grid.upright() + step) % 3);
+        let edition = Some(if other { 3 - job.edition() } else { job.edition() });
+        let job = &Job { grid: Grid { upright, ..job.grid.clone() }, edition, ..job.clone() };
         let left = &Lent { rows: rust::rows(job, &left.field), ..left.clone() };
         let before = Lent::fitting(&job.grid, left.distances.len());
-        self.upright[upright as usize] += 1;
+        self.tell_rows(job, held, left);
         self.hold_again(job, job.vertices.as_flattened(), before, u32::MAX, by, held.answer, left)
+    }
+
+    fn tell_rows(&mut self, job: &Job, held: &Held, left: &Lent) {
+        self.upright[job.grid.upright() as usize] += 1;
+        self.editions[job.edition() as usize - 1] += 1;
+        if job.edition() == 2 && held.answer.number == 0 {
+            for zero in left.field.iter().filter(|&&distance| distance == 0.0) {
+                self.zeros[usize::from(zero.is_sign_negative())] += 1;
+            }
+        }
     }
 
     /// The job asked for in another way gives the same answer and leaves the same buffers.
@@ -187,6 +215,27 @@ impl Seen {
         let upright = Some(r.pick(&NO_AXES));
         self.no_axis += 1;
         self.hold_unchanged(&Job { grid: Grid { upright, ..job.grid.clone() }, ..job.clone() }, 1, &job.grid, r)
+    }
+
+    /// A job of an edition that there is not is refused by 14, with an index beyond the vertices too, with a vertex out of bounds and as a strip; with an
+    /// upright axis that is none, or a grid out of bounds, by 1.
+    fn hold_no_edition(&mut self, job: &Job, r: &mut Random) -> Result<(), String> {
+        let mut job = Job { edition: Some(r.pick(&table::NO_EDITIONS)), ..job.clone() };
+        let grid = job.grid.clone();
+        self.no_edition += 1;
+        self.hold_unchanged(&job, 14, &grid, r)?;
+        if let Some(index) = job.indices.as_mut().and_then(|list| list.first_mut()) {
+            *index = job.vertices.len() as u32;
+            self.hold_unchanged(&job, 14, &grid, r)?;
+        }
+        let vertex = r.below(job.vertices.len() as u64) as usize;
+        job.vertices[vertex][r.below(3) as usize] = [f32::NAN, 1_048_576.125, f32::NEG_INFINITY][r.below(3) as usize];
+        self.hold_unchanged(&job, 14, &grid, r)?;
+        job.topology = Topology::Strip;
+        self.hold_unchanged(&job, 14, &grid, r)?;
+        self.hold_no_axis(&job, r)?;
+        job.grid.size[r.below(3) as usize] = [0.0, -1.0, f32::NAN][r.below(3) as usize];
+        self.hold_unchanged(&job, 1, &grid, r)
     }
 
     /// A strip is refused by 13, with an index beyond the vertices too; with a vertex out of bounds by 2, and with a grid, or its upright axis, by 1.
@@ -241,6 +290,12 @@ impl Seen {
         );
         let [x, y, z] = self.upright;
         println!("rows along x, y and z: {x}, {y} and {z} jobs; with an axis that is none, refused by 1: {}", self.no_axis);
+        let ([first, second], [plus, minus]) = (self.editions, self.zeros);
+        println!(
+            "rows of edition 1 and 2: {first} and {second} jobs, the latter with {plus} cells at +0 and {minus} at -0; \
+             of an edition that there is not: {}; once more with plates on layers of centres: {}",
+            self.no_edition, self.plates
+        );
         println!("lists of a strip's triangles that were held to what the Rust gives the strip: {}", self.strips);
         for (number, [right, wrong]) in &self.unchanged {
             println!(
@@ -279,12 +334,13 @@ fn main() {
             // Two numbers of one generator seed another: seeds and jobs do not run into each other.
             let start = Random::new(seed, 0).next().wrapping_add(index);
             let mut r = Random::new(Random::new(start, 0).next(), index);
-            // The axis has random numbers of its own, so that the meshes stay as they were without it.
-            let mut standing = Random::new(Random::new(!start, 0).next(), index);
+            // The axis and the edition have random numbers of their own, so that the meshes stay as they were without them.
+            let by_chance = |start: u64| Random::new(Random::new(start, 0).next(), index);
+            let mut said = Said { standing: by_chance(!start), edition: by_chance(!start.rotate_left(32)) };
             let (kind, verdict) = match set {
-                "small" => small(index, sign, &mut standing, &mut r, &mut seen),
-                "middle" => large(index, sign, sizes_to_64, true, &mut standing, &mut r, &mut seen),
-                "large" => large(index, sign, sizes_to_100, index % 2 == 0, &mut standing, &mut r, &mut seen),
+                "small" => small(index, sign, &mut said, &mut r, &mut seen),
+                "middle" => large(index, sign, sizes_to_64, true, &mut said, &mut r, &mut seen),
+                "large" => large(index, sign, sizes_to_100, index % 2 == 0, &mut said, &mut r, &mut seen),
                 _ => panic!("no such set: {word}"),
             };
             seen.jobs += 1;
@@ -303,6 +359,12 @@ fn main() {
     }
     seen.print();
     std::process::exit(i32::from(seen.differences > 0));
+}
+
+/// Random numbers for what a job's text may say.
+struct Said {
+    standing: Random,
+    edition: Random,
 }
 
 /// How many rays and triangles, taken together, graze: a ray from each starting cell of the three faces, along its axis.
@@ -327,10 +389,10 @@ fn in_turn(index: u64) -> By {
 
 /// One job over buffers that hold noise, some of them of a wrong length: answer and buffers are the model's. Then the
 /// same with room and pops lifted, against the Rust.
-fn small(index: u64, sign: SignMethod, standing: &mut Random, r: &mut Random, seen: &mut Seen) -> (String, Result<(), String>) {
+fn small(index: u64, sign: SignMethod, said: &mut Said, r: &mut Random, seen: &mut Seen) -> (String, Result<(), String>) {
     let all = match sign {
-        SignMethod::Raycast => [None, Some("old"), Some("long"), Some("upright")].map(kinds::of_set).concat(),
-        SignMethod::Normal => ["normal", "upright"].map(|set| kinds::of_set(Some(set))).concat(),
+        SignMethod::Raycast => [None, Some("old"), Some("long"), Some("upright"), Some("table")].map(kinds::of_set).concat(),
+        SignMethod::Normal => ["normal", "upright", "table"].map(|set| kinds::of_set(Some(set))).concat(),
     };
     let turns = all.len() as u64;
     let kind = match index % 100 {
@@ -348,16 +410,25 @@ fn small(index: u64, sign: SignMethod, standing: &mut Random, r: &mut Random, se
     let Some(mut job) = read.map(|job| Job { sign, ..job }) else {
         return ("unreadable, or beyond the program's limits".to_string(), Ok(()));
     };
-    // What its text says, or else by chance; once in thirty no axis at all.
+    // What its text says, or else by chance; once in thirty no axis at all, and no edition.
+    let Said { standing, edition } = said;
     if standing.once_in(30) {
         job.grid.upright = Some(standing.pick(&NO_AXES));
         seen.no_axis += 1;
     } else if job.grid.upright.is_none() {
         job.grid.upright = Some(standing.below(3) as u32);
     }
+    if edition.once_in(30) {
+        job.edition = Some(edition.pick(&table::NO_EDITIONS));
+    } else if job.edition.is_none() {
+        job.edition = Some(edition.between(1, 2));
+    }
+    seen.no_edition += u64::from(job.edition() == 0 || job.edition() > 2);
     let verdict = hold_to_model(&job, r, seen).and_then(|number| {
         if matches!(number, 0 | 6 | 7 | 8) || number == 13 && bounds::check(&as_list(&job)).is_ok() {
-            seen.hold(&job, &mut Lent::fitting(&job.grid, 4_096), in_turn(index), true)?;
+            let (by, mut lent) = (in_turn(index), Lent::fitting(&job.grid, 4_096));
+            let held = seen.hold(&job, &mut lent, by, true)?;
+            seen.hold_standing(&as_list(&job), 0, true, by, &held, &lent)?;
         }
         Ok(())
     });
@@ -419,7 +490,7 @@ fn accepted(job: &Job) -> Result<(), String> {
 /// Document 01's answer. A job's text lends no buffers and has whole vertices: those two are added here.
 fn owed(job: &Job, uneven: bool, wrong: bool) -> Result<Done, u32> {
     let checked = bounds::check(job);
-    if uneven && checked != Err(1) {
+    if uneven && !matches!(checked, Err(1 | 14)) {
         return Err(2);
     }
     checked?;
@@ -500,7 +571,7 @@ fn large(
     sign: SignMethod,
     sizes: fn(u64, &mut Random) -> ([u32; 3], u32),
     with_crossings: bool,
-    standing: &mut Random,
+    said: &mut Said,
     r: &mut Random,
     seen: &mut Seen,
 ) -> (String, Result<(), String>) {
@@ -508,9 +579,10 @@ fn large(
     // The kinds turn at another pace than the sizes, so that each meets each.
     let kinds = meshes::kinds(sign);
     let kind = kinds[((index + index / 32) % kinds.len() as u64) as usize];
-    let grid = Grid { upright: Some(standing.below(3) as u32), ..meshes::grid(count, r) };
-    let mut lent = Lent::fitting(&grid, 2 * grid.cells() as usize + 4_096);
-    let job = meshes::make(kind, sign, grid, triangles, r);
+    let grid = Grid { upright: Some(said.standing.below(3) as u32), ..meshes::grid(count, r) };
+    let room = 2 * grid.cells() as usize + 4_096;
+    let mut lent = Lent::fitting(&grid, room);
+    let job = Job { edition: Some(said.edition.between(1, 2)), ..meshes::make(kind, sign, grid, triangles, r) };
     let mut verdict = || {
         accepted(&as_list(&job))?;
         let held = seen.hold(&job, &mut lent, in_turn(index), with_crossings)?;
@@ -521,6 +593,15 @@ fn large(
         }
         if index % 12 == 5 {
             seen.hold_no_axis(&job, r)?;
+        }
+        if index % 12 == 8 {
+            seen.hold_no_edition(&job, r)?;
+        }
+        if index % 6 == 1 {
+            let plates = meshes::with_plates(&job, r);
+            accepted(&plates)?;
+            seen.hold(&plates, &mut Lent::fitting(&plates.grid, room), in_turn(index), with_crossings)?;
+            seen.plates += 1;
         }
         if index % 12 == 11 {
             let ladder = meshes::with_ladder(&job, r);
@@ -567,8 +648,24 @@ fn at_bounds(sign: SignMethod, with_rust: bool, seen: &mut Seen) {
         });
         tell_at_bound(&job, &lent, verdict, seen);
     }
+    full_row(sign, with_rust, seen);
     last_off_grid(sign, with_rust, seen);
     strips_at_bounds(sign, with_rust, seen);
+}
+
+/// As many cells as there may be in one layer, all of them inside: in half cells its row is the most that a row can be.
+fn full_row(sign: SignMethod, with_rust: bool, seen: &mut Seen) {
+    let grid = Grid { first: [0.5; 3], size: [1.0; 3], count: [1_024, 1_024, 1], upright: Some(2) };
+    let mesh = shapes::cuboid([-0.43, -0.41, -0.37], [1_023.39, 1_023.42, 0.33]);
+    let mut lent = Lent::fitting(&grid, 2 * grid.cells() as usize);
+    let job = Job { sign, edition: Some(2), ..meshes::plain(grid, mesh) };
+    seen.jobs += 1;
+    let verdict = hold_at_bound(&job, &mut lent, By { records: false, quick: true }, with_rust, seen);
+    let verdict = verdict.and_then(|held| match lent.rows[..] {
+        [2_097_152] => Ok(held),
+        _ => Err(format!("rows {:?}, and all cells are inside", lent.rows)),
+    });
+    tell_at_bound(&job, &lent, verdict, seen);
 }
 
 fn hold_at_bound(original: &Job, lent: &mut Lent, by: By, with_rust: bool, seen: &mut Seen) -> Result<Held, String> {
@@ -576,7 +673,8 @@ fn hold_at_bound(original: &Job, lent: &mut Lent, by: By, with_rust: bool, seen:
     accepted(job)?;
     if with_rust {
         let held = seen.hold(original, lent, by, false)?;
-        seen.hold_standing(job, 2, by, &held, lent)?;
+        seen.hold_standing(job, 2, false, by, &held, lent)?;
+        seen.hold_standing(job, 0, true, by, &held, lent)?;
         return Ok(held);
     }
     let held = rust::alone(job, lent, by);
@@ -584,10 +682,11 @@ fn hold_at_bound(original: &Job, lent: &mut Lent, by: By, with_rust: bool, seen:
         return Err("crossings with Normal signs".to_string());
     }
     if lent.rows != rust::rows(job, &lent.field) {
-        return Err(format!("rows that do not count the field along axis {}", job.grid.upright()));
+        return Err(format!("rows that do not count the field along axis {} in edition {}", job.grid.upright(), job.edition()));
     }
     seen.hold_other(job, by, &held, lent)?;
-    seen.hold_standing(job, 2, by, &held, lent)?;
+    seen.hold_standing(job, 2, false, by, &held, lent)?;
+    seen.hold_standing(job, 0, true, by, &held, lent)?;
     Ok(held)
 }
 
@@ -652,7 +751,7 @@ fn tell_refused(job: &Job, number: u32, what: &str, seen: &mut Seen, r: &mut Ran
 
 /// A strip of as many triangles as there may be: its list is done, and it is refused by 13. So are a strip of one more, which as a list
 /// would be refused by 3, one with an index beyond the vertices, and one of as many vertices as there may be and no indices; with one
-/// vertex more it is 2.
+/// vertex more it is 2. Of an edition that there is not each of these is refused by 14.
 fn strips_at_bounds(sign: SignMethod, with_rust: bool, seen: &mut Seen) {
     let mut r = Random::new(5, 0);
     let grid = meshes::grid([6, 5, 4], &mut r);
@@ -666,7 +765,9 @@ fn strips_at_bounds(sign: SignMethod, with_rust: bool, seen: &mut Seen) {
     let corners: Vec<u32> = (0..job.vertices.len() as u32).chain([0]).collect();
     job.indices = Some(corners);
     tell_refused(&as_list(&job), 3, "131073", seen, &mut r);
+    tell_refused(&Job { edition: Some(3), ..as_list(&job) }, 14, "131073, of an edition that there is not", seen, &mut r);
     tell_refused(&job, 13, "131073 of a strip", seen, &mut r);
+    tell_refused(&Job { edition: Some(0), ..job.clone() }, 14, "131073 of a strip, of an edition that there is not", seen, &mut r);
     job.indices.as_mut().expect("indices")[7] = u32::MAX;
     tell_refused(&job, 13, "131073 of a strip, an index beyond the vertices", seen, &mut r);
     job.indices = None;
@@ -674,4 +775,6 @@ fn strips_at_bounds(sign: SignMethod, with_rust: bool, seen: &mut Seen) {
     tell_refused(&job, 13, "393214 of a strip without indices", seen, &mut r);
     job.vertices.push(second);
     tell_refused(&job, 2, "393215 of a strip without indices", seen, &mut r);
+    job.edition = Some(u32::MAX);
+    tell_refused(&job, 14, "393215 of a strip without indices, of an edition that there is not", seen, &mut r);
 }

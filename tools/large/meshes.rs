@@ -5,6 +5,7 @@
 use crate::random::Random;
 use crate::shapes::{self, Mesh};
 use model::bounds::off_grid;
+use model::convert::as_list;
 use model::grid::{Grid, AXES};
 use model::topology::{self, Topology};
 use model::{Job, SignMethod};
@@ -90,6 +91,29 @@ fn bring_to_box(grid: &Grid, vertices: &mut [[f32; 3]], triangles: &[[u32; 3]]) 
     }
 }
 
+/// The job, its triangles listed, with three plates more, one across each axis, right across the grid and each on a layer of centres: the cells on
+/// them are at +0, or at -0 where two of their crossing counts are odd, if rounding does not move the closest point.
+pub fn with_plates(job: &Job, r: &mut Random) -> Job {
+    let mut job = as_list(job);
+    let given = job.indices.take().unwrap_or_else(|| (0..job.vertices.len() as u32).collect());
+    let mut indices = given[..given.len() / 3 * 3].to_vec();
+    for axis in 0..3 {
+        let (u, v) = ((axis + 1) % 3, (axis + 2) % 3);
+        let layer = job.grid.centre_on(axis, r.below(u64::from(job.grid.count[axis])) as u32);
+        let n = job.vertices.len() as u32;
+        for (right, back) in [(false, false), (true, false), (true, true), (false, true)] {
+            let end = |axis: usize, far: bool| if far { f64::from(job.grid.count[axis]) - 0.625 } else { -0.375 };
+            let mut at = [0.0; 3];
+            (at[u], at[v]) = (end(u, right), end(v, back));
+            let mut corner = place(&job.grid, at);
+            corner[axis] = layer;
+            job.vertices.push(corner);
+        }
+        indices.extend([0, 1, 2, 0, 2, 3].map(|k| n + k));
+    }
+    Job { indices: Some(indices), ..job }
+}
+
 /// The job with one triangle more, a cell beyond the grid's box, as a ladder that was placed too far. It is the first, the last or any
 /// other. In a strip, triangles with corners of both lead to it and away from it.
 pub fn with_ladder(job: &Job, r: &mut Random) -> Job {
@@ -138,7 +162,7 @@ pub fn plain(grid: Grid, Mesh { vertices, triangles }: Mesh) -> Job {
 }
 
 fn lifted(grid: Grid, topology: Topology, vertices: Vec<[f32; 3]>, indices: Option<Vec<u32>>) -> Job {
-    Job { grid, topology, sign: SignMethod::Raycast, vertices, indices, queue: u32::MAX, pops: u32::MAX }
+    Job { grid, topology, sign: SignMethod::Raycast, vertices, indices, queue: u32::MAX, pops: u32::MAX, edition: None }
 }
 
 /// A grid of these counts: plain or odd measures, cubes or not.

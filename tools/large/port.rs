@@ -35,6 +35,7 @@ extern "C" {
         limit: u32,
         pass: u32,
         sign: u32,
+        edition: u32,
         number: *mut u32,
         pops: *mut u32,
         peak: *mut usize,
@@ -134,11 +135,11 @@ pub fn ask_with(job: &Job, coordinates: &[f32], lent: &mut Lent, limit: u32, by:
         SignMethod::Normal => 1,
     };
     if !by.records {
-        return call(job, coordinates, lent, None, [limit, u32::from(by.quick), sign]);
+        return call(job, coordinates, lent, None, [limit, u32::from(by.quick), sign, job.edition()]);
     }
     let mut row: Vec<[u32; 3]> =
         (0..lent.distances.len()).map(|i| [lent.distances[i], lent.cells[i], lent.triangles[i]]).collect();
-    let answer = call(job, coordinates, lent, Some(&mut row), [limit, u32::from(by.quick), sign]);
+    let answer = call(job, coordinates, lent, Some(&mut row), [limit, u32::from(by.quick), sign, job.edition()]);
     for (i, entry) in row.iter().enumerate() {
         [lent.distances[i], lent.cells[i], lent.triangles[i]] = *entry;
     }
@@ -151,7 +152,7 @@ fn call(
     coordinates: &[f32],
     lent: &mut Lent,
     row: Option<&mut [[u32; 3]]>,
-    [limit, pass, sign]: [u32; 3],
+    [limit, pass, sign, edition]: [u32; 4],
 ) -> Answer {
     let (row, row_length) = row.map_or((std::ptr::null_mut(), 0), |row| (row.as_mut_ptr(), row.len()));
     let indices = job.indices.as_deref().unwrap_or(&[]);
@@ -188,6 +189,7 @@ fn call(
             limit,
             pass,
             sign,
+            edition,
             &mut answer.number,
             &mut answer.pops,
             &mut answer.peak,

@@ -15,12 +15,13 @@ fn lent(job: &Job) -> mesh_oracle::Lent<'_> {
     };
     let (strip, indices) = (job.topology == Topology::Strip, job.indices.as_deref());
     let Grid { first, size, count, .. } = job.grid;
-    mesh_oracle::Lent { count, first, size, upright: job.grid.upright(), strip, sign, vertices: &job.vertices, indices }
+    let (upright, edition) = (job.grid.upright(), job.edition());
+    mesh_oracle::Lent { count, first, size, upright, strip, sign, vertices: &job.vertices, indices, edition }
 }
 
-/// The rows that are counted off a field along the job's upright axis.
+/// The rows that are counted off a field along the job's upright axis, in its edition of the table.
 pub fn rows(job: &Job, field: &[f32]) -> Vec<u32> {
-    mesh_oracle::rows(lent(job), field).expect("x, y or z")
+    mesh_oracle::rows(lent(job), field).expect("x, y or z, and edition 1 or 2")
 }
 
 /// The field, the steps and the times of seeding, spreading and crossings, or the words of the panic.
@@ -51,8 +52,8 @@ pub fn alone(job: &Job, lent: &mut Lent, by: By) -> Held {
 }
 
 /// The job with no bound on room and pops, the port's against the Rust's: every cell's bits, the rows that the oracle counts off the Rust's
-/// field along the upright axis, the pops and, if asked for, the crossing counts, which the Rust works out again for it; with Normal signs in
-/// any case. What the Rust has no word for is held to the field: the names and the queue. The Rust is given the original: the job itself, or
+/// field along the upright axis in the job's edition, the pops and, if asked for, the crossing counts, which the Rust works out again for it; with
+/// Normal signs in any case. What the Rust has no word for is held to the field: the names and the queue. The Rust is given the original: the job itself, or
 /// the strip whose triangles the job lists.
 pub fn hold(job: &Job, original: &Job, lent: &mut Lent, by: By, with_crossings: bool) -> Result<Held, String> {
     let mut held = alone(job, lent, by);
@@ -75,7 +76,7 @@ pub fn hold(job: &Job, original: &Job, lent: &mut Lent, by: By, with_crossings: 
         }
     }
     if lent.rows != rows(job, &rust.field) {
-        return Err(format!("rows that do not count the Rust's field along axis {}", job.grid.upright()));
+        return Err(format!("rows that do not count the Rust's field along axis {} in edition {}", job.grid.upright(), job.edition()));
     }
     if with_crossings || job.sign == SignMethod::Normal {
         let counts = crossings(original)?;

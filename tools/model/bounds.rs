@@ -1,5 +1,5 @@
-//! "Bounds on a job" and, in the order of "Reply numbers", what is checked before the run: 1 to 4, with 13 of document 02 between 2
-//! and 3; then 10, which document 02 puts before 5.
+//! "Bounds on a job" and, in the order of "Reply numbers", what is checked before the run: 1 to 4, with 14 of document 02 between 1
+//! and 2, and 13 between 2 and 3; then 10, which document 02 puts before 5.
 
 use crate::geometry::Point;
 use crate::grid::{Grid, AXES};
@@ -12,12 +12,17 @@ const LARGEST_COORDINATE: f32 = 1_048_576.0;
 const SMALLEST_SIZE: f32 = 1.0 / 1_024.0;
 const LARGEST_SIZE: f32 = 1_024.0;
 const LAST_AXIS: u32 = 2;
+const EDITIONS: [u32; 2] = [1, 2];
 const MOST_VERTICES: usize = 393_216;
 const MOST_TRIANGLES: usize = 131_072;
 
 pub fn check(job: &Job) -> Result<(), Refusal> {
     if !grid_in_bounds(job) {
         return Err(1);
+    }
+    // Document 02, §11: any other edition.
+    if !EDITIONS.contains(&job.edition()) {
+        return Err(14);
     }
     let triangles = mesh(job)?;
     // Document 02, §6: no triangles off the grid. What no triangle uses may lie anywhere.

@@ -27,7 +27,7 @@ pub fn convert_any(old: &[u8]) -> Vec<u8> {
 }
 
 /// The text of a strip as that of a list. All lines but that of the topology and those of the indices stay, word for word: those that need not be
-/// there too, `upright=` and `sign=normal`. None is added.
+/// there too, `upright=`, `sign=normal` and `table=`. None is added.
 fn with_indices(old: &[u8], job: &Job) -> Vec<u8> {
     let indices = listed(job);
     let mut out = Vec::new();

@@ -4,12 +4,12 @@
 //!   text.rs       One job, one listing
 //!   convert.rs    The converter of old jobs, of document 02, §7
 //!   tidy.rs       The tidier of meshes, of document 02, §10
-//!   bounds.rs     Bounds on a job; Reply numbers 1 to 4, and 13 and 10 of document 02
+//!   bounds.rs     Bounds on a job; Reply numbers 1 to 4, and 14, 13 and 10 of document 02
 //!   grid.rs       Grid, with the upright axis of document 02, §9
 //!   geometry.rs   Geometry, and the steps on points of "What is carried over"
 //!   order.rs      Order of two distances
 //!   topology.rs   Topology
-//!   run.rs        The run; Reply numbers 6 to 8; the Normal signs of document 02, §8
+//!   run.rs        The run; Reply numbers 6 to 8; the Normal signs of document 02, §8, and the two editions of its layer table, §11
 //!
 //! Nothing here is meant to be fast. Every f32 operation below is one of IEEE 754 binary32, rounded once: that is
 //! what Rust gives. Reply number 5 speaks of lent buffers; a job's text lends none, so it cannot occur.
@@ -40,6 +40,16 @@ pub struct Job {
     pub queue: u32,
     /// Pop limit: how many entries may be taken.
     pub pops: u32,
+    /// The edition of the layer table, where it is said (document 02, §11). Where it is not it is 1: a text may do either, and one that is printed
+    /// again keeps what it says. Any number can be said.
+    pub edition: Option<u32>,
+}
+
+impl Job {
+    /// The edition of the layer table, said or not.
+    pub fn edition(&self) -> u32 {
+        self.edition.unwrap_or(1)
+    }
 }
 
 /// How a cell's sign is had (document 02, §8): by rays that count crossings, or by the side of the named triangle on which its centre lies.
@@ -66,7 +76,7 @@ pub struct Done {
     pub names: Vec<u32>,
     /// Crossing counts along x, y, z of each cell; with Normal signs all are zero.
     pub crossings: Vec<[u32; 3]>,
-    /// Cells with their sign bit set, for each layer along the upright axis.
+    /// What the cells of each layer along the upright axis count together, in the job's edition of the table.
     pub rows: Vec<u32>,
 }
 

@@ -1,5 +1,5 @@
 //! "The run, from document 000", with reply numbers 6 to 8 in the order in which the run meets them. With the Normal signs of document 02,
-//! §8, the distances have their signs from the start, and no ray is cast.
+//! §8, the distances have their signs from the start, and no ray is cast. The rows are those of the job's edition of the layer table (§11).
 
 use crate::geometry::{self, Point, Reply};
 use crate::grid::{floor, Grid, AXES};
@@ -233,14 +233,23 @@ impl<'a> Run<'a> {
         }
     }
 
-    /// Row n: how many cells of layer n, along the upright axis, have their sign bit set, -0 too (document 02, §2 and §9).
+    /// Row n: what the cells of layer n, along the upright axis, count together (document 02, §9).
     fn rows(&self) -> Vec<u32> {
         let mut rows = vec![0; self.grid.layers() as usize];
         for index in 0..self.grid.cells() {
-            if self.field[index as usize].is_sign_negative() {
-                rows[self.grid.layer(index) as usize] += 1;
-            }
+            rows[self.grid.layer(index) as usize] += counts(self.job.edition(), self.field[index as usize]);
         }
         rows
+    }
+}
+
+/// What a cell counts. In edition 1 of the table: 1 if its sign bit is set, -0 too (document 02, §2). In edition 2, in half cells (§11): 2 for a
+/// set sign bit and a magnitude above zero, 1 for magnitude zero with either sign, 0 otherwise.
+pub fn counts(edition: u32, distance: f32) -> u32 {
+    let inside = distance.is_sign_negative();
+    match edition {
+        1 => u32::from(inside),
+        _ if distance.abs() == 0.0 => 1,
+        _ => 2 * u32::from(inside),
     }
 }

@@ -1,5 +1,5 @@
-//! "One job, one listing". Each job has exactly one text, the one that `write` gives; a text is readable if it is
-//! that of some job.
+//! "One job, one listing". Each job, with what it says and what it leaves unsaid, has exactly one text, the one that `write` gives; a text is
+//! readable if it is that of some job.
 
 use crate::geometry::Point;
 use crate::grid::Grid;
@@ -87,6 +87,10 @@ pub fn write(job: &Job) -> String {
         }
     }
     write!(out, "queue={}\npops={}\n", job.queue, job.pops).unwrap();
+    // Document 02, §11: what is said of the edition, any number, or nothing: `table=1` and no line are two texts of the same meaning.
+    if let Some(edition) = job.edition {
+        writeln!(out, "table={edition}").unwrap();
+    }
     out
 }
 
@@ -97,13 +101,18 @@ pub fn read(text: &[u8]) -> Option<Job> {
 }
 
 fn understand(text: &str) -> Option<Job> {
-    // The two lines that need not be there are looked for anywhere.
+    // The three lines that need not be there are looked for anywhere.
     let (signs, others): (Vec<&str>, Vec<&str>) = text.lines().partition(|line| line.starts_with("sign="));
     let sign = if signs.is_empty() { SignMethod::Raycast } else { SignMethod::Normal };
     let (uprights, others): (Vec<&str>, Vec<&str>) = others.into_iter().partition(|line| line.starts_with("upright="));
     let upright = match uprights.first() {
         None => None,
         Some(line) => Some(AXIS_NAMES.iter().position(|name| line.ends_with(name))? as u32),
+    };
+    let (tables, others): (Vec<&str>, Vec<&str>) = others.into_iter().partition(|line| line.starts_with("table="));
+    let edition = match tables.first() {
+        None => None,
+        Some(line) => Some(line.split_once('=')?.1.parse().ok()?),
     };
     let mut lines = others.into_iter();
     let mut value = || lines.next()?.split_once('=').map(|(_, value)| value);
@@ -127,7 +136,7 @@ fn understand(text: &str) -> Option<Job> {
     };
     let queue = value()?.parse().ok()?;
     let pops = value()?.parse().ok()?;
-    Some(Job { grid: Grid { first, size, count, upright }, topology, sign, vertices, indices, queue, pops })
+    Some(Job { grid: Grid { first, size, count, upright }, topology, sign, vertices, indices, queue, pops, edition })
 }
 
 fn three<T>(value: &str, one: impl Fn(&str) -> Option<T>) -> Option<[T; 3]> {

@@ -18,7 +18,8 @@ pub struct Tidied {
     pub triangles: usize,
 }
 
-/// The mesh of a job, tidied. It is checked before: 2, 13, 3, 4, and nothing of the grid. Lent lengths are no matter of a job (5).
+/// The mesh of a job, tidied. It is checked before: 2, 13, 3, 4, and nothing of the grid, nor of the table's edition. Lent lengths are no matter of
+/// a job (5).
 pub fn tidy(job: &Job) -> Result<Tidied, Refusal> {
     let triangles = bounds::mesh(job)?;
     let firsts: Vec<u32> = (0..job.vertices.len()).map(|v| first(&job.vertices, v) as u32).collect();
@@ -76,7 +77,7 @@ fn printed(job: &Job, tidied: &Tidied) -> String {
     merges + &drops + &text::write(&kept(job, tidied))
 }
 
-/// The tidied job. It has explicit indices, and all else as it was said.
+/// The tidied job. It has explicit indices, and all else as it was said, the table's edition too, whatever number it is.
 pub fn kept(job: &Job, tidied: &Tidied) -> Job {
     let coordinates = &tidied.coordinates[..3 * tidied.vertices];
     Job {

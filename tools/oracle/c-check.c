@@ -1,6 +1,7 @@
 /* Asks the oracle's library for document 01's points, from C: the header and the archive belong together.
  * Built and run by tools/oracle/c-check. */
 #include "mesh_oracle.h"
+#include <float.h>
 #include <math.h>
 #include <stdio.h>
 #include <string.h>
@@ -67,17 +68,32 @@ int main(void) {
     expect("the grid from its box", oracle_from_bounding_box(low, high, four.count, &made) == 0 &&
                                         memcmp(&made, &four, sizeof four) == 0);
 
-    /* Cell (x, y, z) of 2 x 3 x 4 has index 12 x + 4 y + z: the signs stand at (0, 0, 1), (0, 2, 3), (1, 2, 3) and, as -0, at (1, 0, 3). */
+    /* Cell (x, y, z) of 2 x 3 x 4 has index 12 x + 4 y + z: the signs stand at (0, 0, 1), (0, 2, 3), (1, 2, 3), there the least magnitude above zero,
+     * at (1, 1, 0), of FLT_MAX, and, as -0, at (1, 0, 3); +0 stands at (0, 1, 2), and all others are at 1. */
     const oracle_grid uneven = {.first = {0, 0, 0}, .size = {1, 1, 1}, .count = {2, 3, 4}};
-    const float signs[24] = {[1] = -1, [11] = -2, [23] = -3, [15] = -0.0f};
-    const uint32_t along[3][4] = {{2, 2}, {2, 0, 2}, {0, 1, 0, 3}};
-    for (uint32_t axis = 0; axis < 3; axis++) {
-        uint32_t rows[4] = {0, 0, 0, 0}, untouched[4] = {7, 7, 7, 7};
-        expect("rows along the upright axis, as many as its count",
-               oracle_rows(&uneven, axis, signs, rows, uneven.count[axis]) == 0 && memcmp(rows, along[axis], sizeof rows) == 0);
-        expect("as many as another's: 5", oracle_rows(&uneven, axis, signs, untouched, uneven.count[(axis + 1) % 3]) == 5 && untouched[0] == 7);
+    float signs[24];
+    for (int i = 0; i < 24; i++)
+        signs[i] = 1;
+    signs[1] = -1, signs[11] = -2, signs[23] = -FLT_TRUE_MIN, signs[16] = -FLT_MAX, signs[15] = -0.0f, signs[6] = 0;
+    /* In whole cells; and in half cells, in which -0 and +0 are one half each. */
+    const uint32_t along[2][3][4] = {{{2, 3}, {2, 1, 2}, {1, 1, 0, 3}}, {{5, 5}, {3, 3, 4}, {2, 2, 1, 5}}};
+    for (uint32_t edition = 1; edition < 3; edition++) {
+        for (uint32_t axis = 0; axis < 3; axis++) {
+            uint32_t rows[4] = {0, 0, 0, 0}, untouched[4] = {7, 7, 7, 7};
+            expect("rows along the upright axis, as many as its count, in each edition",
+                   oracle_rows(&uneven, axis, edition, signs, rows, uneven.count[axis]) == 0 &&
+                       memcmp(rows, along[edition - 1][axis], sizeof rows) == 0);
+            expect("as many as another's: 5",
+                   oracle_rows(&uneven, axis, edition, signs, untouched, uneven.count[(axis + 1) % 3]) == 5 && untouched[0] == 7);
+        }
     }
-    expect("no axis 3: 1", oracle_rows(&uneven, 3, signs, counts, 4) == 1 && oracle_rows(&uneven, UINT32_MAX, signs, counts, 4) == 1);
+    uint32_t untouched[4] = {7, 7, 7, 7};
+    expect("no axis 3: 1", oracle_rows(&uneven, 3, 1, signs, untouched, 4) == 1 && oracle_rows(&uneven, UINT32_MAX, 2, signs, untouched, 4) == 1);
+    expect("no edition 0, 3 or more: 14", oracle_rows(&uneven, 2, 0, signs, untouched, 4) == 14 &&
+                                              oracle_rows(&uneven, 2, 3, signs, untouched, 4) == 14 &&
+                                              oracle_rows(&uneven, 2, UINT32_MAX, signs, untouched, 4) == 14);
+    expect("1 before 14, and 14 before 5", oracle_rows(&uneven, 3, 3, signs, untouched, 4) == 1 &&
+                                               oracle_rows(&uneven, 2, 3, signs, untouched, 3) == 14 && untouched[0] == 7);
 
     char words[100];
     expect("a NaN panics", oracle_compare_distances(NAN, 1, &order) == 1);

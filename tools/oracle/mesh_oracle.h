@@ -43,10 +43,11 @@ int32_t oracle_seeding(const oracle_grid *grid, const oracle_mesh *mesh, uint32_
                        uint32_t *triples);
 /* The crossing counts by Raycast: x, y, z of each cell in turn. */
 int32_t oracle_crossings(const oracle_grid *grid, const oracle_mesh *mesh, uint32_t *counts);
-/* The rows of a field, which the Rust has not (document 02, §9): how many cells with number n on the upright axis (0 x, 1 y, 2 z) have their
- * sign bit set, counted off the field by the Rust's own numbers of a cell. Answers the documents' number: 0; 1 where `upright` is no axis; 5
- * where `length` is not that axis's count. Nothing is written then. */
-uint32_t oracle_rows(const oracle_grid *grid, uint32_t upright, const float *field, uint32_t *rows, size_t length);
+/* The rows of a field, which the Rust has not (document 02, §9): what the cells with number n on the upright axis (0 x, 1 y, 2 z) count together,
+ * off the field and by the Rust's own numbers of a cell. In edition 1 a cell counts 1 if its sign bit is set; in edition 2 (§11) 2 if it is and the
+ * magnitude is above zero, and 1 for magnitude zero with either sign. Answers the documents' number: 0; 1 where `upright` is no axis; 14 where
+ * `edition` is neither 1 nor 2; 5 where `length` is not that axis's count. Nothing is written then. */
+uint32_t oracle_rows(const oracle_grid *grid, uint32_t upright, uint32_t edition, const float *field, uint32_t *rows, size_t length);
 /* The triangles in order, three vertex numbers each; at most room triples are written. */
 int32_t oracle_get_triangles(const oracle_mesh *mesh, uint32_t *triples, size_t room, size_t *triangles);
 

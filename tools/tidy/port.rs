@@ -44,7 +44,7 @@ impl Mesh {
         self.indices.as_ref().map_or(self.vertices(), Vec::len) / 3
     }
 
-    /// The same as a job of the model, on no grid that anything looks at.
+    /// The same as a job of the model, on no grid and of no edition that anything looks at.
     pub fn job(&self) -> Job {
         let point = |v: &[u32]| -> Point { [v[0], v[1], v[2]].map(f32::from_bits) };
         Job {
@@ -55,6 +55,7 @@ impl Mesh {
             indices: self.indices.clone(),
             queue: 0,
             pops: 0,
+            edition: Some(0),
         }
     }
 }

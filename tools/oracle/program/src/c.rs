@@ -50,12 +50,13 @@ impl OracleMesh {
             _ => (Sign::Normal, Order::Source),
         };
         let strip = self.strip != 0;
-        (Lent { count, first, size, upright: NO_AXIS, strip, sign, vertices, indices }, order)
+        (Lent { count, first, size, upright: NO_AXIS, strip, sign, vertices, indices, edition: NO_EDITION }, order)
     }
 }
 
-/// The Rust's grid has no upright axis: what asks for rows says it by itself.
+/// The Rust's grid has no upright axis, and the Rust no editions of a table: what asks for rows says both by itself.
 const NO_AXIS: u32 = 3;
+const NO_EDITION: u32 = 0;
 
 /// For what depends on the mesh alone.
 const NO_GRID: OracleGrid = OracleGrid { first: [0.0; 3], size: [1.0; 3], count: [1; 3] };
@@ -124,16 +125,23 @@ pub unsafe extern "C" fn oracle_crossings(grid: &OracleGrid, mesh: &OracleMesh, 
     })
 }
 
-/// Not the Rust's own: it answers a number of the documents, 0, 1 or 5.
+/// Not the Rust's own: it answers a number of the documents, 0, 1, 14 or 5.
 #[no_mangle]
-pub unsafe extern "C" fn oracle_rows(grid: &OracleGrid, upright: u32, field: *const f32, counts: *mut u32, length: usize) -> u32 {
+pub unsafe extern "C" fn oracle_rows(
+    grid: &OracleGrid,
+    upright: u32,
+    edition: u32,
+    field: *const f32,
+    counts: *mut u32,
+    length: usize,
+) -> u32 {
     let OracleGrid { first, size, count } = *grid;
-    let job = Lent { count, first, size, upright, strip: false, sign: Sign::Raycast, vertices: &[], indices: None };
+    let job = Lent { count, first, size, upright, strip: false, sign: Sign::Raycast, vertices: &[], indices: None, edition };
     let cells = count.iter().map(|&n| n as usize).product();
     match rows(job, from_raw_parts(field, cells)) {
-        None => 1,
-        Some(rows) if rows.len() != length => 5,
-        Some(rows) => {
+        Err(number) => number,
+        Ok(rows) if rows.len() != length => 5,
+        Ok(rows) => {
             from_raw_parts_mut(counts, length).copy_from_slice(&rows);
             0
         }

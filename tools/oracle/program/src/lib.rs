@@ -36,7 +36,8 @@ impl Sign {
     }
 }
 
-/// One job, without document 01's bounds: the Rust has none. Nor has it an upright axis (document 02, §9: 0 x, 1 y, 2 z): only `rows` looks at it.
+/// One job, without document 01's bounds: the Rust has none. Nor has it an upright axis (document 02, §9: 0 x, 1 y, 2 z) or editions of a table
+/// (§11): only `rows` looks at them.
 pub struct Job {
     pub count: [u32; 3],
     pub first: [f32; 3],
@@ -46,12 +47,13 @@ pub struct Job {
     pub sign: Sign,
     pub vertices: Vec<[f32; 3]>,
     pub indices: Option<Vec<u32>>,
+    pub edition: u32,
 }
 
 impl Job {
     pub fn lent(&self) -> Lent<'_> {
-        let Job { count, first, size, upright, strip, sign, ref vertices, ref indices } = *self;
-        Lent { count, first, size, upright, strip, sign, vertices, indices: indices.as_deref() }
+        let Job { count, first, size, upright, strip, sign, ref vertices, ref indices, edition } = *self;
+        Lent { count, first, size, upright, strip, sign, vertices, indices: indices.as_deref(), edition }
     }
 }
 
@@ -66,6 +68,7 @@ pub struct Lent<'a> {
     pub sign: Sign,
     pub vertices: &'a [[f32; 3]],
     pub indices: Option<&'a [u32]>,
+    pub edition: u32,
 }
 
 /// What the Rust gives for a job. Times are in milliseconds: seeding, spreading, crossings.
@@ -121,16 +124,26 @@ pub fn run_in(order: Order, job: Lent) -> Result<Answer, String> {
     Ok(Answer { field, steps, times: [seeding, spreading, crossings] })
 }
 
-/// The rows of a field, which the Rust has not: for each number on the upright axis, how many of the cells that have it have their sign bit set
-/// (document 02, §2 and §9). What number a cell has is the Rust's own answer. None where the axis is no axis, which is a case of refusal 1.
-pub fn rows(job: Lent, field: &[f32]) -> Option<Vec<u32>> {
+/// The rows of a field, which the Rust has not: for each number on the upright axis, what the cells that have it count together (document 02, §9).
+/// What number a cell has is the Rust's own answer. By the bits of its distance, in edition 1 of the table a cell counts its sign bit (§2); in edition
+/// 2 the two zeros count 1, and every other the sign bit twice (§11). Or a number of the documents: 1 where the axis is no axis, and 14 where
+/// there is no such edition.
+pub fn rows(job: Lent, field: &[f32]) -> Result<Vec<u32>, u32> {
     let (_, grid, _) = in_types_of!(mesh_to_sdf, job);
     let upright = job.upright as usize;
-    let mut rows = vec![0; *grid.get_cell_count().get(upright)?];
+    let mut rows = vec![0; *grid.get_cell_count().get(upright).ok_or(1u32)?];
+    let counts: fn(u32) -> u32 = match job.edition {
+        1 => |bits| bits >> 31,
+        2 => |bits| match bits {
+            0x0000_0000 | 0x8000_0000 => 1,
+            _ => bits >> 31 << 1,
+        },
+        _ => return Err(14),
+    };
     for (cell, distance) in field.iter().enumerate() {
-        rows[grid.get_cell_integer_coordinates(cell)[upright]] += distance.to_bits() >> 31;
+        rows[grid.get_cell_integer_coordinates(cell)[upright]] += counts(distance.to_bits());
     }
-    Some(rows)
+    Ok(rows)
 }
 
 /// What seeding leaves: for each cell the vertex numbers of its triangle, and the distance. The queue has no part in it.

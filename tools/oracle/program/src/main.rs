@@ -2,7 +2,8 @@
 //!
 //!   cell=INDEX BITS     each cell, the distance's bits as eight hex digits
 //!   steps=N             propagation steps, as the source's log counts them
-//!   row=LAYER COUNT     how many cells of each layer along the upright axis have their sign bit set: counted off the field, the Rust has no rows
+//!   row=LAYER COUNT     what the cells of each layer along the upright axis count together in the job's edition of the table: counted off the
+//!                       field, the Rust has no rows; none where there is no such edition
 //!   crossing=I X Y Z    with --crossings: the ray pass's counts of each cell; with Normal signs there are none
 //!
 //! or one line: `panic=WORDS` where the source panics, `unreadable` where the text is no job.
@@ -56,7 +57,11 @@ fn listing(job: &Job, order: Order, with_crossings: bool) -> Result<String, Stri
         writeln!(out, "cell={cell} {:08x}", distance.to_bits()).unwrap();
     }
     writeln!(out, "steps={}", answer.steps).unwrap();
-    for (layer, count) in rows(job.lent(), &answer.field).expect("a text has one of three axes").iter().enumerate() {
+    let rows = match rows(job.lent(), &answer.field) {
+        Err(14) => Vec::new(),
+        rows => rows.expect("a text has one of three axes"),
+    };
+    for (layer, count) in rows.iter().enumerate() {
         writeln!(out, "row={layer} {count}").unwrap();
     }
     if with_crossings {

@@ -12,7 +12,7 @@ pub fn read(text: &[u8]) -> Option<Job> {
     let count = three(value(&mut lines, "count")?, decimal)?;
     let first = three(value(&mut lines, "first")?, float)?;
     let size = three(value(&mut lines, "size")?, float)?;
-    // One of the two lines that may be missing (document 02, §9): without it the axis is z, and none has another spelling.
+    // One of the three lines that may be missing (document 02, §9): without it the axis is z, and none has another spelling.
     let upright = match lines.clone().next()? {
         "upright=x" => Some(0),
         "upright=y" => Some(1),
@@ -26,7 +26,7 @@ pub fn read(text: &[u8]) -> Option<Job> {
         "strip" => true,
         _ => return None,
     };
-    // The other (§8); it has one spelling.
+    // Another (§8); it has one spelling.
     let said = lines.clone().next()? == "sign=normal";
     let sign = if said { Sign::Normal } else { Sign::Raycast };
     let mut lines = lines.skip(usize::from(said));
@@ -38,8 +38,13 @@ pub fn read(text: &[u8]) -> Option<Job> {
     };
     decimal(value(&mut lines, "queue")?)?;
     decimal(value(&mut lines, "pops")?)?;
+    // And the third, the last of all (§11): without it the edition is 1, and any number can be said.
+    let edition = match lines.next() {
+        None => 1,
+        Some(line) => decimal(line.strip_prefix("table=")?)?,
+    };
     let cells = count.iter().fold(1u128, |cells, &n| cells * u128::from(n));
-    (lines.next().is_none() && cells <= MOST_CELLS).then_some(Job { count, first, size, upright, strip, sign, vertices, indices })
+    (lines.next().is_none() && cells <= MOST_CELLS).then_some(Job { count, first, size, upright, strip, sign, vertices, indices, edition })
 }
 
 fn value<'a>(lines: &mut impl Iterator<Item = &'a str>, key: &str) -> Option<&'a str> {
