@@ -60,7 +60,8 @@ grid-not-asked j k t vs is = λ i. meshOf (floatsOf (flat (vs i))) (t i) (givenO
 
 -- ---- of the tidied job
 
--- all lines but those of the mesh are as they were said: of the grid, of the upright axis and of the signs, queue room and pop limit
+-- all lines but those of the mesh are as they were said: of the grid, of the upright axis and of the signs, queue room, pop limit and the table's
+-- edition
 pub said-as-before : (j : TextJob) → (tidiedJob j .head ≡ j .head) × (tidiedJob j .tail ≡ j .tail)
 said-as-before j = (refl, refl)
 
