@@ -58,15 +58,19 @@ one-output o p (listing-of j r e u) (unreadable n v) = absurd (n j r e)
 one-output o p (unreadable n u) (listing-of k s f v) = absurd (n k s f)
 one-output o p (unreadable n u) (unreadable m v) = u ∙ sym v
 
+-- that of a job's text is its listing
+printed-is : (j : TextJob) → Readable j → (o : List ℕ) → Prints (jobText j) o → o ≡ listing j
+printed-is j r o p = one-output o (listing j) p (listing-of j r refl refl)
+
 -- "without the line it is z": the line `upright=z` can be put in or left out (`said-between`, crates/text/proofs/Said.antt, has where)
 pub z-or-nothing-printed : (j : TextJob) → Readable j → (o p : List ℕ)
     → Prints (jobText (saying Unsaid j)) o
     → Prints (jobText (saying Z j)) p
     → o ≡ p
 z-or-nothing-printed j r o p without with =
-    one-output o (listing (saying Unsaid j)) without (listing-of (saying Unsaid j) (said-readable Unsaid j r) refl refl)
+    printed-is (saying Unsaid j) (said-readable Unsaid j r) o without
     ∙ z-or-nothing-listed j
-    ∙ one-output (listing (saying Z j)) p (listing-of (saying Z j) (said-readable Z j r) refl refl) with
+    ∙ sym (printed-is (saying Z j) (said-readable Z j r) p with)
 
 -- "a job without it is edition 1": the line `table=1` can be put at the end or left out (`said-last`, likewise)
 pub one-or-nothing-printed : (j : TextJob) → Readable j → (o p : List ℕ)
@@ -74,13 +78,11 @@ pub one-or-nothing-printed : (j : TextJob) → Readable j → (o p : List ℕ)
     → Prints (jobText (sayingTable (Table.Said 1) j)) p
     → o ≡ p
 one-or-nothing-printed j r o p without with =
-    one-output o (listing (sayingTable Table.Unsaid j)) without (listing-of (sayingTable Table.Unsaid j) (table-readable Table.Unsaid j tt r) refl refl)
+    printed-is (sayingTable Table.Unsaid j) (table-readable Table.Unsaid j tt r) o without
     ∙ one-or-nothing-listed j
-    ∙ one-output (listing (sayingTable (Table.Said 1) j)) p
-    (listing-of (sayingTable (Table.Said 1) j) (table-readable (Table.Said 1) j (omega arith) r) refl refl)
-    with
+    ∙ sym (printed-is (sayingTable (Table.Said 1) j) (table-readable (Table.Said 1) j (omega arith) r) p with)
 
--- "any other edition is 14, after 1": it is read, and no number of the format is 9
+-- "any other edition is 14, after 1": whatever number of the format is said, so none is answered 9
 pub other-edition-printed : (j : TextJob) → Readable j → (n : ℕ) → Word n
     → wrongGrid (gridOf (j .head)) ≡ false
     → wrongEdition n ≡ true
@@ -88,6 +90,4 @@ pub other-edition-printed : (j : TextJob) → Readable j → (n : ℕ) → Word 
     → Prints (jobText (sayingTable (Table.Said n) j)) o
     → o ≡ answerLine 14
 other-edition-printed j r n w g e o p =
-    one-output o (listing (sayingTable (Table.Said n) j)) p
-    (listing-of (sayingTable (Table.Said n) j) (table-readable (Table.Said n) j w r) refl refl)
-    ∙ other-edition-listed j n g e
+    printed-is (sayingTable (Table.Said n) j) (table-readable (Table.Said n) j w r) o p ∙ other-edition-listed j n g e
