@@ -52,8 +52,8 @@ one-tidying o p (no-job n u) (no-job l v) = u ∙ sym v
 pub refused-by : (m : Mesh) → (meshRefusal m ≡ 0) ⊎ List·Memᴰ (meshRefusal m) (2 ∷ 13 ∷ 3 ∷ 4 ∷ [])
 refused-by m = first-is (meshChecks m)
 
--- No grid is looked at: what is printed but for the other lines goes by the mesh alone, and jobs of one topology, with the same vertices
--- and indices, have one mesh, whatever their grids.
+-- No grid and no edition is looked at: what is printed but for the other lines goes by the mesh alone, and jobs of one topology, with the same
+-- vertices and indices, have one mesh, whatever their grids and editions.
 pub grid-not-asked : (j k : TextJob) → j .head .topology ≡ k .head .topology → j .vertices ≡ k .vertices → j .indices ≡ k .indices
     → meshAsked j ≡ meshAsked k
 grid-not-asked j k t vs is = λ i. meshOf (floatsOf (flat (vs i))) (t i) (givenOf (is i)) (indexList (is i))

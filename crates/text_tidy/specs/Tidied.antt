@@ -1,6 +1,6 @@
 -- "It reads a job and prints `merge=` (vertex, its first) for each merge, `drop=` (triangle; 1 for equal numbers, else 2) for each drop,
 -- both ascending, then the tidied job with explicit indices. .. Refusals: 2, 13, 3, 4" (document 02, §10). What merges, drops and the
--- tidied mesh are is crate `tidy`'s to say. No grid is looked at. Definitions only.
+-- tidied mesh are is crate `tidy`'s to say. No grid and no edition is looked at. Definitions only.
 use Prim.Native.Nat.{ℕ, zero, suc}
 use Prim.Native.String.{String}
 use mathlib.Core.Path.{_≡_}

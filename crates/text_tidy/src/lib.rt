@@ -1,5 +1,5 @@
 // A job's text tidied (document 02, §10): what the tidier does with its input, as one function on lent bytes. It is about
-// the mesh: no job is refused for its grid. A part of the port: users run the tidier.
+// the mesh: no job is refused for its grid or its edition. A part of the port: users run the tidier.
 //
 //   lines      what went: a line for each merge and each drop
 //   patterns   the bits of floats
