@@ -36,8 +36,9 @@ pub struct SdfGrid {
     pub upright: u32,
 }
 
-// What a job is asked for by value, beside the grid and the mesh. `pass` is 0 for the plain pass, `sign` 0 for Raycast. `edition`, of the
-// layer table, is 1 or 2; behind the others, so that a record which C initialises by position and leaves short has 0 there, which is refused.
+// What a job is asked for by value, beside the grid and the mesh. `pass` is 0 for the plain pass, `sign` 0 for Raycast.
+// `edition`, of the layer table, is 1 or 2; behind the others, so that a record which C initialises by position and leaves
+// short has 0 there, which is refused.
 #[repr(C)]
 pub struct SdfTerms {
     pub limit: u32,

@@ -75,7 +75,8 @@ fn finish(
     requires { ⌜ Long grid (now crossings) (now rows) ⌝ }
     ensures { λ _.
         let m = meshOf (now (vertices .entry)) topology given (now (indices .entry)) in
-        ⌜ Finished grid m (terms .sign) (terms .edition) (now (field .entry)) (now (field .exit)) (now (crossings .exit)) (now (rows .exit)) ⌝ }
+        ⌜ Finished grid m (terms .sign) (terms .edition) (now (field .entry)) (now (field .exit)) (now (crossings .exit))
+        (now (rows .exit)) ⌝ }
     ensures { λ r. ⌜ r ≡ grazedBy (terms .sign) grid (meshOf (now (vertices .entry)) topology given (now (indices .entry))) ⌝ }
 {
     let grazed = sign_field(
@@ -112,7 +113,8 @@ pub fn close(
         ⌜ Fit grid m × (length (now field) ≡ total grid) × Long grid (now crossings) (now rows) ⌝ }
     ensures { λ r.
         let m = meshOf (now (vertices .entry)) topology given (now (indices .entry)) in
-        ⌜ Closed grid m (terms .sign) (terms .edition) ran (now (field .entry)) (now (names .entry)) (now (crossings .entry)) (now (rows .entry))
+        ⌜ Closed grid m (terms .sign) (terms .edition) ran (now (field .entry)) (now (names .entry)) (now (crossings .entry))
+        (now (rows .entry))
         (now (field .exit)) (now (names .exit)) (now (crossings .exit)) (now (rows .exit)) r ⌝ }
 {
     if ran.number != 0 {

@@ -1,6 +1,6 @@
-// The rows: how much of each layer is inside, by the edition of the table. In edition 1 a cell counts "when its sign bit is set" (document 02,
-// §2), -0 too; edition 2 is in half cells, and a cell at distance zero counts one (§11). The layers lie along the upright axis (§9). A part of
-// the port: users call `sdf`.
+// The rows: how much of each layer is inside, by the edition of the table. In edition 1 a cell counts "when its sign bit is
+// set" (document 02, §2), -0 too; edition 2 is in half cells, and a cell at distance zero counts one (§11). The layers lie
+// along the upright axis (§9). A part of the port: users call `sdf`.
 //
 // Along any axis the field is a row of blocks. A block has the cells of every layer in turn, `step` of each side by side, where `step` is
 // by how much the index grows from a layer to the next: with z upright a block is one column of cells, with x upright the whole field.
