@@ -8,27 +8,27 @@ use geo_box::TriangleBox;
 use geo_ray::RayHit;
 use point::{Axis, Point};
 
-#[derive(Drop)]
+#[derive(Clone, Copy)]
 pub enum BoxAnswer {
     OutOfBounds,
     Is(TriangleBox),
 }
 
-#[derive(Drop)]
+#[derive(Clone, Copy)]
 pub enum PointAnswer {
     OutOfBounds,
     NotANumber,
     Is(Point),
 }
 
-#[derive(Drop)]
+#[derive(Clone, Copy)]
 pub enum DistanceAnswer {
     OutOfBounds,
     NotANumber,
     Is(f32),
 }
 
-#[derive(Drop)]
+#[derive(Clone, Copy)]
 pub enum RayAnswer {
     OutOfBounds,
     Is(RayHit),

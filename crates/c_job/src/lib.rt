@@ -1,5 +1,6 @@
 // What the whole job takes and gives for C beside slices and the records of `c_records`: a topology, whether indices
 // are given, and the answer.
+#![tactic(auto)]
 ghost use Rattle.std.specs.Prelude.{◌≡◌};
 ghost use Rattle.c_job.specs.Job.{topology_in, indices_in, answer_out};
 
@@ -9,7 +10,7 @@ use mesh_topology::{Indices, Topology};
 // Document 01's number, 0 where the job is done, with the entries taken, the most that waited at once and how often a ray
 // grazed a triangle; on a refusal all three are 0.
 #[repr(C)]
-#[derive(Drop)]
+#[derive(Clone, Copy)]
 pub struct SdfJobAnswer {
     pub number: u32,
     pub pops: u32,

@@ -1,6 +1,7 @@
 // What C hands in and gets back: records with C's layout, by value. An answer has document 01's number, 0
 // where a value is given, and the value, all zero where it is refused. The answers are made by `c_grid`
 // and `c_geo`.
+#![tactic(auto)]
 ghost use Rattle.std.specs.Prelude.{◌≡◌};
 ghost use Rattle.c_records.specs.C as C;
 
@@ -9,7 +10,7 @@ use point::Point;
 use terms::{Pass, SignMethod, Terms};
 
 #[repr(C)]
-#[derive(Drop)]
+#[derive(Clone, Copy)]
 pub struct SdfPoint {
     pub x: f32,
     pub y: f32,
@@ -18,7 +19,7 @@ pub struct SdfPoint {
 
 // A cell, or how many cells there are along each axis.
 #[repr(C)]
-#[derive(Drop)]
+#[derive(Clone, Copy)]
 pub struct SdfCell {
     pub x: u32,
     pub y: u32,
@@ -28,7 +29,7 @@ pub struct SdfCell {
 // `upright` is 0 for x, 1 for y, 2 for z; any other number is out of bounds. Behind the others, so that a record which C
 // initialises by position and leaves short has 0 there.
 #[repr(C)]
-#[derive(Drop)]
+#[derive(Clone, Copy)]
 pub struct SdfGrid {
     pub first: SdfPoint,
     pub size: SdfPoint,
@@ -40,7 +41,7 @@ pub struct SdfGrid {
 // `edition`, of the layer table, is 1 or 2; behind the others, so that a record which C initialises by position and leaves
 // short has 0 there, which is refused.
 #[repr(C)]
-#[derive(Drop)]
+#[derive(Clone, Copy)]
 pub struct SdfTerms {
     pub limit: u32,
     pub pass: u32,
@@ -49,28 +50,28 @@ pub struct SdfTerms {
 }
 
 #[repr(C)]
-#[derive(Drop)]
+#[derive(Clone, Copy)]
 pub struct SdfNumberAnswer {
     pub number: u32,
     pub value: u32,
 }
 
 #[repr(C)]
-#[derive(Drop)]
+#[derive(Clone, Copy)]
 pub struct SdfCellAnswer {
     pub number: u32,
     pub cell: SdfCell,
 }
 
 #[repr(C)]
-#[derive(Drop)]
+#[derive(Clone, Copy)]
 pub struct SdfPointAnswer {
     pub number: u32,
     pub point: SdfPoint,
 }
 
 #[repr(C)]
-#[derive(Drop)]
+#[derive(Clone, Copy)]
 pub struct SdfBoxAnswer {
     pub number: u32,
     pub min: SdfPoint,
@@ -79,7 +80,7 @@ pub struct SdfBoxAnswer {
 
 // `inside` is 1 for a point inside the grid, and 0 for one outside, whose nearest cell is given.
 #[repr(C)]
-#[derive(Drop)]
+#[derive(Clone, Copy)]
 pub struct SdfSnapAnswer {
     pub number: u32,
     pub inside: u32,
@@ -87,14 +88,14 @@ pub struct SdfSnapAnswer {
 }
 
 #[repr(C)]
-#[derive(Drop)]
+#[derive(Clone, Copy)]
 pub struct SdfGridAnswer {
     pub number: u32,
     pub grid: SdfGrid,
 }
 
 #[repr(C)]
-#[derive(Drop)]
+#[derive(Clone, Copy)]
 pub struct SdfDistanceAnswer {
     pub number: u32,
     pub distance: f32,
@@ -102,7 +103,7 @@ pub struct SdfDistanceAnswer {
 
 // `hit` is 1 for a hit at t. `grazed` is 1 for a ray that grazed, which is no hit. Both are 0 for a miss.
 #[repr(C)]
-#[derive(Drop)]
+#[derive(Clone, Copy)]
 pub struct SdfRayAnswer {
     pub number: u32,
     pub hit: u32,
@@ -112,7 +113,7 @@ pub struct SdfRayAnswer {
 
 // `order` is -1 for less, 0 for equal, 1 for greater.
 #[repr(C)]
-#[derive(Drop)]
+#[derive(Clone, Copy)]
 pub struct SdfOrderAnswer {
     pub number: u32,
     pub order: i32,

@@ -1,4 +1,5 @@
 // What reading and writing a scanner's file give for C beside slices: the answer.
+#![tactic(auto)]
 ghost use Rattle.std.specs.Prelude.{◌≡◌};
 ghost use Rattle.c_stl.specs.Stl.{stl_out};
 
@@ -6,7 +7,7 @@ use stl::StlAnswer;
 
 // Document 02's number, 0 where nothing is refused, with the facets that were found, read or written; on a refusal 0.
 #[repr(C)]
-#[derive(Drop)]
+#[derive(Clone, Copy)]
 pub struct SdfStlAnswer {
     pub number: u32,
     pub facets: u32,

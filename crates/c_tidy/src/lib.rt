@@ -1,4 +1,5 @@
 // What tidying a mesh gives for C beside slices: the answer.
+#![tactic(auto)]
 ghost use Rattle.std.specs.Prelude.{◌≡◌};
 ghost use Rattle.c_tidy.specs.Tidy.{tidy_out};
 
@@ -7,7 +8,7 @@ use tidy_mesh::TidyAnswer;
 // Document 02's number, 0 where nothing is refused, with how many vertices and triangles are kept; on a refusal both are
 // 0.
 #[repr(C)]
-#[derive(Drop)]
+#[derive(Clone, Copy)]
 pub struct SdfTidyAnswer {
     pub number: u32,
     pub vertices: u32,

@@ -2,6 +2,7 @@
 // are changed first, and whoever has the queue puts the entries in afterwards. Here are the entries of a batch,
 // the batch of a cell, and the counts; crate `entries_gather` makes the batch of a pop. A part of the port: users call
 // `sdf`.
+#![tactic(auto)]
 ghost use Rattle.std.specs.Prelude.{◌≡◌, ◌≤◌, ◌<◌, length};
 ghost use Rattle.entries_batch.specs.Batch.{entry_in_lem, queued_by, Cell};
 
@@ -10,7 +11,7 @@ use run_state::Progress;
 
 // The entries, in the order in which they are queued: the count of them, their triangle, their cells and the keys
 // of their distances. The number is 0, or that of the refusal that was met after the last of them.
-#[derive(Drop)]
+#[derive(Clone, Copy)]
 pub struct Batch {
     pub number: u32,
     pub count: usize,

@@ -1,9 +1,10 @@
 // An offer of a pop, made over the field and the names alone. A part of the port: users call `sdf`.
+#![tactic(auto)]
 ghost use Rattle.run_around.specs.Around.{Passable};
 ghost use Rattle.entries_consider.specs.Considered.{Considered};
 
 // What an offer came to: refused by a number, or taken at a distance, or neither.
-#[derive(Drop)]
+#[derive(Clone, Copy)]
 pub struct Verdict {
     pub number: u32,
     pub taken: bool,

@@ -1,6 +1,7 @@
 // A job over a row of records of the function's own, for callers that lend no row (document 01, "Choosing the form by
 // place"): so that the job over records can be held to the stored sample of whole jobs. A part of the port: users call
 // `sdf`, or run the job program.
+#![tactic(auto)]
 ghost use Rattle.std.specs.Prelude.{◌≤◌};
 ghost use Rattle.job_checks.specs.Job.{job_of};
 ghost use Rattle.job_outcome.specs.Outcome.{outcome};

@@ -2,6 +2,7 @@
 // crates `run_queue` and `run_spread`, with the same definitions for promises. Offers are made over the field and the
 // names alone, as a batch; the batch is queued afterwards. Here are its counts; `entries_push_all` queues a batch,
 // `entries_queue` the cells, and `entries_spread` spreads. A part of the port: users call `sdf`.
+#![tactic(auto)]
 ghost use Rattle.std.specs.Prelude.{◌≡◌, ◌≤◌, ◌<◌};
 ghost use Rattle.entries_state.specs.Records.{stopped_by, popped_by};
 

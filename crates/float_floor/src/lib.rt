@@ -1,4 +1,5 @@
 // f32::floor, the port's own: as a whole number, and as a cell of a row. A part of the port: users call `sdf`.
+#![tactic(auto)]
 ghost use Rattle.std.specs.Prelude.{◌≡◌, ◌^◌, ◌<◌, true, pos, negsuc};
 ghost use Rattle.float.specs.Arith.{f0, ◌≦◌, ◌≺◌};
 ghost use Rattle.float_floor.specs.Cell.{floor_of, Snapped};
@@ -49,7 +50,7 @@ pub fn floor(x: f32) -> i64
 }
 
 // A cell of a row, and whether the quotient that it is for lay outside the row.
-#[derive(Drop)]
+#[derive(Clone, Copy)]
 pub struct Place {
     pub index: u32,
     pub clamped: bool,

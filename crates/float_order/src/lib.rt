@@ -4,6 +4,7 @@
 // A magnitude is carried here as its bit pattern: without a sign bit patterns are ordered as the
 // numbers that they stand for, infinity's being the largest, so one comparison of whole numbers
 // orders two magnitudes.
+#![tactic(auto)]
 ghost use Rattle.std.specs.Prelude.{◌≡◌, not, ◌≤◌, T};
 ghost use Rattle.std.specs.Float.{binary32};
 ghost use Rattle.std.specs.Float.Ieee.{is_nan, of_bits};
@@ -14,7 +15,7 @@ ghost use Rattle.float_order.specs.Asked.{Compared};
 // The sign bit of a pattern.
 const SIGN: u32 = 0x8000_0000;
 
-#[derive(Drop)]
+#[derive(Clone, Copy)]
 pub enum Order {
     Less,
     Equal,
@@ -22,7 +23,7 @@ pub enum Order {
 }
 
 // The answer of the comparison asked by itself.
-#[derive(Drop)]
+#[derive(Clone, Copy)]
 pub enum Comparison {
     Is(Order),
     NotANumber,

@@ -1,6 +1,7 @@
 // A table for guesses at a root, a crate by itself since its check takes long. `float_root` corrects each guess,
 // so that nothing rests on these numbers but the time that a root takes. tools/root-check/table.py prints the
 // rows.
+#![tactic(auto)]
 ghost use Rattle.std.specs.Prelude.{◌^◌, ◌≤◌};
 
 // Of the roots from 2^23 to 2^24 the parabola nearest to those in part i: 64 parts for an even

@@ -1,6 +1,7 @@
 // A triangle is offered to a cell by its signed square: the squared distance, negated where the cell lies behind the triangle.
 // Here is the distance that it stands for; and most offers are no nearer than what the cell holds: where the square already
 // shows that, no root is worked out. A part of the port: users call `sdf`.
+#![tactic(auto)]
 ghost use Rattle.std.specs.Prelude.{◌≡◌};
 ghost use Rattle.float_shortcut.specs.Shown.{signed_root, size_of, Shown};
 

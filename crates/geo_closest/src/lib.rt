@@ -1,6 +1,7 @@
 // The point of a segment and of a triangle that is closest to a point, after Embree. What depends on the
 // triangle alone is a `Facet`, made once for many points. Here are its parts, and a triangle with equal corners;
 // `geo_closest_branching` has the others. A part of `ask_geo`.
+#![tactic(auto)]
 ghost use Rattle.std.specs.Prelude.{◌≡◌};
 ghost use Rattle.point.specs.Point.{◌+ᵥ◌, ◌*ᵥ◌};
 ghost use Rattle.geo_closest.specs.Closest as Closest;
@@ -8,7 +9,7 @@ ghost use Rattle.geo_closest.specs.Closest as Closest;
 use point::Point;
 
 // A triangle made ready: its corners, its edges, and whether two of its corners are equal.
-#[derive(Drop)]
+#[derive(Clone, Copy)]
 pub struct Facet {
     pub a: Point,
     pub b: Point,
@@ -20,7 +21,7 @@ pub struct Facet {
 }
 
 // Where a point lies along the edges ab and ac, seen from a (d1, d2), from b (d3, d4) and from c (d5, d6).
-#[derive(Drop)]
+#[derive(Clone, Copy)]
 pub struct Dots {
     pub d1: f32,
     pub d2: f32,

@@ -1,6 +1,7 @@
 // The distance of a point to a triangle, and its square, which spares the root where it is not needed; and to what a
 // triangle with equal corners comes down, which `geo_squares` asks once for many points.
 // A part of `ask_geo`.
+#![tactic(auto)]
 ghost use Rattle.std.specs.Prelude.{◌≡◌, ◌&&◌, cond};
 ghost use Rattle.point.specs.Point.{◌-ᵥ◌, ◌·◌, ◌≐ᵥ◌};
 ghost use Rattle.geo_distance.specs.Distance as Distance;

@@ -2,13 +2,14 @@
 // once, and the parts of the origin's three coordinates, so that a pass over many rays works out each
 // product once for all the rays that share it. The operations stay those of the source, in its order. A part of
 // `ask_geo`.
+#![tactic(auto)]
 ghost use Rattle.std.specs.Prelude.{◌≡◌};
 ghost use Rattle.geo_ray.specs.Ray as Ray;
 
 use point::{Axis, Point};
 
 // What a ray meets: nothing; an edge or a corner that it only touches; or the triangle's inside, at t.
-#[derive(Drop)]
+#[derive(Clone, Copy)]
 pub enum RayHit {
     Miss,
     Grazed,
@@ -16,7 +17,7 @@ pub enum RayHit {
 }
 
 // A number for each corner.
-#[derive(Drop)]
+#[derive(Clone, Copy)]
 pub struct Three {
     pub v0: f32,
     pub v1: f32,
@@ -24,7 +25,7 @@ pub struct Three {
 }
 
 // A triangle made ready for rays along an axis: its corners and edges, turned so that the rays run along x.
-#[derive(Drop)]
+#[derive(Clone, Copy)]
 pub struct Cast {
     pub v0: Point,
     pub v1: Point,

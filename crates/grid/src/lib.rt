@@ -4,6 +4,7 @@
 // or runs on there. The port's own code, which has asked for the bounds once, calls the functions of `parts`;
 // what is alike on the three axes is in `grid_axis`, index and product of the counts in `grid_index`. Users find
 // `Grid` and its answers in `sdf`, and no `parts`.
+#![tactic(auto)]
 pub mod parts;
 
 ghost use Rattle.std.specs.Prelude.{◌≡◌};
@@ -16,7 +17,7 @@ ghost use Rattle.grid.specs.Reply as Reply;
 use point::{Axis, Point};
 
 // A cell by its number along each axis.
-#[derive(Drop)]
+#[derive(Clone, Copy)]
 pub struct Cell {
     pub x: u32,
     pub y: u32,
@@ -24,7 +25,7 @@ pub struct Cell {
 }
 
 // How many cells there are along each axis.
-#[derive(Drop)]
+#[derive(Clone, Copy)]
 pub struct Counts {
     pub x: u32,
     pub y: u32,
@@ -34,7 +35,7 @@ pub struct Counts {
 // The centre of the first cell, the size of every cell, how many cells there are along each axis, and which axis is upright: 0 is
 // x, 1 is y, 2 is z, and any other number is out of bounds. The layers of the table lie along the upright axis (document 02, §9);
 // nothing else depends on it.
-#[derive(Drop)]
+#[derive(Clone, Copy)]
 pub struct Grid {
     pub first_cell: Point,
     pub cell_size: Point,
@@ -45,21 +46,21 @@ pub struct Grid {
 }
 
 // Whether a point lies in the grid: Outside if it had to be brought to the nearest cell.
-#[derive(Drop)]
+#[derive(Clone, Copy)]
 pub enum SnapResult {
     Inside,
     Outside,
 }
 
 // The cell that a point is in, or, of a point outside the grid, the cell nearest to it; and which of the two.
-#[derive(Drop)]
+#[derive(Clone, Copy)]
 pub struct Snap {
     pub result: SnapResult,
     pub cell: Cell,
 }
 
 // The two corners of a box.
-#[derive(Drop)]
+#[derive(Clone, Copy)]
 pub struct BoundingBox {
     pub min: Point,
     pub max: Point,
@@ -67,43 +68,43 @@ pub struct BoundingBox {
 
 // ---- the answers: the number of a refusal, or what was asked for
 
-#[derive(Drop)]
+#[derive(Clone, Copy)]
 pub enum NumberAnswer {
     Refused(u32),
     Number(u32),
 }
 
-#[derive(Drop)]
+#[derive(Clone, Copy)]
 pub enum CellAnswer {
     Refused(u32),
     At(Cell),
 }
 
-#[derive(Drop)]
+#[derive(Clone, Copy)]
 pub enum PointAnswer {
     Refused(u32),
     At(Point),
 }
 
-#[derive(Drop)]
+#[derive(Clone, Copy)]
 pub enum CountsAnswer {
     Refused(u32),
     Are(Counts),
 }
 
-#[derive(Drop)]
+#[derive(Clone, Copy)]
 pub enum BoxAnswer {
     Refused(u32),
     Is(BoundingBox),
 }
 
-#[derive(Drop)]
+#[derive(Clone, Copy)]
 pub enum SnapAnswer {
     Refused(u32),
     Snapped(Snap),
 }
 
-#[derive(Drop)]
+#[derive(Clone, Copy)]
 pub enum GridAnswer {
     Refused(u32),
     Made(Grid),

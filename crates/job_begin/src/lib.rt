@@ -1,5 +1,6 @@
 // What comes before the queue is filled (document 01, "Reply numbers", and "The run", 1): the refusals that change
 // nothing, then the field and the names cleared and seeded. A part of the port: users call `sdf`.
+#![tactic(auto)]
 ghost use Rattle.mesh.specs.Mesh.{mesh_of};
 ghost use Rattle.job_begin.specs.Begins.{Begins};
 
@@ -9,7 +10,7 @@ use mesh_topology::{Indices, Topology};
 use terms::Terms;
 
 // What it came to: the refusal before anything was changed, or 0, and then what seeding told, 0 or 6.
-#[derive(Drop)]
+#[derive(Clone, Copy)]
 pub struct Begun {
     pub refused: u32,
     pub number: u32,

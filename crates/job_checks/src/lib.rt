@@ -1,5 +1,6 @@
 // The refusals that are checked before the run, in their order: 1, 14, 2, 13, 3, 4, 10 and 5 (document 01, "Reply numbers",
 // and document 02, §6, §7 and §11). A part of the port: users call `sdf`.
+#![tactic(auto)]
 ghost use Rattle.std.specs.Prelude.{◌≡◌, true, ◌+◌, ◌*◌, ◌%◌, ◌<◌};
 ghost use Rattle.grid_axis.specs.AxisBounds.{is_coordinate};
 ghost use Rattle.grid.specs.Bounds.{in_bounds};
@@ -12,7 +13,7 @@ use grid::Grid;
 use mesh_topology::{Indices, Topology};
 
 // How long the lent buffers are.
-#[derive(Drop)]
+#[derive(Clone, Copy)]
 pub struct Lengths {
     pub field: usize,
     pub names: usize,

@@ -1,9 +1,10 @@
 // What a job comes to (document 01, "Reply numbers"): the answer, and the one outcome as a definition, with its
 // laws. A part of the port: users call `sdf`.
+#![tactic(auto)]
 
 // What is counted of a job that is done: the entries taken, the most that waited at once, and how often a ray grazed a
 // triangle.
-#[derive(Drop)]
+#[derive(Clone, Copy)]
 pub struct Tally {
     pub pops: u32,
     pub peak: usize,
@@ -11,7 +12,7 @@ pub struct Tally {
 }
 
 // What a job is answered: refused by its number, or done, with its counts.
-#[derive(Drop)]
+#[derive(Clone, Copy)]
 pub enum Answer {
     Refused(u32),
     Done(Tally),

@@ -2,6 +2,7 @@
 // job program prints, as definitions, the functions that take a text's numbers as the port does, and those that
 // write the lines of its cells and layers into lent bytes; the whole is written by `listing_whole`. A part of the
 // port: users run the job program.
+#![tactic(auto)]
 mod asked;
 mod cells;
 mod floats;
@@ -11,7 +12,7 @@ pub use cells::{put_cells, put_rows};
 pub use floats::{coordinate_floats, fill};
 
 // What writing came to: nothing was written, or so many bytes from the first on.
-#[derive(Drop)]
+#[derive(Clone, Copy)]
 pub enum Written {
     Nothing,
     Bytes(usize),

@@ -2,26 +2,27 @@
 // The source's `Topology` holds its indices. Here it is an enum without references, and the indices stand
 // beside it. Whether a job may have its triangles is asked by `mesh_checks`. A part of the port: users call
 // `sdf`.
+#![tactic(auto)]
 ghost use Rattle.std.specs.Prelude.{◌≡◌, ◌-◌, ◌^◌, ◌<◌, length, get_or};
 ghost use Rattle.mesh_topology.specs.Topology.{corners, triangles_of, kth, triangle_count, first_corner};
 
 // The whole job takes lists alone: strips are withdrawn, and it refuses them by 13 (document 02, §7). What a strip names
 // is said and worked out here all the same, since the converter lists it.
-#[derive(Drop)]
+#[derive(Clone, Copy)]
 pub enum Topology {
     TriangleList,
     TriangleStrip,
 }
 
 // Whether indices are given. Without them the vertex numbers 0, 1, 2 .. stand in, and the slice is not read.
-#[derive(Drop)]
+#[derive(Clone, Copy)]
 pub enum Indices {
     Given,
     None,
 }
 
 // The vertex numbers of a triangle, in the order in which its corners come.
-#[derive(Drop)]
+#[derive(Clone, Copy)]
 pub struct Triangle {
     pub a: u32,
     pub b: u32,

@@ -1,10 +1,11 @@
 // A point: a plain record of three f32, after `point.rs`, with its steps by value. Each step rounds
 // once for each operation, in the source's order. A part of the public face `sdf`.
+#![tactic(auto)]
 ghost use Rattle.std.specs.Prelude.{◌≡◌};
 ghost use Rattle.point.specs.Point.{◌+ᵥ◌, ◌-ᵥ◌, ◌*ᵥ◌, ◌÷ᵥ◌, ◌·◌, ◌×ᵥ◌, ◌≐ᵥ◌};
 ghost use Rattle.point.specs.Point as Spec;
 
-#[derive(Drop)]
+#[derive(Clone, Copy)]
 pub struct Point {
     pub x: f32,
     pub y: f32,
@@ -12,7 +13,7 @@ pub struct Point {
 }
 
 // The three axes: of a ray, of a coordinate, of the rows.
-#[derive(Drop)]
+#[derive(Clone, Copy)]
 pub enum Axis {
     X,
     Y,

@@ -1,6 +1,7 @@
 // Each refusal of document 01 ("Reply numbers"), and 10 and 13 of document 02, at its exact bound: the public job is asked
 // on both sides of it, and what it answers is printed beside what was asked. The file `stdout` has the numbers that
 // the two documents give. Refusals 7 and 8 at their bounds are jobs of the sample that `replay_jobs` runs.
+#![tactic(auto)]
 mod counting;
 mod trial;
 

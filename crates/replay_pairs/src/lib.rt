@@ -3,6 +3,7 @@
 // quick pass; an old job's text is converted, and a job's text tidied. The stored answers are the unmodified Rust's and
 // the models' (samples/README.md has the format). A part of the programs `replay_jobs`, `replay_conversions` and
 // `replay_tidyings`.
+#![tactic(auto)]
 ghost use Rattle.std.specs.Prelude.{◌≡◌, true, ◌+◌, ◌*◌, ◌<◌, ◌≤◌, length};
 ghost use Rattle.io.specs.Counts.{IsPrefixLen};
 ghost use Rattle.text.specs.Limits.{listing_room, text_room};
@@ -14,7 +15,7 @@ use terms::Pass;
 use text::{LISTING_ROOM, TEXT_ROOM};
 
 // Which program's texts are replayed.
-#[derive(Drop)]
+#[derive(Clone, Copy)]
 pub enum Program {
     Job,
     Converter,
@@ -22,7 +23,7 @@ pub enum Program {
 }
 
 // How many texts there were, and how many differences in all.
-#[derive(Drop)]
+#[derive(Clone, Copy)]
 pub struct Tally {
     pub texts: u64,
     pub differences: u64,

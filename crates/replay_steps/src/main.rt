@@ -2,6 +2,7 @@
 // its functions for C, and the answer held to the stored one, bit for bit. The stored answers are those of
 // the unmodified Rust, or document 01's refusals (samples/README.md has the format). Prints a line for each
 // difference, and last how many cases and differences there were.
+#![tactic(auto)]
 mod geometry;
 mod grids;
 mod words;
@@ -61,7 +62,7 @@ fn case_words(step: u32) -> usize
     }
 }
 
-#[derive(Drop)]
+#[derive(Clone, Copy)]
 struct Tally {
     cases: u64,
     differences: u64,

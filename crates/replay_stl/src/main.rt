@@ -1,6 +1,7 @@
 // Reads the stored scanner files, those of real tools and damaged ones, and prints what each is read as and what is
 // written of it again (samples/README.md has the format). What it must print was made from the same files by a reader and
 // a writer of another language.
+#![tactic(auto)]
 ghost use Rattle.std.specs.Prelude.{◌≡◌, ◌+◌, ◌*◌, ◌<◌, ◌≤◌, length};
 
 // A stored file has at most 80 facets.
@@ -149,7 +150,7 @@ fn show(file: &[u8]) {
 }
 
 // Reads the length that stands before a file, four bytes; false where the input ends.
-#[derive(Drop)]
+#[derive(Clone, Copy)]
 struct Length {
     read: bool,
     bytes: u32,

@@ -1,5 +1,6 @@
 // The cells around a cell: where the 27 steps lead from it, and the signed squares of a triangle's
 // distance from there (document 01, "The run", 3). A part of the port: users call `sdf`.
+#![tactic(auto)]
 ghost use Rattle.std.specs.Prelude.{◌≡◌, true, ◌<◌, length};
 ghost use Rattle.grid.specs.Bounds.{in_bounds};
 ghost use Rattle.grid.specs.Index.{Inside, total};
@@ -24,7 +25,7 @@ pub const STEPS: [u16; 27] = [
 pub const NOWHERE: u32 = 0xffff_ffff;
 
 // Where a step leads: the index of the cell there, or NOWHERE with the cell that the step was made from.
-#[derive(Drop)]
+#[derive(Clone, Copy)]
 struct Spot {
     index: u32,
     cell: Cell,

@@ -1,6 +1,7 @@
 // What the rays of a row's lines meet: a hit adds one to the counts of the cells that it reaches, or, in the quick pass, to
 // the last of them alone; and a graze is counted by itself. Only the lines that may be hit or grazed are asked. A part of
 // the port: users call `sdf`.
+#![tactic(auto)]
 ghost use Rattle.std.specs.Prelude.{◌≡◌, true, cond, ◌*◌, ◌<◌, ◌≤◌, length};
 ghost use Rattle.grid.specs.Axes.{count_on, next};
 ghost use Rattle.grid.specs.Index.{total};

@@ -1,11 +1,12 @@
 // How far a run has come, and how queueing and spreading tell what they did to the lent field, names and queue
 // (document 01, "The run", 2 and 3). A part of the port: users call `sdf`.
+#![tactic(auto)]
 ghost use Rattle.std.specs.Prelude.{◌≡◌};
 ghost use Rattle.run_state.specs.Told.{refused_by};
 
 // How far a run has come: 0, or the number of the refusal that ended it; how many entries wait; how many
 // were taken; the most that waited at once.
-#[derive(Drop)]
+#[derive(Clone, Copy)]
 pub struct Progress {
     pub number: u32,
     pub waiting: usize,

@@ -14,6 +14,7 @@
 //   questions                  the same as functions; the geometry, the comparison and the root asked by themselves
 //
 // The same for C stands in crate `sdf_c`.
+#![tactic(auto)]
 mod questions;
 
 // ---- what is asked about, and answered with

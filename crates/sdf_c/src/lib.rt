@@ -8,6 +8,7 @@
 //   files     a scanner's file, read and written
 //   meshes    a mesh tidied
 //   facets    which cells name a facet
+#![tactic(auto)]
 pub mod facets;
 pub mod files;
 pub mod geometry;

@@ -2,6 +2,7 @@
 // as a function on lists, and the laws by which that reader takes exactly the texts of jobs within the
 // limits. The only code here are the program's limits and the records that are handed over. A part of the
 // port: users run the job program and the converter.
+#![tactic(auto)]
 ghost use Rattle.std.specs.Prelude.{◌≡◌};
 ghost use Rattle.text.specs.Limits.{most_indices};
 
@@ -44,14 +45,14 @@ pub const LISTING_ROOM: usize = 32768;
 pub const TEXT_ROOM: usize = 40960;
 
 // How a number is written: in decimal, or as eight hex digits.
-#[derive(Drop)]
+#[derive(Clone, Copy)]
 pub enum Form {
     Decimal,
     Hex8,
 }
 
 // Three numbers of one line: counts, or the bit patterns of three floats.
-#[derive(Drop)]
+#[derive(Clone, Copy)]
 pub struct Three {
     pub x: u32,
     pub y: u32,
@@ -60,7 +61,7 @@ pub struct Three {
 
 // What a text says of the upright axis: one of the three, or nothing, which means z. That nothing was said is
 // kept, since a text with the line `upright=z` is another text of the same job.
-#[derive(Drop)]
+#[derive(Clone, Copy)]
 pub enum Upright {
     Unsaid,
     X,
@@ -70,7 +71,7 @@ pub enum Upright {
 
 // The lines before the vertices. The lines of the upright axis and of the signs' method may be left out; the second
 // is how Raycast is said.
-#[derive(Drop)]
+#[derive(Clone, Copy)]
 pub struct Head {
     pub count: Three,
     pub first: Three,
@@ -83,14 +84,14 @@ pub struct Head {
 // What a text says of the edition of the layer table: a number, or nothing, which means 1. That nothing was said is
 // kept, since a text with the line `table=1` is another text of the same job. Any number may be said: whether there
 // is such an edition is asked where the job is checked.
-#[derive(Drop)]
+#[derive(Clone, Copy)]
 pub enum Table {
     Unsaid,
     Said(u32),
 }
 
 // The lines after the indices: the queue room, the pop limit, and the table's edition, whose line may be left out.
-#[derive(Drop)]
+#[derive(Clone, Copy)]
 pub struct Tail {
     pub room: u32,
     pub limit: u32,

@@ -6,6 +6,7 @@
 //   text_read_lines   lines by their keys
 //   text_read_parts   the head, the vertices, the indices, the tail
 //   read_job          the whole text: the job that it is the text of, or that it is none
+#![tactic(auto)]
 ghost use Rattle.std.specs.Prelude.{◌≡◌, ◌≤◌, length};
 ghost use Rattle.text.specs.Limits.{coordinate_room, index_room};
 ghost use Rattle.text_read_job.specs.Reading.{Reads};
@@ -17,7 +18,7 @@ use text_read_words::Number;
 
 // A job as its text gives it. Floats are bit patterns. The vertices, three numbers each, and the indices
 // stand in the lent slices, so many of them; without indices there are 0.
-#[derive(Drop)]
+#[derive(Clone, Copy)]
 pub struct Asked {
     pub head: Head,
     pub vertices: usize,
@@ -27,7 +28,7 @@ pub struct Asked {
 }
 
 // What a text is read as. `Unreadable` is document 01's answer 9.
-#[derive(Drop)]
+#[derive(Clone, Copy)]
 pub enum Reading {
     Job(Asked),
     Unreadable,

@@ -1,5 +1,6 @@
 // The lines of the job's text: a key, and what stands behind it (document 01, "One job, one listing"). A
 // part of the reader: callers use `text_read_job::read_job`.
+#![tactic(auto)]
 ghost use Rattle.std.specs.Prelude.{◌≡◌, drop};
 ghost use Rattle.text.specs.Reader.{value_at, three_numbers, number_line, floats_line, few_cells, count_line};
 ghost use Rattle.text.specs.Reader.{upright_at, topology_line, sign_at, table_at};
@@ -12,35 +13,35 @@ use text::{Form, MOST_CELLS, Table, Three, Upright};
 use text_read_words::{Next, Number};
 
 // Three numbers, and the place behind them.
-#[derive(Drop)]
+#[derive(Clone, Copy)]
 pub enum Triple {
     Are { three: Three, next: usize },
     Not,
 }
 
 // What is said of the upright axis, and the place behind its line, or behind nothing where there is no such line.
-#[derive(Drop)]
+#[derive(Clone, Copy)]
 pub struct Standing {
     pub upright: Upright,
     pub next: usize,
 }
 
 // A topology, and the place behind it.
-#[derive(Drop)]
+#[derive(Clone, Copy)]
 pub enum Shape {
     Is { topology: Topology, next: usize },
     Not,
 }
 
 // The method of the signs, and the place behind its line, or behind nothing where there is no such line.
-#[derive(Drop)]
+#[derive(Clone, Copy)]
 pub struct Method {
     pub sign: SignMethod,
     pub next: usize,
 }
 
 // What is said of the table's edition, and the place behind its line, or behind nothing where there is no such line.
-#[derive(Drop)]
+#[derive(Clone, Copy)]
 pub struct Edition {
     pub table: Table,
     pub next: usize,

@@ -1,5 +1,6 @@
 // The parts of the job's text: the lines before the vertices, the vertices, the indices, and the lines
 // after them (document 01, "One job, one listing"). A part of the reader: callers use `text_read_job::read_job`.
+#![tactic(auto)]
 ghost use Rattle.std.specs.Prelude.{◌≡◌, ◌*◌, ◌≤◌, length, take, drop};
 ghost use Rattle.text.specs.Limits.{coordinate_room, index_room};
 ghost use Rattle.text.specs.Reader.{head_at, vertex_line_at, vertices_at, index_at, indices_at, tail_at, lines_at};
@@ -13,14 +14,14 @@ use text_read_lines::{Shape, Triple};
 use text_read_words::{Next, Number};
 
 // The lines before the vertices, and the place behind them.
-#[derive(Drop)]
+#[derive(Clone, Copy)]
 pub enum Front {
     Is { head: Head, next: usize },
     Not,
 }
 
 // Whether indices are given, how many were stored, and the place behind them.
-#[derive(Drop)]
+#[derive(Clone, Copy)]
 pub enum Row {
     Are {
         given: Indices,
@@ -31,7 +32,7 @@ pub enum Row {
 }
 
 // The lines after the indices, and the place behind them.
-#[derive(Drop)]
+#[derive(Clone, Copy)]
 pub enum Back {
     Is { tail: Tail, next: usize },
     Not,

@@ -1,6 +1,7 @@
 // What a line of the job's text is made of: words and numbers (document 01, "One job, one listing"). Each
 // function looks at one place of the text, and tells what stands there and the place behind it. A part of
 // the reader: callers use `text_read_job::read_job`.
+#![tactic(auto)]
 ghost use Rattle.std.specs.Prelude.{◌≡◌, drop};
 ghost use Rattle.text.specs.Reader.{hex_value, word_at, number_at, bits_at, value_at};
 ghost use Rattle.text_read_words.specs.Told.{got_next, got_number};
@@ -8,14 +9,14 @@ ghost use Rattle.text_read_words.specs.Told.{got_next, got_number};
 use text::Form;
 
 // The place behind what was looked for.
-#[derive(Drop)]
+#[derive(Clone, Copy)]
 pub enum Next {
     At(usize),
     Not,
 }
 
 // A number, and the place behind it.
-#[derive(Drop)]
+#[derive(Clone, Copy)]
 pub enum Number {
     Is { value: u32, next: usize },
     Not,

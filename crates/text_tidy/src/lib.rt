@@ -5,6 +5,7 @@
 //   patterns   the bits of floats
 //   kept       what is kept, as the text of a job
 //   whole      a text read, its mesh tidied, and what came of it printed
+#![tactic(auto)]
 mod kept;
 mod lines;
 mod patterns;
@@ -16,7 +17,7 @@ pub use whole::tidy_text;
 pub const TIDY_ROOM: usize = 65536;
 
 // What a line tells of: a vertex that was merged into its first, a triangle that was dropped for its cause.
-#[derive(Drop)]
+#[derive(Clone, Copy)]
 pub enum Went {
     Merged,
     Dropped,

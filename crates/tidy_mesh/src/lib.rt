@@ -1,6 +1,7 @@
 // A mesh tidied, and what went, as one call (document 02, §10): the refusals, then the firsts of the vertices, the causes of
 // the triangles, and what is kept. It takes no room beyond the lent outputs, which hold links and marks on the way. A
 // part of the public face `sdf`, which users call.
+#![tactic(auto)]
 ghost use Rattle.std.specs.Prelude.{◌≡◌, ◌≤◌};
 ghost use Rattle.tidy.specs.Tidy.{triangle_total};
 ghost use Rattle.mesh.specs.Mesh.{mesh_of};
@@ -10,21 +11,21 @@ ghost use Rattle.tidy_mesh.specs.Outcome.{tidy_left, kept_counts, tidy_outcome, 
 use mesh_topology::{Indices, Topology};
 
 // How many vertices and triangles are kept.
-#[derive(Drop)]
+#[derive(Clone, Copy)]
 pub struct Kept {
     pub vertices: u32,
     pub triangles: u32,
 }
 
 // What tidying is answered: refused by its number, or tidied, with what is kept.
-#[derive(Drop)]
+#[derive(Clone, Copy)]
 pub enum TidyAnswer {
     Refused(u32),
     Tidied(Kept),
 }
 
 // How long the lent outputs are.
-#[derive(Drop)]
+#[derive(Clone, Copy)]
 pub struct Outputs {
     pub coordinates: usize,
     pub indices: usize,

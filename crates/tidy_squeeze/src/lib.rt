@@ -2,6 +2,7 @@
 // kept triangles are listed by the numbers that the marks of their vertices hold, and then the marked vertices are moved to
 // the front of the same row: a vertex is put no further back than where its own mark stands, which has been read by
 // then. A part of the port: users call `sdf`.
+#![tactic(auto)]
 ghost use Rattle.std.specs.Prelude.{◌≡◌, ◌+◌, ◌-◌, ◌*◌, ◌^◌, ◌<◌, ◌≤◌, length};
 ghost use Rattle.lists.specs.Range.{count_below};
 ghost use Rattle.lists.specs.Joined.{joined};
