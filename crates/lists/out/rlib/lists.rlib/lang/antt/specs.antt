@@ -1,9 +1,0 @@
-pub mod Turns
-pub mod Range
-pub mod Table
-pub mod Every
-pub mod OnlyBy
-pub mod Total
-pub mod Checks
-pub mod Joined
-pub mod Put
