@@ -19,6 +19,6 @@ pub returns : goal.returns
 returns c =
     push_ends keys_order c.args.e c.args.row.now c.loop-i.row c.args.n c.loop-i.i c.requires.0 c.loop-i.invariant.0 c.loop-i.invariant.1
     (elim c.loop-i-test.branch [
-      else-loop-i-test w ↦ λ i0. absurd (omega arith)
+      | else-loop-i-test w ↦ λ i0. absurd (omega arith)
       | then-loop-i-test+then-goes_first w ↦ λ _. sym w.if-goes_first.ensures
     ])

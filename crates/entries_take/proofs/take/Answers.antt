@@ -2,8 +2,7 @@
 -- order with the triples the same is taken. Assumes nothing.
 use Prim.Native.Nat.{◌-◌, ◌<◌}
 use native.Mathlib.Omega.{arith}
-use mathlib.Core.Path.{ap, ◌∙◌, sym, subst}
-use mathlib.Core.List.{List}
+use mathlib.Core.Path.{sym, subst}
 use lib.ListN.{length, get_or, set, length-set}
 use Rattle.mesh_topology.specs.Topology.{triangles_of, kth}
 use Rattle.queue.specs.declared.Entry.{Entry}
@@ -11,7 +10,6 @@ use Rattle.queue.specs.Heap.{Gap}
 use Rattle.queue.specs.Keys.{by_keys}
 use Rattle.queue.specs.Queue.{blank}
 use Rattle.queue.proofs.Order.{keys_order}
-use Rattle.entries.specs.Kept.{kept_of}
 use Rattle.entries.proofs.Projections.{held_in}
 use Rattle.entries_sift.specs.Sift.{Sunk}
 use Rattle.entries_take.proofs.Takes.{take_starts, take_ends, by_triples}
