@@ -1,0 +1,8 @@
+-- `float_floor::floor`: from zero on and below zero by the parts, and a NaN passes neither test. -1 - k is `negsuc k`. Assumes nothing.
+use Rattle.std.proofs.Common.{◌≡◌, ℕ, zero, suc, ◌^◌, ◌<◌, ℤ, pos, negsuc, ◌-ℤ◌, sym, refl, ap, ◌∙◌, subst, zero-add, w64, SFits, to_z, of_z, rules}
+use mir.ValLaws.{to_z_pos, to_z-neg}
+use Rattle.float_floor.proofs.BelowZero.{neither}
+use Rattle.float_floor.proofs.floor.Goals as goal
+
+pub returns : goal.returns
+returns c = sym (neither c.args.x c.if-x.false c.if-x-2.false)
