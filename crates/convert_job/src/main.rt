@@ -1,6 +1,7 @@
 // The converter (document 02, §7): standard input is an old job's text, and the text of the same job with its triangles
 // listed goes to standard output, or `answer=9`. All that it decides is `text_convert::convert_text`.
 #![tactic(auto)]
+
 ghost use Rattle.std.specs.Prelude.{◌≡◌, length};
 ghost use Rattle.text.specs.Limits.{text_room};
 

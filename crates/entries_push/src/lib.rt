@@ -1,6 +1,7 @@
 // An entry put into the queue of the run that is a lent row of entry records. A part of the port: users call
 // `sdf`.
 #![tactic(auto)]
+
 ghost use Rattle.std.specs.Prelude.{◌<◌, length};
 ghost use Rattle.queue.specs.Keys.{by_keys};
 ghost use Rattle.entries.specs.Row.{HeldRow, PushedRow};

@@ -1,6 +1,7 @@
 // The first entry taken out of the queue of the run that is a lent row of entry records. A part of the port:
 // users call `sdf`.
 #![tactic(auto)]
+
 ghost use Rattle.std.specs.Prelude.{◌<◌};
 ghost use Rattle.queue.specs.Order.{order_of};
 ghost use Rattle.queue.specs.Keys.{by_keys, Apart};

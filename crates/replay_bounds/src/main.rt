@@ -2,6 +2,7 @@
 // on both sides of it, and what it answers is printed beside what was asked. The file `stdout` has the numbers that
 // the two documents give. Refusals 7 and 8 at their bounds are jobs of the sample that `replay_jobs` runs.
 #![tactic(auto)]
+
 mod counting;
 mod trial;
 

@@ -1,6 +1,7 @@
 // Replays the stored sample of texts for the converter (samples/README.md): prints a line for each difference, and last
 // how many texts there were and how many differences in all.
 #![tactic(auto)]
+
 use replay_pairs::{Program, replay};
 
 fn main() {

@@ -2,6 +2,7 @@
 // prints the number that it answers, both slices as it leaves them, and the cells of each facet (samples/README.md has the
 // format). What it must print was made from the same calls by a plain index of another language.
 #![tactic(auto)]
+
 ghost use Rattle.std.specs.Prelude.{◌≡◌, ◌≤◌, length};
 
 // A stored call has at most so many words in each of its four slices.

@@ -4,6 +4,7 @@
 // the models' (samples/README.md has the format). A part of the programs `replay_jobs`, `replay_conversions` and
 // `replay_tidyings`.
 #![tactic(auto)]
+
 ghost use Rattle.std.specs.Prelude.{◌≡◌, true, ◌+◌, ◌*◌, ◌<◌, ◌≤◌, length};
 ghost use Rattle.io.specs.Counts.{IsPrefixLen};
 ghost use Rattle.text.specs.Limits.{listing_room, text_room};

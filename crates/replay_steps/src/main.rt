@@ -3,6 +3,7 @@
 // the unmodified Rust, or document 01's refusals (samples/README.md has the format). Prints a line for each
 // difference, and last how many cases and differences there were.
 #![tactic(auto)]
+
 mod geometry;
 mod grids;
 mod words;

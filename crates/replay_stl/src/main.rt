@@ -2,6 +2,7 @@
 // written of it again (samples/README.md has the format). What it must print was made from the same files by a reader and
 // a writer of another language.
 #![tactic(auto)]
+
 ghost use Rattle.std.specs.Prelude.{◌≡◌, ◌+◌, ◌*◌, ◌<◌, ◌≤◌, length};
 
 // A stored file has at most 80 facets.

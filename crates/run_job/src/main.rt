@@ -1,6 +1,7 @@
 // The job program (document 01, "One job, one listing"): standard input is a job's text, and its listing goes
 // to standard output, or `answer=9`. All that it decides is `text_answer::run_text`.
 #![tactic(auto)]
+
 ghost use Rattle.std.specs.Prelude.{◌≡◌, length};
 ghost use Rattle.text.specs.Limits.{listing_room};
 

@@ -1,6 +1,7 @@
 // The snapped box of a triangle: its first and its last cell (document 01, "The run", 1). A part of the port: users call
 // `sdf`.
 #![tactic(auto)]
+
 ghost use Rattle.std.specs.Prelude.{◌≡◌, true, ◌&&◌, ◌+◌, ◌-◌, ◌<◌, ltb};
 ghost use Rattle.float.specs.Arith.{◌≺◌, if◌then◌else◌};
 ghost use Rattle.grid.specs.Bounds.{in_bounds};

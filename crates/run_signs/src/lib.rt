@@ -1,6 +1,7 @@
 // The signs: "a cell with two or three odd counts has its distance negated; 0 becomes −0" (document 01). A part of
 // the port: users call `sdf`.
 #![tactic(auto)]
+
 ghost use Rattle.std.specs.Prelude.{◌≡◌, ◌+◌, ◌*◌, ◌<◌, length};
 ghost use Rattle.std.specs.Float.Ieee.{neg};
 ghost use Rattle.float.specs.Arith.{if◌then◌else◌};

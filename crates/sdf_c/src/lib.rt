@@ -9,6 +9,7 @@
 //   meshes    a mesh tidied
 //   facets    which cells name a facet
 #![tactic(auto)]
+
 pub mod facets;
 pub mod files;
 pub mod geometry;

@@ -38,12 +38,12 @@ returns-then-vb-d2 c = let no = corners (search) in rw (no.0, no.1, no.2, c.if-v
 
 pub returns-then-va-d4 : goal.returns-then-va-d4
 unfolding nearest
-returns-then-va-d4 c =    let no = corners (search) in
+returns-then-va-d4 c = let no = corners (search) in
     let nor = edges (search) in
     rw (no.0, no.1, no.2, nor.0, nor.1, c.if-va-d4.true) c.step-then-va-d4.ensures
 
 pub returns : goal.returns
 unfolding nearest
-returns c =    let no = corners (search) in
+returns c = let no = corners (search) in
     let nor = edges (search) in
     rw (no.0, no.1, no.2, nor.0, nor.1, c.if-va-d4.false) (rw c.step-2.ensures at c.step-3.ensures)

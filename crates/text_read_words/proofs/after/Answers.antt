@@ -19,12 +19,11 @@ returns-then-text-k-2 c =
     sym (c.loop-i.invariant.1 ∙ word_differs _ _ _ _ c.loop-i-test.true c.if-text-k.false c.if-text-k-2.true)
 
 pub loop-i-preserved : goal.loop-i-preserved
-loop-i-preserved c =
-    (
-      omega arith,
-      c.loop-i.invariant.1
-          ∙ word_more _ _ _ _ c.loop-i-test.true c.if-text-k.false c.if-text-k-2.false,
-    )
+loop-i-preserved c = (
+  omega arith,
+  c.loop-i.invariant.1
+      ∙ word_more _ _ _ _ c.loop-i-test.true c.if-text-k.false c.if-text-k-2.false,
+)
 
 pub returns : goal.returns
 returns c = sym (c.loop-i.invariant.1 ∙ word_end _ _ c.args.text.now c.loop-i.k c.loop-i-test.false)

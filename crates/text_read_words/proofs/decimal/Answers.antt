@@ -6,7 +6,7 @@ use native.Mathlib.Omega.{arith}
 use mathlib.Core.Path.{◌≡◌, refl, sym, ap, ◌∙◌}
 use lib.ListN.{length, get_or, drop}
 use Rattle.text.specs.Reader.{hex_value, number_at, digits_at}
-use Rattle.text.proofs.Places.{ number_past, number_not, number_first, digits_past, digits_stop, digits_zero, digits_not, digits_large, digits_more, }
+use Rattle.text.proofs.Places.{number_past, number_not, number_first, digits_past, digits_stop, digits_zero, digits_not, digits_large, digits_more}
 use Rattle.text_read_words.proofs.decimal.Goals as goal
 
 pub returns-then-text-at : goal.returns-then-text-at
@@ -40,12 +40,11 @@ returns-then-longer-gt4294967295 c =
     ∙ digits_large _ _ _ _ c.loop-k-test.true c.if-b-stop.false c.if-value-eq0.false c.digit-d.ensures c.if-d-ge10.false c.if-longer-gt4294967295.true)
 
 pub loop-k-preserved : goal.loop-k-preserved
-loop-k-preserved c =
-    (
-      omega (arith, c.if-longer-gt4294967295.false),
-      c.loop-k.invariant.1
-          ∙ digits_more _ _ _ _ c.loop-k-test.true c.if-b-stop.false c.if-value-eq0.false c.digit-d.ensures c.if-d-ge10.false c.if-longer-gt4294967295.false,
-    )
+loop-k-preserved c = (
+  omega (arith, c.if-longer-gt4294967295.false),
+  c.loop-k.invariant.1
+      ∙ digits_more _ _ _ _ c.loop-k-test.true c.if-b-stop.false c.if-value-eq0.false c.digit-d.ensures c.if-d-ge10.false c.if-longer-gt4294967295.false,
+)
 
 pub returns : goal.returns
 returns c = sym (c.loop-k.invariant.1 ∙ digits_past _ _ _ _ c.loop-k-test.false)

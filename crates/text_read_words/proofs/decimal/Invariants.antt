@@ -6,7 +6,7 @@ use native.Mathlib.Omega.{arith}
 use mathlib.Core.Path.{◌≡◌, refl, sym, ap, ◌∙◌}
 use lib.ListN.{length, get_or, drop}
 use Rattle.text.specs.Reader.{hex_value, number_at, digits_at}
-use Rattle.text.proofs.Places.{ number_past, number_not, number_first, digits_past, digits_stop, digits_zero, digits_not, digits_large, digits_more, }
+use Rattle.text.proofs.Places.{number_past, number_not, number_first, digits_past, digits_stop, digits_zero, digits_not, digits_large, digits_more}
 use Rattle.text_read_words.proofs.decimal.Given as goal
 
 abbrev pub invariant-loop-k : goal.invariant-loop-k

@@ -31,6 +31,9 @@ put_number-requires c = record { i_in_bounds = omega (arith, long c.requires, c.
 pub returns : goal.returns
 returns c =
     let r = c.requires in
-    let zero = sym c.number_at-held.ensures ∙ c.if-held-ne0.false in record { value = sym (first_new c.args.vertices.now c.args.v (none_before r.entered r.next refl c.place-at.ensures zero)); vertices_entered = subst (λ (row : List ℕ). Entered (vertex_bits c.args.vertices.now) any c.args.n (c.args.v + 1) row)
+    let zero = sym c.number_at-held.ensures ∙ c.if-held-ne0.false in record {
+      value = sym (first_new c.args.vertices.now c.args.v (none_before r.entered r.next refl c.place-at.ensures zero));
+      vertices_entered = subst (λ (row : List ℕ). Entered (vertex_bits c.args.vertices.now) any c.args.n (c.args.v + 1) row)
           (sym c.put_number.ensures)
-          (entered_new r.entered r.next refl c.place-at.ensures zero) }
+          (entered_new r.entered r.next refl c.place-at.ensures zero);
+    }

@@ -6,7 +6,7 @@ use mathlib.Core.Bool.{not}
 use Rattle.grid.proofs.Grid.get_cell_center.Goals as goal
 
 pub get_cell_center-requires : goal.get_cell_center-requires
-get_cell_center-requires c =    let s = c.args in
+get_cell_center-requires c = let s = c.args in
     let b = bounds_of s.self (passes c.in_bounds.ensures (ap not c.if-not-in_bounds.false)) in
     let w = inside_of s.self s.cell (passes c.is_cell.ensures (ap not c.if-not-is_cell.false)) in
     (omega arith, omega arith, omega arith)

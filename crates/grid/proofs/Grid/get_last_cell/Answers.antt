@@ -7,9 +7,9 @@ use Rattle.grid.proofs.Grid.get_last_cell.Goals as goal
 
 pub returns : goal.returns
 unfolding last_cell
-returns c =    rw (
-      passes c.in_bounds.ensures (ap not c.if-not-in_bounds.false),
-      c.end_on.ensures,
-      c.end_on-2.ensures,
-      c.end_on-3.ensures,
-    )
+returns c = rw (
+  passes c.in_bounds.ensures (ap not c.if-not-in_bounds.false),
+  c.end_on.ensures,
+  c.end_on-2.ensures,
+  c.end_on-3.ensures,
+)
