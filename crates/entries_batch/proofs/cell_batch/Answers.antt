@@ -1,5 +1,4 @@
 -- `cell_batch`: the test is the definition's, and the entry is what the cell holds. Assumes nothing.
-use borrow.Author.Rules.{rules}
 use Prim.Native.Nat.{ℕ}
 use mathlib.Core.Path.{refl, ap}
 use lib.ListN.{get_or}

@@ -1,7 +1,6 @@
 -- `queued`, by its tests. Assumes nothing.
 use native.Mathlib.Omega.{arith}
 use mathlib.Core.Path.{◌∙◌}
-use borrow.Author.Rules.{rules}
 use Rattle.entries_batch.proofs.Cells.{room_left, room_full}
 use Rattle.entries_batch.proofs.queued.Goals as goal
 

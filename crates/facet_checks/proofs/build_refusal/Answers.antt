@@ -1,5 +1,4 @@
 -- `facet_checks::build_refusal`: what is told is what the checks ask. Assumes nothing.
-use borrow.Author.Rules.{rules}
 use mathlib.Core.Path.{ap₂, ◌∙◌}
 use mathlib.Core.Bool.{Bool}
 use Rattle.lists.specs.Checks.{first_that_applies}

@@ -1,11 +1,9 @@
 -- `facet_checks::unknown_name`: whether some name below c is not known. Assumes nothing.
-use borrow.Author.Rules.{rules}
-use Prim.Native.Nat.{ℕ, ◌-◌, ◌≤◌}
+use Prim.Native.Nat.{◌-◌}
 use native.Mathlib.Omega.{arith}
 use mathlib.Core.Path.{◌≡◌, sym, ap, ap₂, ◌∙◌}
 use mathlib.Core.Bool.{Bool, not, ◌||◌}
-use mathlib.Core.List.{List}
-use lib.ListN.{length, get_or}
+use lib.ListN.{length}
 use Rattle.picks.specs.Picks.{some}
 use Rattle.picks.proofs.Picks.{some_none, some_more, some_fails}
 use Rattle.facet_index.specs.Refusals.{known}

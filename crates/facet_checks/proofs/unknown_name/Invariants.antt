@@ -1,13 +1,10 @@
 -- `facet_checks::unknown_name`: whether some name below c is not known. Assumes nothing.
-use borrow.Author.Rules.{rules}
 use Prim.Native.Nat.{ℕ, ◌-◌, ◌≤◌}
-use native.Mathlib.Omega.{arith}
-use mathlib.Core.Path.{◌≡◌, sym, ap, ap₂, ◌∙◌}
-use mathlib.Core.Bool.{Bool, not, ◌||◌}
+use mathlib.Core.Path.{◌≡◌}
+use mathlib.Core.Bool.{Bool, not}
 use mathlib.Core.List.{List}
 use lib.ListN.{length, get_or}
 use Rattle.picks.specs.Picks.{some}
-use Rattle.picks.proofs.Picks.{some_none, some_more, some_fails}
 use Rattle.facet_index.specs.Refusals.{known}
 use Rattle.facet_checks.proofs.unknown_name.Given as goal
 

@@ -1,5 +1,4 @@
 -- `facet_checks::update_refusal`: what is told is what the checks ask. Assumes nothing.
-use borrow.Author.Rules.{rules}
 use mathlib.Core.Path.{ap, ap₂, ◌∙◌}
 use mathlib.Core.Bool.{Bool, not, ◌||◌}
 use lib.ListN.{length}

@@ -3,7 +3,6 @@ use mathlib.Core.Path.{refl, sym, subst}
 use lib.Dec.{T}
 use lib.Ieee.{to_bits}
 use lib.Ieee.Compare.{differs_from_itself}
-use borrow.Author.Rules.{rules}
 use Rattle.float.proofs.Magnitude.{is_number}
 use Rattle.float_bits.proofs.bits_of.Goals as goal
 

@@ -1,6 +1,5 @@
 -- `float_bits::float_of` meets its contract. Assumes nothing.
 use mathlib.Core.Path.{sym, ◌∙◌}
-use borrow.Author.Rules.{rules}
 use Rattle.float.proofs.Signs.{quotient}
 use Rattle.float_bits.proofs.Patterns.{nan_of, no_nan}
 use Rattle.float_bits.proofs.float_of.Goals as goal

@@ -1,5 +1,5 @@
 -- `float_floor::cell`: each return by the tests that led there (`proofs/Floors.antt`). Assumes nothing.
-use Rattle.std.proofs.Common.{◌≡◌, ℕ, ◌-◌, Bool, true, false, pos, ap, ◌∙◌, arith, lit≤, rules}
+use Rattle.std.proofs.Common.{◌≡◌, ℕ, ◌-◌, Bool, true, false, pos, ap, ◌∙◌, arith, lit≤}
 use Rattle.float_floor.specs.Cell.{cell_of, outside, Snapped}
 use Rattle.float_floor.proofs.Floors.{Truncates, most_is, truncates, inside, after, no_row, past_every_row, before_every_row}
 use Rattle.float_floor.proofs.cell.Goals as goal

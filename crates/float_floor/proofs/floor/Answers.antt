@@ -1,6 +1,5 @@
 -- `float_floor::floor`: from zero on and below zero by the parts, and a NaN passes neither test. -1 - k is `negsuc k`. Assumes nothing.
-use Rattle.std.proofs.Common.{◌≡◌, ℕ, zero, suc, ◌^◌, ◌<◌, ℤ, pos, negsuc, ◌-ℤ◌, sym, refl, ap, ◌∙◌, subst, zero-add, w64, SFits, to_z, of_z, rules}
-use mir.ValLaws.{to_z_pos, to_z-neg}
+use Rattle.std.proofs.Common.{sym}
 use Rattle.float_floor.proofs.BelowZero.{neither}
 use Rattle.float_floor.proofs.floor.Goals as goal
 

@@ -1,6 +1,6 @@
 -- `float_floor::floor_below_zero`: each return by the tests that led there (`proofs/BelowZero.antt`). Assumes nothing.
-use Rattle.std.proofs.Common.{◌≡◌, ℕ, ◌-◌, ◌<◌, ◌≤◌, T, negsuc, sym, subst, arith, lit<, le→leb, rules}
-use lib.Ieee.{binary32, fits, neg, in_float}
+use Rattle.std.proofs.Common.{◌≡◌, ◌-◌, ◌<◌, ◌≤◌, T, negsuc, sym, subst, arith, lit<}
+use lib.Ieee.{binary32, fits, neg}
 use Rattle.float_floor.specs.Cell.{floor_of}
 use Rattle.float_floor.proofs.Floors.{Truncates}
 use Rattle.float_floor.proofs.BelowZero.{Cut, cut, cut_lt, truncated, at_the_end, with_fraction, without_fraction, no_digit_left}

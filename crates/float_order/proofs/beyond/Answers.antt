@@ -1,5 +1,4 @@
 -- `float_order::beyond`: the law `beyond_test` on the two patterns. Assumes nothing.
-use borrow.Author.Rules.{rules}
 use Rattle.float.proofs.Order.{bits_no_nan}
 use Rattle.float_order.proofs.Farther.{beyond_test}
 use Rattle.float_order.proofs.beyond.Goals as goal

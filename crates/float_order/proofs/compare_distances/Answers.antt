@@ -3,7 +3,6 @@
 use native.Mathlib.Omega.{arith}
 use mathlib.Core.Path.{sym, ◌∙◌, subst}
 use lib.Dec.{T}
-use borrow.Author.Rules.{rules}
 use Rattle.float_order.specs.Total.{Value}
 use Rattle.float_order.proofs.Patterns.{Opposite, opposite_signs, opposite_small, order_level, order_less, order_greater}
 use Rattle.float_order.proofs.compare_distances.Goals as goal

@@ -1,5 +1,4 @@
 -- `float_order::is_nearer`: by what the comparison answers; a NaN, which alone differs from itself, is nearer than nothing. Assumes nothing.
-use borrow.Author.Rules.{rules}
 use mathlib.Core.Path.{◌≡◌, sym, ap, ◌∙◌, subst}
 use mathlib.Core.Bool.{true, false, ◌||◌, true≢false}
 use lib.Dec.{T}

@@ -1,5 +1,4 @@
 -- `float_order::key_of`: the pattern's parts are the key's. Assumes nothing.
-use borrow.Author.Rules.{rules}
 use native.Mathlib.Omega.{arith}
 use mathlib.Core.Path.{sym, subst}
 use lib.Dec.{T}

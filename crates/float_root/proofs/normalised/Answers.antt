@@ -1,5 +1,4 @@
 -- `float_root::normalised`: a subnormal by `normal_low`, a normal pattern by `normal_high`. Assumes nothing.
-use borrow.Author.Rules.{rules}
 use native.Mathlib.Omega.{arith}
 use lib.Count.{count_leading_zeros}
 use Rattle.float.proofs.Normal.{Shifted, shifted, normal_low, normal_high}

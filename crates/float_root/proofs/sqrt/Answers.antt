@@ -10,7 +10,7 @@ use lib.Ieee.Bits.{of_bits-to_bits}
 use Rattle.float.specs.Distance.{Distance, unsigned}
 use Rattle.float.specs.RootOf.{root_of}
 use Rattle.float.proofs.Units.{infinity}
-use Rattle.float.proofs.Order.{unsigned_no_nan, unsigned_distance, bits_no_nan}
+use Rattle.float.proofs.Order.{unsigned_distance, bits_no_nan}
 use Rattle.float.proofs.Roots.{root_fits, is_root_of}
 use Rattle.float.proofs.Signs.{above_zero_lem, below_zero, neither_side, quotient}
 use Rattle.float_root.proofs.sqrt.Goals as goal

@@ -1,5 +1,4 @@
 -- `float_root::sqrt_bits`: by the pattern (`crates/float/proofs/Signs.antt`). Assumes nothing.
-use borrow.Author.Rules.{rules}
 use mathlib.Core.Path.{◌≡◌, sym, ap, ◌∙◌}
 use Prim.Native.Nat.{ℕ}
 use native.Mathlib.Omega.{arith}

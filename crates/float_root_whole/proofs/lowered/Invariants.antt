@@ -1,9 +1,5 @@
 -- `float_root_whole::lowered`: q * q is above n + q only where q is above 0, so the loop ends before it. Assumes nothing.
-use borrow.Author.Rules.{rules}
-use Prim.Native.Nat.{ℕ, zero, suc, ◌+◌, ◌*◌, ◌^◌, ◌≤◌, ◌<◌}
-use native.Mathlib.Omega.{arith}
-use mir.Facts.{Fits-bits}
-use Rattle.float.proofs.Squares.{mul_lt}
+use Prim.Native.Nat.{◌^◌, ◌<◌}
 use Rattle.float_root_whole.proofs.lowered.Given as goal
 
 abbrev pub invariant-loop-q : goal.invariant-loop-q

@@ -1,9 +1,9 @@
 -- `float_shortcut::not_nearer`: the wide values are the values themselves, so the tests are the definition's, and `shown_size` says what they show.
 -- Assumes nothing.
-use Rattle.std.proofs.Common.{◌≡◌, Bool, true, false, ◌&&◌, ◌||◌, T, sym, refl, ◌∙◌, subst, ap₂, rules}
-use lib.Ieee.{Float, binary32, binary64, fits, neg, mul, le}
+use Rattle.std.proofs.Common.{◌≡◌, Bool, true, ◌&&◌, ◌||◌, T, sym, refl, ◌∙◌, subst, ap₂}
+use lib.Ieee.{Float, binary32, binary64, fits, mul, le}
 use lib.Ieee.Bits.{is_false}
-use Rattle.float.specs.Arith.{◌≺◌, f0, if◌then◌else◌}
+use Rattle.float.specs.Arith.{◌≺◌, f0}
 use Rattle.float.proofs.Bools.{and_first, and_second}
 use Rattle.float_shortcut.specs.Shown.{size_of, at_least_square, Shown}
 use Rattle.float_shortcut.proofs.Signed.{shown_number, shown_size}

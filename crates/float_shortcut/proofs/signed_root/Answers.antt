@@ -1,5 +1,5 @@
 -- `float_shortcut::signed_root`: the root of the magnitude, by the sign bit. Assumes nothing.
-use Rattle.std.proofs.Common.{◌≡◌, Bool, true, false, cond, T, sym, ap, ◌∙◌, subst, rules}
+use Rattle.std.proofs.Common.{◌≡◌, Bool, true, false, cond, T, sym, ap, ◌∙◌, subst}
 use lib.Ieee.{Float, neg}
 use Rattle.float.specs.RootOf.{root_of}
 use Rattle.float.specs.Steps.{abs_of, sign_bit}

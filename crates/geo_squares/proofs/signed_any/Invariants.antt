@@ -1,10 +1,9 @@
 -- `geo_squares::signed_any`: the loop over a row of points (`proofs/Loop.antt`). Assumes nothing.
 use Prim.Native.Nat.{◌-◌}
-use native.Mathlib.Omega.{arith}
 use lib.ListN.{length}
 use Rattle.geo_closest.specs.Closest.{closest_on}
 use Rattle.geo_side.specs.Side.{signed_square_to}
-use Rattle.geo_squares.proofs.Loop.{Upto, starts, turn, ends}
+use Rattle.geo_squares.proofs.Loop.{Upto}
 use Rattle.geo_squares.proofs.signed_any.Given as goal
 
 abbrev pub invariant-loop-i : goal.invariant-loop-i

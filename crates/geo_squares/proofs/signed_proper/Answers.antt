@@ -1,10 +1,7 @@
 -- `geo_squares::signed_proper`: the loop over a row of points (`proofs/Loop.antt`). Assumes nothing.
 use Prim.Native.Nat.{◌-◌}
-use native.Mathlib.Omega.{arith}
-use lib.ListN.{length}
-use Rattle.geo_closest.specs.Closest.{nearest, dots_of}
 use Rattle.geo_side.specs.Side.{signed_square_to}
-use Rattle.geo_squares.proofs.Loop.{Upto, starts, turn, ends}
+use Rattle.geo_squares.proofs.Loop.{turn}
 use Rattle.geo_squares.proofs.signed_proper.Goals as goal
 
 pub loop-i-preserved : goal.loop-i-preserved

@@ -1,5 +1,4 @@
 -- `geo_squares::signed_squares_on`: each form of the triangle has its loop, which ends at the closest points (`proofs/Equal.antt`). Assumes nothing.
-use native.Mathlib.Omega.{arith}
 use mathlib.Core.Path.{refl}
 use Rattle.geo_closest.specs.Closest.{nearest, dots_of, closest_on}
 use Rattle.geo_squares.proofs.Equal.{to_sided, to_regions}

@@ -1,9 +1,8 @@
 -- `geo_squares::squares_point`: the loop over a row of points (`proofs/Loop.antt`). Assumes nothing.
 use Prim.Native.Nat.{◌-◌}
-use native.Mathlib.Omega.{arith}
 use lib.ListN.{length}
 use Rattle.geo_squares.specs.Squares.{square_to}
-use Rattle.geo_squares.proofs.Loop.{Upto, starts, turn, ends}
+use Rattle.geo_squares.proofs.Loop.{Upto}
 use Rattle.geo_squares.proofs.squares_point.Given as goal
 
 abbrev pub invariant-loop-i : goal.invariant-loop-i

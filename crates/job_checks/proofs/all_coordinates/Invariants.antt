@@ -1,14 +1,9 @@
 -- `job_checks::all_coordinates`: each coordinate passed so far is in bounds; one that is not decides. Assumes nothing.
-use borrow.Author.Rules.{rules}
-use borrow.Author.Count.{below_more}
-use borrow.Author.Tests.{not-true, not-false}
-use mathlib.Core.Path.{◌≡◌, sym, ◌∙◌}
+use mathlib.Core.Path.{◌≡◌}
 use mathlib.Core.Bool.{true}
 use Prim.Native.Nat.{ℕ, ◌-◌, ◌≤◌, ◌<◌}
-use native.Mathlib.Omega.{arith}
 use lib.ListN.{length, get_or}
 use lib.Ieee.{nan}
-use Rattle.lists.proofs.Every.{every_each, every_not}
 use Rattle.grid_axis.specs.AxisBounds.{is_coordinate}
 use Rattle.job_checks.proofs.all_coordinates.Given as goal
 

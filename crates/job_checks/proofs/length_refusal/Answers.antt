@@ -1,5 +1,4 @@
 -- `job_checks::length_refusal`: each return by the test that led there. Assumes nothing.
-use borrow.Author.Rules.{rules}
 use mathlib.Core.Path.{◌≡◌, sym, ◌∙◌}
 use Rattle.job_checks.specs.Refusals.{wrong_lengths}
 use Rattle.job_checks.proofs.length_refusal.Goals as goal

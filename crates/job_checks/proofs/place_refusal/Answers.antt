@@ -1,5 +1,4 @@
 -- `job_checks::place_refusal`: each return by the test that led there. Assumes nothing.
-use borrow.Author.Rules.{rules}
 use mathlib.Core.Path.{◌≡◌, sym, ap, ◌∙◌}
 use mathlib.Core.Bool.{not}
 use Rattle.mesh.specs.Mesh.{mesh_of}

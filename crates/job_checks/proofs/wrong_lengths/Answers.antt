@@ -1,5 +1,4 @@
 -- `job_checks::wrong_lengths`: the tests are the definition's. Assumes nothing.
-use borrow.Author.Rules.{rules}
 use Rattle.job_checks.proofs.wrong_lengths.Goals as goal
 
 pub returns : goal.returns

@@ -1,5 +1,4 @@
 -- `job_clear::clear_all`: each buffer by the call that clears it. Assumes nothing.
-use borrow.Author.Rules.{rules}
 use Rattle.job_clear.proofs.Lengths.{all_cleared}
 use Rattle.job_clear.proofs.clear_all.Goals as goal
 

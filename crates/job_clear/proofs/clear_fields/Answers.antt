@@ -1,5 +1,4 @@
 -- `job_clear::clear_fields`: each buffer by the call that fills it. Assumes nothing.
-use borrow.Author.Rules.{rules}
 use Rattle.job_clear.proofs.clear_fields.Goals as goal
 
 pub returns : goal.returns

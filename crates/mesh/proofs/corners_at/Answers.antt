@@ -1,8 +1,6 @@
 -- `mesh::corners_at`: each corner of triangle k is a vertex, by what refusal 4 leaves. Assumes nothing.
-use borrow.Author.Rules.{rules}
-use mathlib.Core.Path.{◌≡◌, sym, subst}
+use mathlib.Core.Path.{sym, subst}
 use Prim.Native.Nat.{ℕ, ◌<◌}
-use Rattle.mesh_topology.specs.Topology.{kth}
 use Rattle.mesh_topology.specs.declared.Triangle.{Triangle}
 use Rattle.mesh_topology.proofs.Laws.{Vertices, vertices_at_lem}
 use Rattle.mesh.specs.Mesh.{vertex_count, triangles_in, mesh_of, corners_at}

@@ -1,5 +1,4 @@
 -- `mesh::corners_of`: what the three calls ensure. Assumes nothing.
-use borrow.Author.Rules.{rules}
 use Rattle.mesh.specs.Mesh.{corners_of}
 use Rattle.mesh.proofs.corners_of.Goals as goal
 

@@ -1,14 +1,9 @@
 -- `mesh_checks::in_range`: the loop's invariant is that the corners of each triangle passed are below the vertex count. A triangle
 -- with another corner decides the answer, and so does the end of the row. Assumes nothing.
-use borrow.Author.Rules.{rules}
-use borrow.Author.Count.{below_more}
-use borrow.Author.Tests.{not-true, not-false}
-use mathlib.Core.Path.{◌≡◌, sym, ◌∙◌}
+use mathlib.Core.Path.{◌≡◌}
 use mathlib.Core.Bool.{true}
 use Prim.Native.Nat.{ℕ, ◌-◌, ◌≤◌, ◌<◌}
-use native.Mathlib.Omega.{arith}
-use Rattle.lists.proofs.Every.{every_each, every_not}
-use Rattle.mesh_topology.specs.Topology.{triangles_of, triangle, kth}
+use Rattle.mesh_topology.specs.Topology.{triangles_of, kth}
 use Rattle.mesh_topology.specs.Refusals.{below_count}
 use Rattle.mesh_checks.proofs.in_range.Given as goal
 

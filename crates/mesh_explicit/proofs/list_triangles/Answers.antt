@@ -1,13 +1,10 @@
 -- `mesh_explicit::list_triangles`: a piece of three numbers for each triangle, one behind the other. Assumes nothing.
-use borrow.Author.Rules.{rules}
-use Prim.Native.Nat.{ℕ, ◌-◌}
+use Prim.Native.Nat.{◌-◌}
 use native.Mathlib.Omega.{arith}
 use mathlib.Core.Path.{refl}
-use mathlib.Core.List.{List}
 use Rattle.lists.proofs.Joined.{joined_each}
-use Rattle.lists.proofs.Puts.{said, Pieces, no_pieces, pieces_more, pieces_room, pieces_all}
-use Rattle.mesh_topology.specs.declared.Triangle.{Triangle}
-use Rattle.mesh_topology.specs.Topology.{triangles_of, triangle, kth}
+use Rattle.lists.proofs.Puts.{said, no_pieces, pieces_more, pieces_all}
+use Rattle.mesh_topology.specs.Topology.{triangle}
 use Rattle.mesh_explicit.specs.Explicit.{vertex_numbers}
 use Rattle.mesh_explicit.proofs.list_triangles.Goals as goal
 

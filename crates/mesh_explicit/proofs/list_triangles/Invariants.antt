@@ -1,13 +1,9 @@
 -- `mesh_explicit::list_triangles`: a piece of three numbers for each triangle, one behind the other. Assumes nothing.
-use borrow.Author.Rules.{rules}
 use Prim.Native.Nat.{ℕ, ◌-◌}
-use native.Mathlib.Omega.{arith}
-use mathlib.Core.Path.{refl}
 use mathlib.Core.List.{List}
-use Rattle.lists.proofs.Joined.{joined_each}
-use Rattle.lists.proofs.Puts.{said, Pieces, no_pieces, pieces_more, pieces_room, pieces_all}
+use Rattle.lists.proofs.Puts.{Pieces}
 use Rattle.mesh_topology.specs.declared.Triangle.{Triangle}
-use Rattle.mesh_topology.specs.Topology.{triangles_of, triangle, kth}
+use Rattle.mesh_topology.specs.Topology.{triangles_of, kth}
 use Rattle.mesh_explicit.specs.Explicit.{vertex_numbers}
 use Rattle.mesh_explicit.proofs.list_triangles.Given as goal
 

@@ -1,10 +1,9 @@
 -- `mesh_off_grid::all_on_grid`: the loop's invariant is that no triangle passed lies off the grid. One that does decides the answer, and
 -- so does the end of the row. Assumes nothing.
-use borrow.Author.Rules.{rules}
 use borrow.Author.Count.{below_more}
 use mathlib.Core.Path.{◌≡◌, sym, ap, ◌∙◌}
 use mathlib.Core.Bool.{Bool, true, not}
-use Prim.Native.Nat.{ℕ, ◌-◌, ◌≤◌, ◌<◌}
+use Prim.Native.Nat.{◌-◌}
 use native.Mathlib.Omega.{arith}
 use Rattle.lists.proofs.Every.{every_each, every_not}
 use Rattle.mesh_topology.specs.Topology.{triangle, kth}

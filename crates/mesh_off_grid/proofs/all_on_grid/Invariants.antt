@@ -1,16 +1,10 @@
 -- `mesh_off_grid::all_on_grid`: the loop's invariant is that no triangle passed lies off the grid. One that does decides the answer, and
 -- so does the end of the row. Assumes nothing.
-use borrow.Author.Rules.{rules}
-use borrow.Author.Count.{below_more}
-use mathlib.Core.Path.{◌≡◌, sym, ap, ◌∙◌}
-use mathlib.Core.Bool.{Bool, true, not}
+use mathlib.Core.Path.{◌≡◌}
+use mathlib.Core.Bool.{true, not}
 use Prim.Native.Nat.{ℕ, ◌-◌, ◌≤◌, ◌<◌}
-use native.Mathlib.Omega.{arith}
-use Rattle.lists.proofs.Every.{every_each, every_not}
-use Rattle.mesh_topology.specs.Topology.{triangle, kth}
-use Rattle.grid.specs.declared.BoundingBox.{BoundingBox}
-use Rattle.mesh.specs.declared.Corners.{Corners}
-use Rattle.mesh.specs.Mesh.{mesh_of, triangles_in, corners_of, corners_at}
+use Rattle.mesh_topology.specs.Topology.{kth}
+use Rattle.mesh.specs.Mesh.{mesh_of, triangles_in, corners_of}
 use Rattle.mesh_off_grid.specs.OffGrid.{off_box, all_on_grid}
 use Rattle.mesh_off_grid.proofs.all_on_grid.Given as goal
 

@@ -3,7 +3,6 @@
 use borrow.Author.Rules.{rules}
 use Prim.Native.Nat.{◌<◌}
 use native.Mathlib.Nat.{zero-add}
-use lib.ListN.{length}
 use Rattle.mesh_topology.proofs.Laws.{length_count_from, count_from_at}
 use Rattle.mesh_topology.proofs.corner.Goals as goal
 use Rattle.mesh_topology.proofs.corner.Goals.{In-None}

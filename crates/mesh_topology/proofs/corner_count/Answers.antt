@@ -1,5 +1,4 @@
 -- `mesh_topology::corner_count`: in each arm the corners are known, and so is their number. Assumes nothing.
-use borrow.Author.Rules.{rules}
 use Rattle.mesh_topology.proofs.Laws.{length_count_from}
 use Rattle.mesh_topology.proofs.corner_count.Goals as goal
 

@@ -1,5 +1,4 @@
 -- `mesh_topology::triangle_count`: so many corners make so many triangles (`count_is`). Assumes nothing.
-use borrow.Author.Rules.{rules}
 use Rattle.mesh_topology.proofs.Laws.{count_is}
 use Rattle.mesh_topology.proofs.triangle_count.Goals as goal
 

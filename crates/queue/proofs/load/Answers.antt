@@ -1,5 +1,4 @@
 -- `queue::load` meets its contract: the three numbers at i are the entry at i. Assumes nothing.
-use borrow.Author.Rules.{rules}
 use Rattle.queue.proofs.Flat.{at_entries}
 use Rattle.queue.proofs.load.Goals as goal
 

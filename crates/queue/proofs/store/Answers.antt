@@ -1,5 +1,4 @@
 -- `queue::store` meets its contract: three stores at i are one of an entry. Assumes nothing.
-use borrow.Author.Rules.{rules}
 use Rattle.queue.proofs.Flat.{set_entries}
 use Rattle.queue.proofs.store.Goals as goal
 

@@ -1,18 +1,15 @@
 -- `queue_take::take` meets its contract: by keys the root goes first, and the last is sifted down from its place. Those that wait differ in
 -- distance or cell, so what goes first by keys goes first by all three. Assumes nothing.
 use native.Mathlib.Omega.{arith}
-use Prim.Native.Nat.{ℕ, ◌≤◌}
+use Prim.Native.Nat.{◌≤◌}
 use mathlib.Core.List.{List}
 use lib.ListN.{length}
 use Rattle.queue.specs.declared.Entry.{Entry}
-use Rattle.queue.specs.Order.{order_of}
-use Rattle.queue.specs.Keys.{by_keys}
-use Rattle.queue.specs.Queue.{blank, entries, Taken}
+use Rattle.queue.specs.Queue.{blank, entries}
 use Rattle.queue.proofs.Order.{keys_order}
 use Rattle.queue.proofs.Keys.{agree_back, by_keys_lem, taken_by}
 use Rattle.queue.proofs.Flat.{Lens, unmoved, more, still_even, held_fit, flat_taken}
 use Rattle.queue.proofs.Moves.{lowered, taken_some, taken_none}
-use borrow.Author.Rules.{rules}
 use Rattle.queue_take.proofs.take.Goals as goal
 
 pub load-r-requires : goal.load-r-requires

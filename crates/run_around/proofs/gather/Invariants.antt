@@ -1,19 +1,14 @@
 -- `gather`: after j turns the first j entries of each list are those of the first j steps. Assumes nothing.
 use Prim.Native.Nat.{ℕ, ◌-◌, ◌≤◌}
-use native.Mathlib.Omega.{arith}
-use mathlib.Core.Path.{◌≡◌, sym, ap, ◌∙◌}
-use lib.ListN.{length}
 use lib.Ieee.{nan}
 use Rattle.point.specs.declared.Point.{Point}
 use Rattle.lists.specs.Table.{Filled}
-use Rattle.lists.proofs.Table.{filled_none, filled_more, filled_all}
 use Rattle.grid.specs.declared.Grid.{Grid}
 use Rattle.grid.specs.declared.Cell.{Cell}
 use Rattle.grid.specs.Place.{centre_of}
 use Rattle.run.specs.Steps.{step_at}
 use Rattle.run_around.specs.declared.Spot.{Spot}
 use Rattle.run_around.specs.Around.{spot_of}
-use Rattle.run_around.proofs.Steps.{table_step, table_long, spot_inside, near_enough}
 use Rattle.run_around.proofs.gather.Given as goal
 
 -- the spot of step j, and its centre

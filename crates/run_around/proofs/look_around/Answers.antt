@@ -1,5 +1,4 @@
 -- `look_around`: what is gathered from the entry's cell, and the squares for its triangle. Assumes nothing.
-use borrow.Author.Rules.{rules}
 use mathlib.Core.Path.{refl, sym, ap, ◌∙◌}
 use Rattle.grid.specs.Index.{Inside}
 use Rattle.grid.proofs.Laws.{cell_within}

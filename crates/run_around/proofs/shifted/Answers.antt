@@ -1,5 +1,4 @@
 -- `shifted`: each number of the table is the shift that it stands for, and a shift back is made above 0. Assumes nothing.
-use borrow.Author.Rules.{rules}
 use native.Mathlib.Omega.{arith}
 use borrow.Author.Tests.{ltb-true}
 use Rattle.run_around.proofs.Steps.{shift_ahead}

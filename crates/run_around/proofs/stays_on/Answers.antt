@@ -1,5 +1,4 @@
 -- `stays_on`: each number of the table is the shift that it stands for. Assumes nothing.
-use borrow.Author.Rules.{rules}
 use Rattle.run_around.proofs.Steps.{shift_ahead}
 use Rattle.run_around.proofs.stays_on.Goals as goal
 

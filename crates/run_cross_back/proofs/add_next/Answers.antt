@@ -1,5 +1,4 @@
 -- `run_cross_back::add_next`: as it is written. Assumes nothing.
-use borrow.Author.Rules.{rules}
 use native.Mathlib.Omega.{arith}
 use Rattle.run_cross_back.proofs.add_next.Goals as goal
 

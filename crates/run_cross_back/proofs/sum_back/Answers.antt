@@ -1,7 +1,6 @@
 -- `run_cross_back::sum_back`: the entries from number `at` on are summed, and the others as they were, whatever the list was at the beginning; each
 -- of the three loops carries that on. A cell's three entries follow each other, so that one turn sums one after the
 -- other (`proofs/Back.antt`). Assumes nothing.
-use borrow.Author.Rules.{rules}
 use Prim.Native.Nat.{ℕ, ◌+◌, ◌-◌, ◌*◌, ◌^◌, ◌≤◌, ◌<◌}
 use native.Mathlib.Omega.{arith}
 use mathlib.Core.Path.{◌≡◌, refl, sym, ap, ◌∙◌, subst}
@@ -11,7 +10,6 @@ use lib.Dec.{ltb}
 use lib.ListN.{length}
 use Rattle.point.specs.declared.Axis.{Axis}
 use Rattle.point.specs.declared.Axis.TheVariants.{X, Y, Z}
-use Rattle.grid.specs.declared.Grid.{Grid}
 use Rattle.grid.specs.declared.Cell.{Cell}
 use Rattle.grid.specs.Axes.{count_on, cell_numbered}
 use Rattle.grid.specs.Index.{Inside, index}

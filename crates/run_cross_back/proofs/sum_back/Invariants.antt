@@ -1,26 +1,13 @@
 -- `run_cross_back::sum_back`: the entries from number `at` on are summed, and the others as they were, whatever the list was at the beginning; each
 -- of the three loops carries that on. A cell's three entries follow each other, so that one turn sums one after the
 -- other (`proofs/Back.antt`). Assumes nothing.
-use borrow.Author.Rules.{rules}
-use Prim.Native.Nat.{ℕ, ◌+◌, ◌-◌, ◌*◌, ◌^◌, ◌≤◌, ◌<◌}
-use native.Mathlib.Omega.{arith}
-use mathlib.Core.Path.{◌≡◌, refl, sym, ap, ◌∙◌, subst}
-use mathlib.Core.Bool.{Bool, true}
+use Prim.Native.Nat.{ℕ, ◌+◌, ◌-◌, ◌*◌, ◌≤◌}
+use mathlib.Core.Path.{◌≡◌}
 use mathlib.Core.List.{List}
-use lib.Dec.{ltb}
-use lib.ListN.{length}
-use Rattle.point.specs.declared.Axis.{Axis}
 use Rattle.point.specs.declared.Axis.TheVariants.{X, Y, Z}
 use Rattle.grid.specs.declared.Grid.{Grid}
-use Rattle.grid.specs.declared.Cell.{Cell}
-use Rattle.grid.specs.Axes.{count_on, cell_numbered}
-use Rattle.grid.specs.Index.{Inside, index}
-use Rattle.grid.proofs.Laws.{index_below}
-use Rattle.grid.proofs.Facts.{bounds_of, on_axis}
-use Rattle.run_cross_lines.specs.Lines.{entry_of}
-use Rattle.run_cross_back.specs.Back.{SummedFrom, with_next, next_added}
-use Rattle.run_cross_back.proofs.Falling.{row_less, layer_less, none, entry_x, entry_y, entry_z}
-use Rattle.run_cross_back.proofs.Back.{OnLine, next_fits, summed_more, summed_none, summed_all}
+use Rattle.grid.specs.Axes.{count_on}
+use Rattle.run_cross_back.specs.Back.{SummedFrom}
 use Rattle.run_cross_back.proofs.sum_back.Given as goal
 
 -- what was summed from one entry on is summed from another on

@@ -1,5 +1,4 @@
 -- `run_cross_hits::add_line`: the line's cells have their entries a step apart (`crates/run_cross_lines/proofs/Grown.antt`). Assumes nothing.
-use borrow.Author.Rules.{rules}
 use native.Mathlib.Nat.{mul-pos}
 use native.Mathlib.Omega.{arith}
 use mathlib.Core.Path.{◌≡◌, ap, ◌∙◌}

@@ -1,8 +1,7 @@
 -- `run_cross_hits::cross_line`: a miss and a graze reach no cell; a hit reaches those up to the cell of its quotient
 -- (`crates/run_cross_lines/proofs/Hits.antt`), and one is added from where the pass begins. Assumes nothing.
-use borrow.Author.Rules.{rules}
 use Prim.Native.Nat.{ℕ}
-use mathlib.Core.Path.{◌≡◌, refl, sym, ap, ap₂, ◌∙◌}
+use mathlib.Core.Path.{◌≡◌, sym, ap, ap₂, ◌∙◌}
 use mathlib.Core.Bool.{true}
 use lib.IntN.{ℤ}
 use lib.Ieee.{Float}

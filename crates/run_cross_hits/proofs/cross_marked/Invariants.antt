@@ -1,24 +1,13 @@
 -- `run_cross_hits::cross_marked`: the lines before v are crossed and those of them that graze counted. A line that is not marked is missed
 -- (`crates/run_cross_lines/proofs/Hits.antt`), so that nothing is to be added there. Assumes nothing.
-use borrow.Author.Rules.{rules}
-use Prim.Native.Nat.{ℕ, ◌+◌, ◌-◌, ◌≤◌, ◌<◌}
-use native.Mathlib.Omega.{arith}
-use mathlib.Core.Path.{◌≡◌, refl, sym, ap, ap₂, ◌∙◌}
+use Prim.Native.Nat.{◌-◌, ◌≤◌}
+use mathlib.Core.Path.{◌≡◌}
 use mathlib.Core.Bool.{◌&&◌}
-use mathlib.Core.Logic.{⊎_elim}
 use lib.Dec.{ltb}
 use lib.ListN.{length}
-use Rattle.grid.specs.Axes.{count_on, next}
-use Rattle.grid.proofs.Facts.{bounds_of, on_axis}
-use Rattle.geo_ray.specs.declared.Three.{Three}
-use Rattle.geo_ray.specs.declared.RayHit.{RayHit}
-use Rattle.geo_ray.specs.Ray.{ray_of}
 use Rattle.run.specs.Grazed.{grazed_in_row}
 use Rattle.run_cross_lines.specs.Lines.{v_of}
-use Rattle.run_cross_lines.specs.Pass.{Grown, line_crossed, row_crossed, parts_at, ahead, row_hit}
-use Rattle.run_cross_lines.proofs.Grown.{room_after, row_none, row_more, row_all, line_passed}
-use Rattle.run_cross_lines.proofs.Hits.{must_miss, hit_ahead}
-use Rattle.run_cross_lines.proofs.Grazing.{line_grazed_le, row_grazed_first, row_grazed_more, row_grazed_missed, row_grazed_le}
+use Rattle.run_cross_lines.specs.Pass.{Grown, row_crossed, row_hit}
 use Rattle.run_cross_hits.proofs.cross_marked.Given as goal
 
 abbrev pub invariant-loop-v : goal.invariant-loop-v

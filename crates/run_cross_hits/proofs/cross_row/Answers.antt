@@ -1,5 +1,4 @@
 -- `run_cross_hits::cross_row`: where no line is marked every line is missed, and nothing is to be added. Assumes nothing.
-use borrow.Author.Rules.{rules}
 use Prim.Native.Nat.{ℕ, ◌≤◌, ◌<◌}
 use native.Mathlib.Omega.{arith}
 use mathlib.Core.Path.{◌≡◌, sym, ap, ◌∙◌}

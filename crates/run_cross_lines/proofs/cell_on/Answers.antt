@@ -1,5 +1,4 @@
 -- `run_cross_lines::cell_on`: each arm by the axis that led there. Assumes nothing.
-use borrow.Author.Rules.{rules}
 use Rattle.run_cross_lines.proofs.cell_on.Goals as goal
 
 pub returns-in-X : goal.returns-in-X

@@ -1,5 +1,4 @@
 -- `run_cross_lines::centre`: the first and the size on the axis are those of the definition. Assumes nothing.
-use borrow.Author.Rules.{rules}
 use Rattle.run_cross_lines.proofs.centre.Goals as goal
 
 pub returns : goal.returns

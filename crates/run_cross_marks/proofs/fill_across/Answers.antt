@@ -1,9 +1,8 @@
 -- `run_cross_marks::fill_across`: the parts of the lines before i are there (`crates/run_cross_lines/proofs/Marks.antt`). Assumes nothing.
-use borrow.Author.Rules.{rules}
-use Prim.Native.Nat.{ℕ, ◌-◌, ◌≤◌, ◌<◌}
+use Prim.Native.Nat.{ℕ, ◌-◌, ◌<◌}
 use native.Mathlib.Omega.{arith}
 use mathlib.Core.Path.{◌≡◌, refl, ap, ◌∙◌, subst}
-use lib.ListN.{length, length-set}
+use lib.ListN.{length-set}
 use Rattle.grid.specs.Axes.{count_on}
 use Rattle.grid.proofs.Facts.{bounds_of, on_axis}
 use Rattle.geo_ray.specs.Ray.{across_z}

@@ -1,14 +1,8 @@
 -- `run_cross_marks::fill_across`: the parts of the lines before i are there (`crates/run_cross_lines/proofs/Marks.antt`). Assumes nothing.
-use borrow.Author.Rules.{rules}
-use Prim.Native.Nat.{ℕ, ◌-◌, ◌≤◌, ◌<◌}
-use native.Mathlib.Omega.{arith}
-use mathlib.Core.Path.{◌≡◌, refl, ap, ◌∙◌, subst}
-use lib.ListN.{length, length-set}
-use Rattle.grid.specs.Axes.{count_on}
-use Rattle.grid.proofs.Facts.{bounds_of, on_axis}
-use Rattle.geo_ray.specs.Ray.{across_z}
+use Prim.Native.Nat.{◌-◌, ◌≤◌}
+use mathlib.Core.Path.{◌≡◌}
+use lib.ListN.{length}
 use Rattle.run_cross_lines.specs.Pass.{Across}
-use Rattle.run_cross_lines.proofs.Marks.{across_none, across_more}
 use Rattle.run_cross_marks.proofs.fill_across.Given as goal
 
 abbrev pub invariant-loop-i : goal.invariant-loop-i

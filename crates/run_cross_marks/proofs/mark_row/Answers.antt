@@ -1,11 +1,9 @@
 -- `run_cross_marks::mark_row`: the lines before v are marked, and while none is, none of them may be met (`crates/run_cross_lines/proofs/Marks.antt`). Assumes nothing.
-use borrow.Author.Rules.{rules}
-use Prim.Native.Nat.{ℕ, ◌-◌, ◌≤◌, ◌<◌}
+use Prim.Native.Nat.{ℕ, ◌-◌}
 use native.Mathlib.Nat.{not-suc-le-zero}
 use native.Mathlib.Omega.{arith}
 use mathlib.Core.Path.{◌≡◌, refl, ap, ◌∙◌, subst}
-use mathlib.Core.Bool.{false}
-use lib.ListN.{length, length-set}
+use lib.ListN.{length-set}
 use Rattle.geo_ray.specs.declared.Three.{Three}
 use Rattle.run_cross_lines.specs.Pass.{parts_at, may_meet, Marked}
 use Rattle.run_cross_lines.proofs.Marks.{marked_none, marked_more, none_marked}

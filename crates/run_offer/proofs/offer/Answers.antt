@@ -1,5 +1,4 @@
 -- `offer`: the tests on the square and on the root are those of an offer. Assumes nothing.
-use borrow.Author.Rules.{rules}
 use mathlib.Core.Path.{sym, ap, ◌∙◌, subst}
 use lib.Dec.{T}
 use lib.Ieee.{binary32, fits, is_nan}

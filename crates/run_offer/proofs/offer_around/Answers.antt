@@ -1,15 +1,12 @@
 -- `offer_around`: the loop's turns are the offers, one for each step. Assumes nothing.
-use Prim.Native.Nat.{ℕ, ◌-◌, ◌≤◌, ◌<◌}
+use Prim.Native.Nat.{ℕ, ◌-◌, ◌<◌}
 use native.Mathlib.Omega.{arith}
 use mathlib.Core.Path.{◌≡◌, ◌∙◌}
 use mathlib.Core.List.{List}
-use lib.ListN.{length, get_or}
-use lib.Ieee.{Float, nan}
-use Rattle.float_shortcut.specs.Shown.{signed_root}
-use Rattle.lists.specs.Turns.{Turn}
-use Rattle.run.specs.Run.{RunInput, State, queue}
-use Rattle.run_around.specs.Around.{place_of, offer_place, Passable}
-use Rattle.run_state.proofs.Loops.{After, begins, goes_on, stops, ends, Alike, alike}
+use lib.ListN.{length}
+use lib.Ieee.{Float}
+use Rattle.run_around.specs.Around.{Passable}
+use Rattle.run_state.proofs.Loops.{begins, goes_on, stops, ends, Alike, alike}
 use Rattle.run_offer.proofs.offer_around.Goals as goal
 use Rattle.run_offer.proofs.offer_around.Goals.{After-loop-j, Else-reached-ne0, Then-reached-ne0}
 

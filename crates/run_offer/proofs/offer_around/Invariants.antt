@@ -1,15 +1,13 @@
 -- `offer_around`: the loop's turns are the offers, one for each step. Assumes nothing.
-use Prim.Native.Nat.{ℕ, ◌-◌, ◌≤◌, ◌<◌}
-use native.Mathlib.Omega.{arith}
-use mathlib.Core.Path.{◌≡◌, ◌∙◌}
+use Prim.Native.Nat.{ℕ, ◌-◌, ◌≤◌}
 use mathlib.Core.List.{List}
-use lib.ListN.{length, get_or}
+use lib.ListN.{get_or}
 use lib.Ieee.{Float, nan}
 use Rattle.float_shortcut.specs.Shown.{signed_root}
 use Rattle.lists.specs.Turns.{Turn}
 use Rattle.run.specs.Run.{RunInput, State, queue}
-use Rattle.run_around.specs.Around.{place_of, offer_place, Passable}
-use Rattle.run_state.proofs.Loops.{After, begins, goes_on, stops, ends, Alike, alike}
+use Rattle.run_around.specs.Around.{place_of, offer_place}
+use Rattle.run_state.proofs.Loops.{After}
 use Rattle.run_offer.proofs.offer_around.Given as goal
 
 -- turn j

@@ -1,5 +1,4 @@
 -- `offer_to`: a step leads off the grid, or to a cell. Assumes nothing.
-use borrow.Author.Rules.{rules}
 use Rattle.run_offer.proofs.Offers.{step_off, step_at_lem}
 use Rattle.run_offer.proofs.offer_to.Goals as goal
 

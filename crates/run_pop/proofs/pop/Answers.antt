@@ -1,5 +1,4 @@
 -- `run_pop::pop`: the entry that is taken is known, what is left still holds, and the offers are those of `spread_around`. Assumes nothing.
-use borrow.Author.Rules.{rules}
 use native.Mathlib.Omega.{arith}
 use mathlib.Core.Path.{refl, ◌∙◌}
 use Rattle.run.specs.Input.{run_input}

@@ -1,5 +1,4 @@
 -- `enqueue`: the room is full, or `push` puts the entry in. Assumes nothing.
-use borrow.Author.Rules.{rules}
 use Rattle.run_queue.proofs.Queues.{full, put_in}
 use Rattle.run_queue.proofs.enqueue.Goals as goal
 

@@ -1,5 +1,4 @@
 -- `queue_cell`: the test is the definition's, and the entry is what the cell holds. Assumes nothing.
-use borrow.Author.Rules.{rules}
 use native.Mathlib.Omega.{arith}
 use Rattle.run.proofs.Ways.{less_no_nan}
 use Rattle.run_queue.proofs.Queues.{cell_passed, cell_queued}

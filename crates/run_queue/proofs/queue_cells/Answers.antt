@@ -1,10 +1,9 @@
 -- `queue_cells`: the loop's turns are those of queueing, one for each cell. Assumes nothing.
-use Prim.Native.Nat.{◌-◌, ◌≤◌}
+use Prim.Native.Nat.{◌-◌}
 use native.Mathlib.Omega.{arith}
 use mathlib.Core.Path.{refl, ◌∙◌}
-use lib.ListN.{length}
 use Rattle.run.specs.Run.{queue_cell}
-use Rattle.run_state.proofs.Loops.{After, begins, goes_on, stops, ends, Alike, alike}
+use Rattle.run_state.proofs.Loops.{begins, goes_on, stops, ends, Alike, alike}
 use Rattle.run_queue.proofs.queue_cells.Goals as goal
 use Rattle.run_queue.proofs.queue_cells.Goals.{After-loop-c, Then-reached-ne0}
 

@@ -1,10 +1,8 @@
 -- `queue_cells`: the loop's turns are those of queueing, one for each cell. Assumes nothing.
 use Prim.Native.Nat.{◌-◌, ◌≤◌}
-use native.Mathlib.Omega.{arith}
-use mathlib.Core.Path.{refl, ◌∙◌}
 use lib.ListN.{length}
 use Rattle.run.specs.Run.{queue_cell}
-use Rattle.run_state.proofs.Loops.{After, begins, goes_on, stops, ends, Alike, alike}
+use Rattle.run_state.proofs.Loops.{After}
 use Rattle.run_queue.proofs.queue_cells.Given as goal
 
 abbrev pub invariant-loop-c : goal.invariant-loop-c

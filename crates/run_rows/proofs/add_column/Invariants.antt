@@ -1,13 +1,10 @@
 -- `run_rows::add_column`: the loop fills the rows from the front with what they held and what the cell adds. Assumes nothing.
-use borrow.Author.Rules.{rules}
-use Prim.Native.Nat.{ℕ, ◌+◌, ◌*◌, ◌-◌, ◌≤◌}
-use native.Mathlib.Omega.{arith}
-use mathlib.Core.Path.{◌≡◌, refl, sym, ap, ◌∙◌}
-use lib.ListN.{length, get_or}
+use Prim.Native.Nat.{◌-◌, ◌≤◌}
+use mathlib.Core.Path.{◌≡◌}
+use lib.ListN.{length}
 use Rattle.lists.specs.Table.{Filled}
-use Rattle.lists.proofs.Table.{filled_none, filled_more}
 use Rattle.run.specs.Signs.{row_weight}
-use Rattle.run_rows.proofs.Blocks.{more, run_few, run_of_one}
+use Rattle.run_rows.proofs.Blocks.{more}
 use Rattle.run_rows.proofs.add_column.Given as goal
 
 abbrev pub invariant-loop-n : goal.invariant-loop-n

@@ -3,7 +3,6 @@ use Prim.Native.Nat.{ℕ, ◌+◌, ◌*◌, ◌-◌, ◌≤◌}
 use native.Mathlib.Omega.{arith}
 use mathlib.Core.Path.{◌≡◌, refl, ap, ◌∙◌}
 use lib.ListN.{length, get_or}
-use Rattle.lists.specs.Table.{Filled}
 use Rattle.lists.proofs.Table.{filled_none, filled_more}
 use Rattle.run.specs.Signs.{row_weight}
 use Rattle.run_rows.proofs.Blocks.{more, run_few, run_within}

@@ -1,12 +1,10 @@
 -- `run_rows::add_runs`: the loop fills the rows from the front with what they held and what the layer's run adds. Assumes nothing.
-use Prim.Native.Nat.{ℕ, ◌+◌, ◌*◌, ◌-◌, ◌≤◌}
-use native.Mathlib.Omega.{arith}
-use mathlib.Core.Path.{◌≡◌, refl, ap, ◌∙◌}
-use lib.ListN.{length, get_or}
+use Prim.Native.Nat.{◌-◌, ◌≤◌}
+use mathlib.Core.Path.{◌≡◌}
+use lib.ListN.{length}
 use Rattle.lists.specs.Table.{Filled}
-use Rattle.lists.proofs.Table.{filled_none, filled_more}
 use Rattle.run.specs.Signs.{row_weight}
-use Rattle.run_rows.proofs.Blocks.{more, run_few, run_within}
+use Rattle.run_rows.proofs.Blocks.{more}
 use Rattle.run_rows.proofs.add_runs.Given as goal
 
 abbrev pub invariant-loop-n : goal.invariant-loop-n

@@ -1,5 +1,4 @@
 -- `run_rows::count_rows`: after each block every row has what is counted of the cells before (`proofs/Blocks.antt`). Assumes nothing.
-use borrow.Author.Rules.{rules}
 use Prim.Native.Nat.{ℕ, ◌+◌, ◌*◌, ◌-◌, ◌≤◌, ◌<◌}
 use native.Mathlib.Nat.{mul-pos, mul-le-mul_right}
 use native.Mathlib.Omega.{arith}
@@ -11,7 +10,7 @@ use Rattle.grid.specs.Index.{total, stride_on}
 use Rattle.grid.specs.Layers.{upright_of, layers}
 use Rattle.grid.proofs.Facts.{bounds_of, on_axis, stride_pos}
 use Rattle.run.specs.Signs.{row_weight}
-use Rattle.run_rows.proofs.Blocks.{Rowed, rowed_none, rowed_more, rowed_room, rowed_all, blocks_on, total_blocks, some_blocks, whole_block}
+use Rattle.run_rows.proofs.Blocks.{rowed_none, rowed_more, rowed_room, rowed_all, blocks_on, total_blocks, some_blocks, whole_block}
 use Rattle.run_rows.proofs.count_rows.Goals as goal
 
 -- some times a number is not below the number

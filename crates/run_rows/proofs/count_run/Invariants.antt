@@ -1,14 +1,8 @@
 -- `run_rows::count_run`: after j cells the sum is what they add. Assumes nothing.
-use borrow.Author.Rules.{rules}
-use Prim.Native.Nat.{ℕ, ◌+◌, ◌-◌, ◌≤◌}
-use native.Mathlib.Omega.{arith}
-use mathlib.Core.Path.{◌≡◌, sym, ap, ◌∙◌}
-use lib.ListN.{get_or}
-use lib.Ieee.{nan}
-use Rattle.lists.proofs.Range.{sum_none, sum_more}
+use Prim.Native.Nat.{◌-◌, ◌≤◌}
+use mathlib.Core.Path.{◌≡◌}
 use Rattle.run.specs.Signs.{row_weight}
 use Rattle.run_rows.specs.Block.{run_weight}
-use Rattle.run_rows.proofs.Blocks.{run_few}
 use Rattle.run_rows.proofs.count_run.Given as goal
 
 abbrev pub invariant-loop-j : goal.invariant-loop-j

@@ -1,5 +1,4 @@
 -- `run_rows::half_weight`: the tests are those of the definition, of the magnitude and the sign bit that the calls tell. Assumes nothing.
-use borrow.Author.Rules.{rules}
 use Prim.Native.Nat.{ℕ}
 use mathlib.Core.Path.{◌≡◌, sym, ap, ap₂, ◌∙◌}
 use mathlib.Core.Bool.{Bool, ◌&&◌, cond}

@@ -1,6 +1,5 @@
 -- `run_rows::whole_weight`: one where the sign bit is set. Assumes nothing.
-use borrow.Author.Rules.{rules}
-use mathlib.Core.Path.{◌≡◌, ap, ◌∙◌}
+use mathlib.Core.Path.{ap, ◌∙◌}
 use mathlib.Core.Bool.{Bool, cond}
 use Prim.Native.Nat.{ℕ}
 use Rattle.run_rows.proofs.whole_weight.Goals as goal

@@ -1,11 +1,10 @@
 -- `run_seed::seed`: the state is the one after k turns, each a triangle. Assumes nothing.
 use mathlib.Core.Path.{◌≡◌, refl, ◌∙◌}
-use Prim.Native.Nat.{◌-◌, ◌≤◌}
+use Prim.Native.Nat.{◌-◌}
 use native.Mathlib.Omega.{arith}
-use lib.ListN.{length}
-use Rattle.lists.specs.Turns.{goes, turns, told}
+use Rattle.lists.specs.Turns.{told}
 use Rattle.lists.proofs.Turns.{turns_none, turns_on, turns_stop, turns_end}
-use Rattle.mesh.specs.Mesh.{mesh_of, triangles_in}
+use Rattle.mesh.specs.Mesh.{mesh_of}
 use Rattle.run_seed_cells.specs.Parts.{seed_state, over_triangle}
 use Rattle.run_seed.proofs.seed.Goals as goal
 

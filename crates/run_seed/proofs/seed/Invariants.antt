@@ -1,10 +1,8 @@
 -- `run_seed::seed`: the state is the one after k turns, each a triangle. Assumes nothing.
-use mathlib.Core.Path.{◌≡◌, refl, ◌∙◌}
+use mathlib.Core.Path.{◌≡◌}
 use Prim.Native.Nat.{◌-◌, ◌≤◌}
-use native.Mathlib.Omega.{arith}
 use lib.ListN.{length}
-use Rattle.lists.specs.Turns.{goes, turns, told}
-use Rattle.lists.proofs.Turns.{turns_none, turns_on, turns_stop, turns_end}
+use Rattle.lists.specs.Turns.{goes, turns}
 use Rattle.mesh.specs.Mesh.{mesh_of, triangles_in}
 use Rattle.run_seed_cells.specs.Parts.{seed_state, over_triangle}
 use Rattle.run_seed.proofs.seed.Given as goal

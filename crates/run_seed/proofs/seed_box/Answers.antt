@@ -1,10 +1,10 @@
 -- `run_seed::seed_box`: the loop along x (`crates/run_seed_line/proofs/Along.antt`). Assumes nothing.
 use mathlib.Core.Path.{◌∙◌}
-use Prim.Native.Nat.{◌+◌, ◌-◌}
+use Prim.Native.Nat.{◌-◌}
 use native.Mathlib.Omega.{arith}
 use Rattle.grid.proofs.Facts.{bounds_of}
-use Rattle.run_seed_cells.specs.Parts.{along_plane, along_box}
-use Rattle.run_seed_line.proofs.Along.{Along, starts, turn_goes_on, turn_stops, ends}
+use Rattle.run_seed_cells.specs.Parts.{along_box}
+use Rattle.run_seed_line.proofs.Along.{starts, turn_goes_on, turn_stops, ends}
 use Rattle.run_seed.proofs.seed_box.Goals as goal
 
 pub loop-x-init : goal.loop-x-init

@@ -1,10 +1,7 @@
 -- `run_seed::seed_plane`: the loop along y (`crates/run_seed_line/proofs/Along.antt`). Assumes nothing.
-use mathlib.Core.Path.{◌∙◌}
 use Prim.Native.Nat.{◌+◌, ◌-◌}
-use native.Mathlib.Omega.{arith}
-use Rattle.grid.proofs.Facts.{bounds_of}
-use Rattle.run_seed_cells.specs.Parts.{along_line, along_plane}
-use Rattle.run_seed_line.proofs.Along.{Along, starts, turn_goes_on, turn_stops, ends}
+use Rattle.run_seed_cells.specs.Parts.{along_line}
+use Rattle.run_seed_line.proofs.Along.{Along}
 use Rattle.run_seed.proofs.seed_plane.Given as goal
 
 abbrev pub invariant-loop-y : goal.invariant-loop-y

@@ -1,5 +1,4 @@
 -- `run_seed::seed_triangle`: the box and the facet are those of the definition, and the last cell of the box is on the grid. Assumes nothing.
-use borrow.Author.Rules.{rules}
 use mathlib.Core.Path.{sym, subst}
 use Rattle.grid.specs.Index.{Inside}
 use Rattle.grid.proofs.Facts.{bounds_of, on_axis}

@@ -1,5 +1,4 @@
 -- `run_seed_box::first_of`: what the calls ensure, axis by axis. Assumes nothing.
-use borrow.Author.Rules.{rules}
 use mathlib.Core.Path.{sym, subst}
 use Rattle.run_seed_box.proofs.Boxes.{Small, snap_small, first_is}
 use Rattle.run_seed_box.proofs.first_of.Goals as goal

@@ -1,7 +1,5 @@
 -- `run_seed_box::last_of`: what the calls ensure, axis by axis. Assumes nothing.
-use borrow.Author.Rules.{rules}
 use mathlib.Core.Path.{sym, subst}
-use Rattle.grid.specs.declared.Cell.{Cell}
 use Rattle.grid.specs.Index.{Inside}
 use Rattle.grid.proofs.Snaps.{snap_within}
 use Rattle.run_seed_box.proofs.Boxes.{Small, snap_small, last_is}

@@ -1,5 +1,4 @@
 -- `run_seed_box::raised`: by its one test. Assumes nothing.
-use borrow.Author.Rules.{rules}
 use Rattle.run_seed_box.proofs.raised.Goals as goal
 
 pub returns-then-i-count : goal.returns-then-i-count

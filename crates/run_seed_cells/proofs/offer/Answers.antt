@@ -1,5 +1,4 @@
 -- `run_seed_cells::offer`: each return is one of the three ways of an offer. Assumes nothing.
-use borrow.Author.Rules.{rules}
 use mathlib.Core.Path.{◌≡◌, sym, subst}
 use lib.ListN.{get_or, set}
 use lib.Dec.{T}

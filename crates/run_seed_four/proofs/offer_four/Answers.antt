@@ -2,8 +2,7 @@
 use Prim.Native.Nat.{◌+◌, ◌-◌, ◌≤◌, ◌<◌}
 use native.Mathlib.Omega.{arith}
 use mathlib.Core.Path.{◌≡◌, refl, ◌∙◌}
-use lib.ListN.{length}
-use Rattle.lists.specs.Turns.{goes, turns}
+use Rattle.lists.specs.Turns.{turns}
 use Rattle.lists.proofs.Turns.{turns_none, turns_on, turns_stop, turns_end}
 use Rattle.grid.specs.Index.{Inside, total}
 use Rattle.grid.proofs.Laws.{index_below}

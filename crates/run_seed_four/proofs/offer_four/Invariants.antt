@@ -1,14 +1,10 @@
 -- `run_seed_four::offer_four`: the state is the one after i offers in a row, and these are the offers along the line. Assumes nothing.
-use Prim.Native.Nat.{◌+◌, ◌-◌, ◌≤◌, ◌<◌}
-use native.Mathlib.Omega.{arith}
-use mathlib.Core.Path.{◌≡◌, refl, ◌∙◌}
+use Prim.Native.Nat.{◌+◌, ◌-◌, ◌≤◌}
+use mathlib.Core.Path.{◌≡◌}
 use lib.ListN.{length}
 use Rattle.lists.specs.Turns.{goes, turns}
-use Rattle.lists.proofs.Turns.{turns_none, turns_on, turns_stop, turns_end}
-use Rattle.grid.specs.Index.{Inside, total}
-use Rattle.grid.proofs.Laws.{index_below}
-use Rattle.run_seed_cells.specs.Parts.{seed_state, along_line}
-use Rattle.run_seed_four.proofs.Fours.{in_row, index_behind, inside_behind, row_is_line}
+use Rattle.run_seed_cells.specs.Parts.{seed_state}
+use Rattle.run_seed_four.proofs.Fours.{in_row}
 use Rattle.run_seed_four.proofs.offer_four.Given as goal
 
 abbrev pub invariant-loop-i : goal.invariant-loop-i

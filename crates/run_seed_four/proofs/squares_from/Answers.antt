@@ -1,6 +1,5 @@
 -- `run_seed_four::squares_from`: the four points are the centres of the cells, so what `squares_by` tells of them is what is asked. Assumes
 -- nothing.
-use borrow.Author.Rules.{rules}
 use native.Mathlib.Omega.{arith}
 use Prim.Native.Nat.{◌+◌, ◌<◌}
 use Rattle.grid.proofs.Facts.{bounds_of}

@@ -2,11 +2,9 @@
 use mathlib.Core.Path.{◌∙◌}
 use Prim.Native.Nat.{◌+◌, ◌-◌}
 use native.Mathlib.Omega.{arith}
-use Rattle.grid.specs.Axes.{cell_numbered}
-use Rattle.grid.specs.Index.{index_of}
 use Rattle.grid.proofs.Facts.{bounds_of}
-use Rattle.run_seed_cells.specs.Parts.{offer_to, along_line}
-use Rattle.run_seed_line.proofs.Along.{Along, starts, goes_on, stops, ends}
+use Rattle.run_seed_cells.specs.Parts.{along_line}
+use Rattle.run_seed_line.proofs.Along.{starts, goes_on, stops, ends}
 use Rattle.run_seed_line.proofs.seed_line.Goals as goal
 
 pub loop-z-init : goal.loop-z-init

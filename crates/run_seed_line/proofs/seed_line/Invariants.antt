@@ -1,12 +1,9 @@
 -- `run_seed_line::seed_line`: the loop along z (`proofs/Along.antt`), in pieces of four. Assumes nothing.
-use mathlib.Core.Path.{◌∙◌}
 use Prim.Native.Nat.{◌+◌, ◌-◌}
-use native.Mathlib.Omega.{arith}
 use Rattle.grid.specs.Axes.{cell_numbered}
 use Rattle.grid.specs.Index.{index_of}
-use Rattle.grid.proofs.Facts.{bounds_of}
-use Rattle.run_seed_cells.specs.Parts.{offer_to, along_line}
-use Rattle.run_seed_line.proofs.Along.{Along, starts, goes_on, stops, ends}
+use Rattle.run_seed_cells.specs.Parts.{offer_to}
+use Rattle.run_seed_line.proofs.Along.{Along}
 use Rattle.run_seed_line.proofs.seed_line.Given as goal
 
 abbrev pub invariant-loop-z : goal.invariant-loop-z

@@ -1,10 +1,8 @@
 -- `slices::add_each`: after i turns one was added at each of the first i places (`proofs/Steps.antt`). Assumes nothing.
-use Prim.Native.Nat.{ℕ, ◌+◌, ◌*◌, ◌-◌, ◌≤◌, ◌<◌}
+use Prim.Native.Nat.{◌+◌, ◌*◌, ◌-◌, ◌<◌}
 use native.Mathlib.Omega.{arith}
-use mathlib.Core.Path.{◌≡◌, refl, subst}
 use lib.ListN.{length}
-use Rattle.slices.specs.Counts.{Stepped}
-use Rattle.slices.proofs.Steps.{stepped_none, stepped_more, stepped_fresh}
+use Rattle.slices.proofs.Steps.{stepped_more, stepped_fresh}
 use Rattle.slices.proofs.add_each.Goals as goal
 use Rattle.slices.proofs.add_each.Goals.{After-slice_known-1}
 

@@ -1,10 +1,8 @@
 -- `slices::add_each`: after i turns one was added at each of the first i places (`proofs/Steps.antt`). Assumes nothing.
-use Prim.Native.Nat.{ℕ, ◌+◌, ◌*◌, ◌-◌, ◌≤◌, ◌<◌}
-use native.Mathlib.Omega.{arith}
-use mathlib.Core.Path.{◌≡◌, refl, subst}
+use Prim.Native.Nat.{◌-◌, ◌≤◌}
+use mathlib.Core.Path.{◌≡◌}
 use lib.ListN.{length}
 use Rattle.slices.specs.Counts.{Stepped}
-use Rattle.slices.proofs.Steps.{stepped_none, stepped_more, stepped_fresh}
 use Rattle.slices.proofs.add_each.Given as goal
 
 abbrev pub invariant-loop-i : goal.invariant-loop-i

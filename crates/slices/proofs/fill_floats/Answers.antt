@@ -2,10 +2,7 @@
 use mathlib.Core.Path.{refl}
 use Prim.Native.Nat.{◌-◌}
 use native.Mathlib.Omega.{arith}
-use lib.ListN.{length}
-use lib.Ieee.{nan}
-use Rattle.lists.specs.Table.{Filled}
-use Rattle.lists.proofs.Table.{filled_none, filled_more, filled_alike}
+use Rattle.lists.proofs.Table.{filled_alike}
 use Rattle.slices.proofs.fill_floats.Goals as goal
 
 pub returns : goal.returns

@@ -1,11 +1,9 @@
 -- `stl::nine_bits`: after i turns the patterns of the first i numbers stand in the array (`Filled`). Assumes nothing.
-use Prim.Native.Nat.{ℕ, ◌+◌, ◌*◌, ◌-◌, ◌≤◌}
-use native.Mathlib.Omega.{arith}
-use mathlib.Core.Path.{◌≡◌, refl, sym, ◌∙◌}
+use Prim.Native.Nat.{◌-◌, ◌≤◌}
+use mathlib.Core.Path.{◌≡◌}
 use lib.ListN.{length, get_or}
 use lib.Ieee.{nan, binary32, to_bits}
 use Rattle.lists.specs.Table.{Filled}
-use Rattle.lists.proofs.Table.{filled_none, filled_more, filled_all, map_is_table}
 use Rattle.stl.proofs.nine_bits.Given as goal
 
 abbrev pub invariant-loop-i : goal.invariant-loop-i

@@ -1,11 +1,9 @@
 -- `stl::nine_words`: after i turns the first i words stand in the array (`Filled`). Assumes nothing.
-use Prim.Native.Nat.{ℕ, ◌+◌, ◌*◌, ◌-◌, ◌≤◌}
-use native.Mathlib.Omega.{arith}
-use mathlib.Core.Path.{◌≡◌, refl, sym}
+use Prim.Native.Nat.{◌+◌, ◌*◌, ◌-◌, ◌≤◌}
+use mathlib.Core.Path.{◌≡◌}
 use lib.ListN.{length}
 use Rattle.lists.specs.Table.{Filled}
-use Rattle.lists.proofs.Table.{filled_none, filled_more, filled_all}
-use Rattle.stl.specs.File.{u32_at, nine_of}
+use Rattle.stl.specs.File.{u32_at}
 use Rattle.stl.proofs.nine_words.Given as goal
 
 abbrev pub invariant-loop-i : goal.invariant-loop-i

@@ -1,5 +1,4 @@
 -- `stl::put_word`: four stores, one behind the other (`Put`). Assumes nothing.
-use borrow.Author.Rules.{rules}
 use Prim.Native.Nat.{◌+◌}
 use native.Mathlib.Omega.{arith}
 use mathlib.Core.Path.{refl}

@@ -1,12 +1,11 @@
 -- `stl::read_facet`: after i turns the first i numbers stand in the corners (`Filled`). Assumes nothing.
-use Prim.Native.Nat.{◌-◌, ◌≤◌}
+use Prim.Native.Nat.{◌-◌}
 use native.Mathlib.Omega.{arith}
 use mathlib.Core.Path.{sym, ap, ◌∙◌}
-use lib.ListN.{length, get_or}
+use lib.ListN.{length}
 use lib.Ieee.{nan, binary32, of_bits}
 use Rattle.float_bits.specs.Patterns.{floats_of}
-use Rattle.lists.specs.Table.{Filled}
-use Rattle.lists.proofs.Table.{filled_none, filled_more, filled_all, map_is_table}
+use Rattle.lists.proofs.Table.{filled_all, map_is_table}
 use Rattle.stl.proofs.Pieces.{corners_long}
 use Rattle.stl.proofs.read_facet.Goals as goal
 

@@ -1,12 +1,11 @@
 -- `stl::write_facet`: the normal, the nine numbers and the attributes are put one behind the other, from the front to the end. Assumes nothing.
-use borrow.Author.Rules.{rules}
 use Prim.Native.Nat.{ℕ, ◌+◌, ◌*◌, ◌-◌}
 use native.Mathlib.Omega.{arith}
 use mathlib.Core.Path.{◌≡◌, refl, sym, ap, ◌∙◌}
 use mathlib.Core.List.{List}
 use lib.ListN.{length, get_or, length-set}
 use Rattle.lists.specs.Joined.{joined}
-use Rattle.lists.proofs.Puts.{Pieces, no_pieces, pieces_more, pieces_all, one, and_then, said, whole}
+use Rattle.lists.proofs.Puts.{no_pieces, pieces_more, pieces_all, one, and_then, said, whole}
 use Rattle.stl.specs.File.{bytes_of, record_of}
 use Rattle.stl.proofs.write_facet.Goals as goal
 use Rattle.stl.proofs.write_facet.Goals.{After-loop-i}

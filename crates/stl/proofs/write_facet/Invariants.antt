@@ -1,13 +1,8 @@
 -- `stl::write_facet`: the normal, the nine numbers and the attributes are put one behind the other, from the front to the end. Assumes nothing.
-use borrow.Author.Rules.{rules}
-use Prim.Native.Nat.{ℕ, ◌+◌, ◌*◌, ◌-◌}
-use native.Mathlib.Omega.{arith}
-use mathlib.Core.Path.{◌≡◌, refl, sym, ap, ◌∙◌}
-use mathlib.Core.List.{List}
-use lib.ListN.{length, get_or, length-set}
-use Rattle.lists.specs.Joined.{joined}
-use Rattle.lists.proofs.Puts.{Pieces, no_pieces, pieces_more, pieces_all, one, and_then, said, whole}
-use Rattle.stl.specs.File.{bytes_of, record_of}
+use Prim.Native.Nat.{◌+◌, ◌*◌, ◌-◌}
+use lib.ListN.{get_or}
+use Rattle.lists.proofs.Puts.{Pieces}
+use Rattle.stl.specs.File.{bytes_of}
 use Rattle.stl.proofs.write_facet.Given as goal
 
 -- the first i numbers are put, behind the normal

@@ -1,7 +1,5 @@
 -- `text_read_lines::count_line`: the key, the three counts and the test of their product, as in the reader on lists. Assumes nothing.
-use borrow.Author.Rules.{rules}
-use borrow.Author.Tests.{not-true, not-false}
-use mathlib.Core.Path.{◌≡◌, sym, ◌∙◌}
+use mathlib.Core.Path.{sym, ◌∙◌}
 use Rattle.text.specs.Reader.{count_line}
 use Rattle.text.proofs.Calls.{onward, stopped, passes, fails, kept_not}
 use Rattle.text_read_lines.proofs.count_line.Goals as goal

@@ -1,5 +1,4 @@
 -- `text_read_lines::floats_line`: the key, and then the three floats, as in the reader on lists. Assumes nothing.
-use borrow.Author.Rules.{rules}
 use mathlib.Core.Path.{◌∙◌}
 use Rattle.text.specs.Reader.{floats_line}
 use Rattle.text.proofs.Calls.{onward, stopped}

@@ -1,7 +1,6 @@
 -- `text_read_lines::number_line`: the calls come one after the other as in the reader on lists. Assumes nothing.
-use borrow.Author.Rules.{rules}
 use borrow.Author.Tests.{le-leb, lt-leb}
-use mathlib.Core.Path.{◌≡◌, sym, ◌∙◌}
+use mathlib.Core.Path.{sym, ◌∙◌}
 use Rattle.text.specs.Reader.{number_line}
 use Rattle.text.proofs.Calls.{onward, stopped, passes, fails, kept_not}
 use Rattle.text_read_lines.proofs.number_line.Goals as goal

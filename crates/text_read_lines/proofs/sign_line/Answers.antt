@@ -1,5 +1,4 @@
 -- `text_read_lines::sign_line`: the word, or the value that is meant without it, as in the reader on lists. Assumes nothing.
-use borrow.Author.Rules.{rules}
 use mathlib.Core.Path.{refl}
 use Rattle.text.specs.Words.{line}
 use Rattle.text.specs.Reader.{optional, one_of, normal_line}

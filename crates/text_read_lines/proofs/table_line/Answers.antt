@@ -1,5 +1,4 @@
 -- `text_read_lines::table_line`: a line with a number, or the value that is meant without it, as in the reader on lists. Assumes nothing.
-use borrow.Author.Rules.{rules}
 use mathlib.Core.Path.{refl}
 use Rattle.text.specs.Reader.{optional, table_line}
 use Rattle.text.proofs.Calls.{onward, stopped, the_first, the_second}

@@ -1,5 +1,4 @@
 -- `text_read_lines::three_values`: the three calls are those of the reader on lists. Assumes nothing.
-use borrow.Author.Rules.{rules}
 use Rattle.text.proofs.Calls.{three_not, three_not_2, three_not_3, three_are}
 use Rattle.text_read_lines.proofs.three_values.Goals as goal
 

@@ -1,5 +1,4 @@
 -- `text_read_lines::topology_line`: one word or the other, as in the reader on lists. Assumes nothing.
-use borrow.Author.Rules.{rules}
 use mathlib.Core.Path.{refl}
 use Rattle.text.specs.Words.{line}
 use Rattle.text.specs.Reader.{one_of, topology_line}

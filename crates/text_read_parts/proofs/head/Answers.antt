@@ -1,5 +1,4 @@
 -- `text_read_parts::head`: its four lines and the two that may be left out, as in the reader on lists. Assumes nothing.
-use borrow.Author.Rules.{rules}
 use mathlib.Core.Path.{◌≡◌, ◌∙◌}
 use lib.ListN.{drop}
 use Rattle.text.specs.Words.{bytes}

@@ -1,5 +1,4 @@
 -- `text_read_parts::indices`: that there are none, or the count and as many lines, as in the reader on lists. Assumes nothing.
-use borrow.Author.Rules.{rules}
 use native.Mathlib.Omega.{arith}
 use mathlib.Core.Path.{◌≡◌, refl, ◌∙◌}
 use lib.ListN.{drop}

@@ -1,5 +1,4 @@
 -- `text_read_parts::tail`: its two lines and the one that may be left out, as in the reader on lists. Assumes nothing.
-use borrow.Author.Rules.{rules}
 use mathlib.Core.Path.{◌∙◌}
 use Rattle.text.specs.Reader.{tail_at}
 use Rattle.text.proofs.Calls.{onward, stopped}

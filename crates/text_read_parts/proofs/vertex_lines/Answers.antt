@@ -1,5 +1,4 @@
 -- `text_read_parts::vertex_lines`: each line's three numbers are stored behind those before them. Assumes nothing.
-use borrow.Author.Rules.{rules}
 use Prim.Native.Nat.{◌+◌, ◌*◌, ◌-◌, ◌<◌}
 use native.Mathlib.Omega.{arith}
 use mathlib.Core.Path.{refl}
@@ -7,7 +6,7 @@ use lib.ListN.{length, length-set}
 use Rattle.text.specs.Reader.{vertex_line_at}
 use Rattle.text_read_parts.specs.Told.{threes_in}
 use Rattle.text_read_parts.proofs.Threes.{threes_more}
-use Rattle.text_read_parts.proofs.Stored.{Stored, stored_none, stored_not, stored_more, stored_all}
+use Rattle.text_read_parts.proofs.Stored.{stored_none, stored_not, stored_more, stored_all}
 use Rattle.text_read_parts.proofs.vertex_lines.Goals as goal
 use Rattle.text_read_parts.proofs.vertex_lines.Goals.{In-Are}
 

@@ -1,13 +1,8 @@
 -- `text_read_parts::vertex_lines`: each line's three numbers are stored behind those before them. Assumes nothing.
-use borrow.Author.Rules.{rules}
-use Prim.Native.Nat.{◌+◌, ◌*◌, ◌-◌, ◌<◌}
-use native.Mathlib.Omega.{arith}
-use mathlib.Core.Path.{refl}
-use lib.ListN.{length, length-set}
+use Prim.Native.Nat.{◌-◌}
 use Rattle.text.specs.Reader.{vertex_line_at}
 use Rattle.text_read_parts.specs.Told.{threes_in}
-use Rattle.text_read_parts.proofs.Threes.{threes_more}
-use Rattle.text_read_parts.proofs.Stored.{Stored, stored_none, stored_not, stored_more, stored_all}
+use Rattle.text_read_parts.proofs.Stored.{Stored}
 use Rattle.text_read_parts.proofs.vertex_lines.Given as goal
 
 abbrev pub invariant-loop-i : goal.invariant-loop-i

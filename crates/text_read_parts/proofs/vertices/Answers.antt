@@ -1,5 +1,4 @@
 -- `text_read_parts::vertices`: the count and then as many lines, as in the reader on lists. Assumes nothing.
-use borrow.Author.Rules.{rules}
 use native.Mathlib.Omega.{arith}
 use mathlib.Core.Path.{◌∙◌}
 use Rattle.text.specs.Reader.{vertices_at}

@@ -1,12 +1,9 @@
 -- `text_read_words::after`: what is left of the word stands at the place where it is looked for, exactly if the whole word stands where the
 -- search began. Assumes nothing.
-use borrow.Author.Rules.{rules}
 use Prim.Native.Nat.{◌-◌, ◌≤◌}
-use native.Mathlib.Omega.{arith}
-use mathlib.Core.Path.{◌≡◌, refl, sym, ◌∙◌}
+use mathlib.Core.Path.{◌≡◌}
 use lib.ListN.{length, drop}
 use Rattle.text.specs.Reader.{word_at}
-use Rattle.text.proofs.Places.{word_more, word_short, word_differs, word_end}
 use Rattle.text_read_words.proofs.after.Given as goal
 
 abbrev pub invariant-loop-i : goal.invariant-loop-i

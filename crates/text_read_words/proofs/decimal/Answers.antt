@@ -1,11 +1,8 @@
 -- `text_read_words::decimal`: the number that began at `at` is the one that goes on at k after digits of value `value`. Each way out is one step of the
 -- reader on lists. Assumes nothing.
-use borrow.Author.Rules.{rules}
-use Prim.Native.Nat.{ℕ, ◌+◌, ◌*◌, ◌-◌, ◌^◌, ◌≤◌, ◌<◌}
+use Prim.Native.Nat.{◌-◌}
 use native.Mathlib.Omega.{arith}
-use mathlib.Core.Path.{◌≡◌, refl, sym, ap, ◌∙◌}
-use lib.ListN.{length, get_or, drop}
-use Rattle.text.specs.Reader.{hex_value, number_at, digits_at}
+use mathlib.Core.Path.{sym, ◌∙◌}
 use Rattle.text.proofs.Places.{number_past, number_not, number_first, digits_past, digits_stop, digits_zero, digits_not, digits_large, digits_more}
 use Rattle.text_read_words.proofs.decimal.Goals as goal
 

@@ -1,5 +1,4 @@
 -- `text_read_words::digit`: each way out has passed the tests that choose the same case of the definition. Assumes nothing.
-use borrow.Author.Rules.{rules}
 use borrow.Author.Tests.{lt-ltb, le-ltb}
 use native.Mathlib.Omega.{arith}
 use Rattle.text.specs.Reader.{hex_value}

@@ -1,14 +1,9 @@
 -- `text_read_words::hex8`: the eight digits that began at `at` are those that go on at k, 8 - i of them, after digits of value `value`, which is
 -- below 16 ^ i. Assumes nothing.
-use borrow.Author.Rules.{rules}
-use Prim.Native.Nat.{ℕ, suc, ◌+◌, ◌*◌, ◌-◌, ◌^◌, ◌≤◌, ◌<◌}
-use native.Mathlib.Nat.{pow-le-pow_right}
-use native.Mathlib.Numerals.{add-one}
-use native.Mathlib.Omega.{arith}
-use mathlib.Core.Path.{◌≡◌, refl, sym, ◌∙◌}
+use Prim.Native.Nat.{◌-◌, ◌^◌, ◌≤◌, ◌<◌}
+use mathlib.Core.Path.{◌≡◌}
 use lib.ListN.{drop}
 use Rattle.text.specs.Reader.{bits_at, hex_at}
-use Rattle.text.proofs.Places.{hex_past, hex_not, hex_next, hex_differs, hex_stop}
 use Rattle.text_read_words.proofs.hex8.Given as goal
 
 abbrev pub invariant-loop-i : goal.invariant-loop-i

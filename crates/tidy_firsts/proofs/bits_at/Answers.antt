@@ -1,5 +1,4 @@
 -- `tidy_firsts::bits_at`: three floats, each by its bits. Assumes nothing.
-use borrow.Author.Rules.{rules}
 use Rattle.tidy.specs.Tidy.{vertex_bits}
 use Rattle.tidy.proofs.Same.{threes}
 use Rattle.tidy_firsts.proofs.bits_at.Goals as goal

@@ -1,6 +1,5 @@
 -- `tidy_firsts::enter`: the search ended at a vertex, which is the first with these bits; or at a 0, where vertex v is named. Assumes
 -- nothing.
-use borrow.Author.Rules.{rules}
 use native.Mathlib.Omega.{arith}
 use Prim.Native.Nat.{ℕ, suc, ◌+◌, ◌-◌}
 use mathlib.Core.Path.{◌≡◌, refl, sym, ◌∙◌, subst}

@@ -1,19 +1,16 @@
 -- `tidy_firsts::find_firsts`: the invariant is that the vertices below v are entered and have their firsts. Assumes nothing.
-use borrow.Author.Rules.{rules}
 use native.Mathlib.Omega.{arith}
 use Prim.Native.Nat.{ℕ, ◌*◌, ◌-◌}
 use mathlib.Core.Path.{◌≡◌, refl, sym, ap, ◌∙◌, subst}
-use mathlib.Core.List.{List}
 use lib.ListN.{length, replicate, length-map}
-use lib.Ieee.{Float, binary32, to_bits}
+use lib.Ieee.{binary32, to_bits}
 use Rattle.float_bits.specs.Patterns.{bits_of}
-use Rattle.lists.specs.Table.{Filled}
 use Rattle.lists.proofs.Table.{filled_none, filled_more, filled_all}
 use Rattle.tidy.specs.Tidy.{vertex_bits}
 use Rattle.tidy_words.proofs.Words.{zeros_bits}
 use Rattle.tidy_search.specs.Links.{Entered}
 use Rattle.tidy_search.proofs.Links.{none_entered}
-use Rattle.tidy_firsts.specs.Firsts.{first_in, any, VerticesEntered}
+use Rattle.tidy_firsts.specs.Firsts.{first_in, any}
 use Rattle.tidy_firsts.proofs.find_firsts.Goals as goal
 
 pub loop-v-init : goal.loop-v-init

@@ -1,19 +1,9 @@
 -- `tidy_firsts::find_firsts`: the invariant is that the vertices below v are entered and have their firsts. Assumes nothing.
-use borrow.Author.Rules.{rules}
-use native.Mathlib.Omega.{arith}
-use Prim.Native.Nat.{ℕ, ◌*◌, ◌-◌}
-use mathlib.Core.Path.{◌≡◌, refl, sym, ap, ◌∙◌, subst}
+use Prim.Native.Nat.{ℕ, ◌-◌}
 use mathlib.Core.List.{List}
-use lib.ListN.{length, replicate, length-map}
-use lib.Ieee.{Float, binary32, to_bits}
-use Rattle.float_bits.specs.Patterns.{bits_of}
+use lib.Ieee.{Float}
 use Rattle.lists.specs.Table.{Filled}
-use Rattle.lists.proofs.Table.{filled_none, filled_more, filled_all}
-use Rattle.tidy.specs.Tidy.{vertex_bits}
-use Rattle.tidy_words.proofs.Words.{zeros_bits}
-use Rattle.tidy_search.specs.Links.{Entered}
-use Rattle.tidy_search.proofs.Links.{none_entered}
-use Rattle.tidy_firsts.specs.Firsts.{first_in, any, VerticesEntered}
+use Rattle.tidy_firsts.specs.Firsts.{first_in, VerticesEntered}
 use Rattle.tidy_firsts.proofs.find_firsts.Given as goal
 
 pub record Found (vs : List Float) (n v : ℕ) (links : List Float) (firsts₀ firsts : List ℕ) : Type 0 where

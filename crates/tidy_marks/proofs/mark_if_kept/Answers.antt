@@ -1,5 +1,4 @@
 -- `tidy_marks::mark_if_kept`: nothing where there is a cause, else the marks of the merged triangle. Assumes nothing.
-use borrow.Author.Rules.{rules}
 use native.Mathlib.Omega.{arith}
 use mathlib.Core.Path.{sym, ap, ◌∙◌, subst}
 use mathlib.Core.Bool.{cond}

@@ -1,5 +1,4 @@
 -- `tidy_marks::mark_triangle`: three stores. Assumes nothing.
-use borrow.Author.Rules.{rules}
 use Rattle.float_bits.specs.Patterns.{bits_of}
 use Rattle.tidy_marks.proofs.Marks.{bits_long, marked_three}
 use Rattle.tidy_marks.proofs.mark_triangle.Goals as goal

@@ -1,18 +1,14 @@
 -- `tidy_marks::mark_used`: the invariant is that the vertices of the kept triangles below k are marked, and no other. Assumes nothing.
-use borrow.Author.Rules.{rules}
 use native.Mathlib.Omega.{arith}
-use Prim.Native.Nat.{ℕ, ◌*◌, ◌-◌, ◌≤◌}
+use Prim.Native.Nat.{ℕ, ◌-◌}
 use mathlib.Core.Path.{◌≡◌, subst}
-use mathlib.Core.Bool.{Bool, cond, ◌&&◌}
+use mathlib.Core.Bool.{cond}
 use mathlib.Core.List.{List}
 use lib.ListN.{length}
-use lib.Ieee.{Float}
 use Rattle.picks.specs.Picks.{some}
 use Rattle.mesh_topology.specs.declared.Triangle.{Triangle}
 use Rattle.mesh_topology.specs.Topology.{triangles_of}
-use Rattle.tidy.specs.Numbers.{has_number}
-use Rattle.tidy_causes.specs.Causes.{merged_by}
-use Rattle.tidy_marks.specs.Marks.{Marks, kept_by}
+use Rattle.tidy_marks.specs.Marks.{Marks}
 use Rattle.tidy_marks.proofs.Marks.{marked_more, none_marked}
 use Rattle.tidy_marks.proofs.mark_used.Invariants.{has}
 use Rattle.tidy_marks.proofs.mark_used.Goals as goal

@@ -1,8 +1,6 @@
 -- `tidy_marks::mark_used`: the invariant is that the vertices of the kept triangles below k are marked, and no other. Assumes nothing.
-use borrow.Author.Rules.{rules}
-use native.Mathlib.Omega.{arith}
 use Prim.Native.Nat.{ℕ, ◌*◌, ◌-◌, ◌≤◌}
-use mathlib.Core.Path.{◌≡◌, subst}
+use mathlib.Core.Path.{◌≡◌}
 use mathlib.Core.Bool.{Bool, cond, ◌&&◌}
 use mathlib.Core.List.{List}
 use lib.ListN.{length}
@@ -13,7 +11,6 @@ use Rattle.mesh_topology.specs.Topology.{triangles_of}
 use Rattle.tidy.specs.Numbers.{has_number}
 use Rattle.tidy_causes.specs.Causes.{merged_by}
 use Rattle.tidy_marks.specs.Marks.{Marks, kept_by}
-use Rattle.tidy_marks.proofs.Marks.{marked_more, none_marked}
 use Rattle.tidy_marks.proofs.mark_used.Given as goal
 
 -- triangle k is kept and has vertex v

@@ -1,5 +1,4 @@
 -- `tidy_marks::number_if_marked`: nothing where there is no mark, else a store. Assumes nothing.
-use borrow.Author.Rules.{rules}
 use Prim.Native.Nat.{ℕ, ◌+◌, ◌*◌}
 use mathlib.Core.Path.{sym, ap, ◌∙◌}
 use mathlib.Core.List.{List}

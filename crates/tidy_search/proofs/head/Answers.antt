@@ -1,7 +1,4 @@
 -- `tidy_search::head`: three numbers mixed in turn; the head that comes of them is below n by its law. Assumes nothing.
-use borrow.Author.Rules.{rules}
-use native.Mathlib.Omega.{arith}
-use native.Mathlib.Nat.{mul-lt-mul_of_pos_right}
 use Rattle.tidy_search.specs.Links.{head_link}
 use Rattle.tidy_search.proofs.Links.{head_below}
 use Rattle.tidy_search.proofs.head.Goals as goal

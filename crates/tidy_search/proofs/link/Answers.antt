@@ -1,5 +1,4 @@
 -- `tidy_search::link`: as it stands. Assumes nothing.
-use borrow.Author.Rules.{rules}
 use native.Mathlib.Omega.{arith}
 use mathlib.Core.Path.{refl}
 use Rattle.tidy_search.specs.Links.{link_of}

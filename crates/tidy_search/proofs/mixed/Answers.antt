@@ -1,5 +1,4 @@
 -- `tidy_search::mixed`: as it stands; what is left by 2 ^ 32 is below it. Assumes nothing.
-use borrow.Author.Rules.{rules}
 use native.Mathlib.Omega.{arith}
 use mathlib.Core.Path.{refl}
 use Rattle.tidy_search.specs.Links.{mixed_of}

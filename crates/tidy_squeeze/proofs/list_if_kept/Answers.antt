@@ -1,5 +1,4 @@
 -- `tidy_squeeze::list_if_kept`: nothing where there is a cause, else the triangle by its new numbers. Assumes nothing.
-use borrow.Author.Rules.{rules}
 use native.Mathlib.Omega.{arith}
 use mathlib.Core.Path.{refl, sym, ap, ◌∙◌, subst}
 use lib.ListN.{length}

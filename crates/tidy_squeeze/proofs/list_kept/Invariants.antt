@@ -1,17 +1,13 @@
 -- `tidy_squeeze::list_kept`: a piece for each kept triangle, one behind the other, and zeros behind them. Assumes nothing.
-use borrow.Author.Rules.{rules}
-use native.Mathlib.Omega.{arith}
-use Prim.Native.Nat.{ℕ, ◌-◌, ◌≤◌}
-use mathlib.Core.Path.{refl, ◌∙◌}
+use Prim.Native.Nat.{ℕ, ◌-◌}
 use mathlib.Core.List.{List}
 use lib.ListN.{length}
 use lib.Ieee.{Float}
-use Rattle.lists.proofs.Puts.{Pieces, no_pieces, pieces_more, pieces_room, pieces_all, inside}
+use Rattle.lists.proofs.Puts.{Pieces}
 use Rattle.mesh_topology.specs.declared.Triangle.{Triangle}
 use Rattle.mesh_topology.specs.Topology.{triangles_of}
 use Rattle.tidy_marks.specs.Marks.{kept_by}
 use Rattle.tidy_squeeze.specs.InFront.{piece_if, new_numbers}
-use Rattle.tidy_squeeze.proofs.Packed.{piece_short, packed, filled_behind}
 use Rattle.tidy_squeeze.proofs.list_kept.Given as goal
 
 abbrev pub piece : List Triangle → List ℕ → List ℕ → List Float → ℕ → List ℕ

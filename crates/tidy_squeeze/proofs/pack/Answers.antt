@@ -1,19 +1,15 @@
 -- `tidy_squeeze::pack`: a piece for each marked vertex, one behind the other, and zeros behind them. What is put stays in front of the marks that
 -- are still to be read. Assumes nothing.
-use borrow.Author.Rules.{rules}
 use native.Mathlib.Omega.{arith}
 use Prim.Native.Nat.{ℕ, ◌-◌, ◌≤◌}
 use mathlib.Core.Path.{◌≡◌, refl, ap, ◌∙◌}
 use mathlib.Core.Bool.{not, cond}
-use mathlib.Core.List.{List, []}
 use lib.Dec.{eqb}
 use lib.ListN.{length}
-use lib.Ieee.{Float}
-use Rattle.lists.proofs.Puts.{Pieces, no_pieces, pieces_more, pieces_all, said, inside}
+use Rattle.lists.proofs.Puts.{no_pieces, pieces_more, pieces_all, said, inside}
 use Rattle.tidy.specs.Tidy.{coordinates_at}
 use Rattle.tidy.specs.Padded.{plus_zero}
 use Rattle.tidy_marks.specs.Marks.{mark_at, is_marked}
-use Rattle.tidy_squeeze.specs.InFront.{piece_if}
 use Rattle.tidy_squeeze.proofs.Packed.{piece_short, packed, filled_behind, mark_behind}
 use Rattle.tidy_squeeze.proofs.pack.Goals as goal
 use Rattle.tidy_squeeze.proofs.pack.Goals.{After-loop-v, After-slice_known-in-loop-v-1}

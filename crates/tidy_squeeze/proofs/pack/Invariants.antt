@@ -1,20 +1,12 @@
 -- `tidy_squeeze::pack`: a piece for each marked vertex, one behind the other, and zeros behind them. What is put stays in front of the marks that
 -- are still to be read. Assumes nothing.
-use borrow.Author.Rules.{rules}
-use native.Mathlib.Omega.{arith}
-use Prim.Native.Nat.{ℕ, ◌-◌, ◌≤◌}
-use mathlib.Core.Path.{◌≡◌, refl, ap, ◌∙◌}
-use mathlib.Core.Bool.{not, cond}
-use mathlib.Core.List.{List, []}
-use lib.Dec.{eqb}
-use lib.ListN.{length}
+use Prim.Native.Nat.{ℕ, ◌-◌}
+use mathlib.Core.List.{List}
 use lib.Ieee.{Float}
-use Rattle.lists.proofs.Puts.{Pieces, no_pieces, pieces_more, pieces_all, said, inside}
+use Rattle.lists.proofs.Puts.{Pieces}
 use Rattle.tidy.specs.Tidy.{coordinates_at}
-use Rattle.tidy.specs.Padded.{plus_zero}
-use Rattle.tidy_marks.specs.Marks.{mark_at, is_marked}
+use Rattle.tidy_marks.specs.Marks.{is_marked}
 use Rattle.tidy_squeeze.specs.InFront.{piece_if}
-use Rattle.tidy_squeeze.proofs.Packed.{piece_short, packed, filled_behind, mark_behind}
 use Rattle.tidy_squeeze.proofs.pack.Given as goal
 
 abbrev pub piece : List Float → List Float → ℕ → ℕ → List Float

@@ -1,5 +1,4 @@
 -- `tidy_squeeze::put_if_marked`: nothing where there is no mark, else the vertex. Assumes nothing.
-use borrow.Author.Rules.{rules}
 use native.Mathlib.Omega.{arith}
 use mathlib.Core.Path.{sym, ap, ◌∙◌}
 use mathlib.Core.Bool.{not}

@@ -1,5 +1,4 @@
 -- `tidy_squeeze::put_vertex`: three stores, one behind the other. Assumes nothing.
-use borrow.Author.Rules.{rules}
 use Prim.Native.Nat.{◌+◌}
 use native.Mathlib.Omega.{arith}
 use mathlib.Core.Path.{refl}

@@ -1,5 +1,4 @@
 -- `tidy_squeeze::renumber`: three marks, each less one. Assumes nothing.
-use borrow.Author.Rules.{rules}
 use Prim.Native.Nat.{ℕ, ◌-◌}
 use mathlib.Core.Path.{◌≡◌, ap, ◌∙◌}
 use Rattle.mesh_topology.specs.Topology.{triangle}

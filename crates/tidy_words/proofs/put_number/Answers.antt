@@ -1,5 +1,4 @@
 -- `tidy_words::put_number`: a store, by its bits. Assumes nothing.
-use borrow.Author.Rules.{rules}
 use Rattle.tidy_words.proofs.Words.{bits_set}
 use Rattle.tidy_words.proofs.put_number.Goals as goal
 

@@ -1,6 +1,6 @@
 -- `Grid::get_cell_center`: refused by the test of the grid, then by that of the cell, else what the part gives. A cell within the counts is below 2^16. Assumes nothing.
 use native.Mathlib.Omega.{arith}
-use Rattle.grid.proofs.Facts.{fails, passes, bounds_of, inside_of}
+use Rattle.grid.proofs.Facts.{passes, bounds_of, inside_of}
 use mathlib.Core.Path.{ap}
 use mathlib.Core.Bool.{not}
 use Rattle.grid.proofs.Grid.get_cell_center.Goals as goal

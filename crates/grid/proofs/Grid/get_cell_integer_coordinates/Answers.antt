@@ -1,5 +1,5 @@
 -- `Grid::get_cell_integer_coordinates`: refused by the test of the grid, then by that of the index, else what the part gives. Assumes nothing.
-use Rattle.grid.proofs.Facts.{fails, passes, counts_few}
+use Rattle.grid.proofs.Facts.{passes, counts_few}
 use mathlib.Core.Path.{ap}
 use mathlib.Core.Bool.{not}
 use Rattle.grid.proofs.Grid.get_cell_integer_coordinates.Goals as goal

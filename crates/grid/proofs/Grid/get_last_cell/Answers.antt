@@ -1,6 +1,6 @@
 -- `Grid::get_last_cell`: refused by the test of the grid, else the three coordinates of the definition. Assumes nothing.
 use Rattle.grid.specs.Place.{last_cell}
-use Rattle.grid.proofs.Facts.{fails, passes}
+use Rattle.grid.proofs.Facts.{passes}
 use mathlib.Core.Path.{ap}
 use mathlib.Core.Bool.{not}
 use Rattle.grid.proofs.Grid.get_last_cell.Goals as goal

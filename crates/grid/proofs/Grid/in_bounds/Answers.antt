@@ -1,13 +1,9 @@
 -- `Grid::in_bounds`: the product is asked for only where each axis is within its bounds, and then the counts are few. Assumes nothing.
-use borrow.Author.Tests.{not-true, not-false}
 use mathlib.Core.Path.{◌≡◌, sym, ◌∙◌}
 use mathlib.Core.Bool.{◌&&◌, and-true, and_assoc}
-use Prim.Native.Nat.{◌≤◌}
 use lib.Dec.{leb}
-use Rattle.point.specs.declared.Axis.TheVariants.{X, Y, Z}
 use Rattle.grid.specs.Axes.{on_every}
 use Rattle.grid.specs.Bounds.{is_axis, is_upright, in_bounds}
-use Rattle.grid.proofs.Facts.{axes_of, both}
 use Rattle.grid.proofs.Grid.in_bounds.Goals as goal
 use Rattle.grid.proofs.Grid.in_bounds.Goals.{After-struct_known-1}
 

@@ -1,5 +1,4 @@
 -- `parts::get_cell_center`: the three coordinates are those of the definition. Assumes nothing.
-use borrow.Author.Rules.{rules}
 use Rattle.grid.specs.Place.{centre_of}
 use Rattle.grid.proofs.parts.get_cell_center.Goals as goal
 

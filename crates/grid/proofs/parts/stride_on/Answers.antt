@@ -1,5 +1,4 @@
 -- `grid::parts::stride_on`: each arm by the axis that led there; the product of two counts fits. Assumes nothing.
-use borrow.Author.Rules.{rules}
 use Rattle.grid_index.proofs.Fits.{counts_fit}
 use Rattle.grid.proofs.Facts.{bounds_of}
 use Rattle.grid.proofs.parts.stride_on.Goals as goal

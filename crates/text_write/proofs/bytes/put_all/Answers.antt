@@ -1,12 +1,8 @@
 -- `text_write::bytes::put_all` meets its contract. The invariant: the first i bytes of the word are put. Assumes nothing.
 use borrow.Author.Rules.{rules}
-use Prim.Native.Nat.{◌+◌, ◌-◌, ◌≤◌}
+use Prim.Native.Nat.{◌-◌}
 use native.Mathlib.Omega.{arith}
-use mathlib.Core.Path.{refl}
-use lib.ListN.{length, take}
-use lib.Seq.{take_all}
-use Rattle.lists.specs.Put.{Put}
-use Rattle.lists.proofs.Puts.{nothing, said, more}
+use Rattle.lists.proofs.Puts.{more}
 use Rattle.text_write.proofs.bytes.put_all.Goals as goal
 
 pub loop-i-preserved : goal.loop-i-preserved

@@ -1,12 +1,7 @@
 -- `text_write::bytes::put_all` meets its contract. The invariant: the first i bytes of the word are put. Assumes nothing.
-use borrow.Author.Rules.{rules}
 use Prim.Native.Nat.{◌+◌, ◌-◌, ◌≤◌}
-use native.Mathlib.Omega.{arith}
-use mathlib.Core.Path.{refl}
 use lib.ListN.{length, take}
-use lib.Seq.{take_all}
 use Rattle.lists.specs.Put.{Put}
-use Rattle.lists.proofs.Puts.{nothing, said, more}
 use Rattle.text_write.proofs.bytes.put_all.Given as goal
 
 abbrev pub invariant-loop-i : goal.invariant-loop-i

@@ -2,7 +2,6 @@
 use native.Mathlib.Omega.{arith}
 use mathlib.Core.Path.{refl}
 use mathlib.Core.List.{append_assoc}
-use borrow.Author.Rules.{rules}
 use Rattle.lists.proofs.Puts.{said, and_then}
 use Rattle.text_write.proofs.Spelled.{few, all_few}
 use Rattle.text_write.proofs.lines.put_long_number.Goals as goal

@@ -1,7 +1,7 @@
 -- `text_write::numbers::put_digits`, which calls itself, meets its contract: the last digit is put after those before it. The measure is k.
 -- Assumes nothing.
-use Prim.Native.Nat.{ℕ, ◌-◌, ◌/◌, ◌<◌}
-use mathlib.Core.Path.{refl, sym, ◌∙◌}
+use Prim.Native.Nat.{◌-◌, ◌/◌}
+use mathlib.Core.Path.{refl, sym}
 use native.Mathlib.Omega.{arith}
 use Rattle.lists.proofs.Puts.{said, and_then}
 use Rattle.text_write.proofs.Spelled.{one_digit, last_digit, few, deep, fewer}

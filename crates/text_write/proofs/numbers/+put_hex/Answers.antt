@@ -1,7 +1,7 @@
 -- `text_write::numbers::put_hex`, which calls itself, meets its contract: the last digit is put after those before it. The measure is k.
 -- Assumes nothing.
-use Prim.Native.Nat.{ℕ, ◌-◌, ◌/◌, ◌<◌}
-use mathlib.Core.Path.{refl, sym, ap, ◌∙◌}
+use Prim.Native.Nat.{ℕ, ◌-◌, ◌/◌}
+use mathlib.Core.Path.{refl, sym, ap}
 use Rattle.text.specs.Words.{hex}
 use native.Mathlib.Omega.{arith}
 use Rattle.lists.proofs.Puts.{nothing, said, and_then}

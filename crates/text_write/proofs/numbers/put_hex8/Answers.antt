@@ -1,6 +1,5 @@
 -- `text_write::numbers::put_hex8` meets its contract: eight digits are eight bytes. Assumes nothing.
 use native.Mathlib.Omega.{arith}
-use borrow.Author.Rules.{rules}
 use Rattle.text_write.proofs.Spelled.{hex_long}
 use Rattle.text_write.proofs.numbers.put_hex8.Goals as goal
 
