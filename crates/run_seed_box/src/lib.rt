@@ -2,8 +2,8 @@
 // `sdf`.
 #![tactic(auto)]
 
-ghost use Rattle.std.specs.Prelude.{◌≡◌, true, ◌&&◌, ◌+◌, ◌-◌, ◌<◌, ltb};
-ghost use Rattle.float.specs.Arith.{◌≺◌, if◌then◌else◌};
+ghost use Rattle.std.specs.Prelude.{◌≡◌, true, ◌&&◌, ◌+◌, ◌-◌, ◌<◌, ltb, if◌then◌else◌};
+ghost use Rattle.float.specs.Arith.{◌≺◌};
 ghost use Rattle.grid.specs.Bounds.{in_bounds};
 ghost use Rattle.grid.specs.Place.{snap_cell};
 ghost use Rattle.run.specs.Input.{seed_first, seed_last};

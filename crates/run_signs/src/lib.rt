@@ -2,9 +2,8 @@
 // the port: users call `sdf`.
 #![tactic(auto)]
 
-ghost use Rattle.std.specs.Prelude.{◌≡◌, ◌+◌, ◌*◌, ◌<◌, length};
+ghost use Rattle.std.specs.Prelude.{◌≡◌, ◌+◌, ◌*◌, ◌<◌, length, if◌then◌else◌};
 ghost use Rattle.std.specs.Float.Ieee.{neg};
-ghost use Rattle.float.specs.Arith.{if◌then◌else◌};
 ghost use Rattle.run.specs.Signs.{two_odd};
 ghost use Rattle.run_signs.specs.Sign.{inside_at, signed_by};
 

@@ -1,10 +1,10 @@
 -- `run_signs::sign`: the loop fills the field from the front with the signed distances. Assumes nothing.
+use Rattle.std.specs.Prelude.{if◌then◌else◌}
 use Prim.Native.Nat.{◌-◌}
 use native.Mathlib.Omega.{arith}
 use mathlib.Core.Path.{◌≡◌, refl, ap₂, ◌∙◌}
 use mathlib.Core.Bool.{Bool}
 use lib.Ieee.{Float, nan, neg}
-use Rattle.float.specs.Arith.{if◌then◌else◌}
 use Rattle.lists.proofs.Table.{filled_none, filled_more, filled_all}
 use Rattle.run_signs.specs.Sign.{signed_at, signed_by}
 use Rattle.run_signs.proofs.sign.Goals as goal
