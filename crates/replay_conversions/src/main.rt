@@ -3,7 +3,9 @@
 #![tactic(auto)]
 
 use replay_pairs::{Program, replay};
+use std::io;
 
-fn main() {
-    replay(Program::Converter, b"texts=");
+fn main(rt: HostRuntime) -> io::Result<()> {
+    replay(&rt, &mut rt.stdin(), Program::Converter, b"texts=")?;
+    Ok(())
 }

@@ -3,7 +3,9 @@
 #![tactic(auto)]
 
 use replay_pairs::{Program, replay};
+use std::io;
 
-fn main() {
-    replay(Program::Job, b"jobs=");
+fn main(rt: HostRuntime) -> io::Result<()> {
+    replay(&rt, &mut rt.stdin(), Program::Job, b"jobs=")?;
+    Ok(())
 }

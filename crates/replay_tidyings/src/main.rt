@@ -3,7 +3,9 @@
 #![tactic(auto)]
 
 use replay_pairs::{Program, replay};
+use std::io;
 
-fn main() {
-    replay(Program::Tidier, b"texts=");
+fn main(rt: HostRuntime) -> io::Result<()> {
+    replay(&rt, &mut rt.stdin(), Program::Tidier, b"texts=")?;
+    Ok(())
 }
