@@ -43,4 +43,3 @@ f1 = Ieee.of_bits binary32 0x3f80_0000
 -- f32::MAX, the largest finite value
 abbrev pub f_max : Float
 f_max = Ieee.of_bits binary32 0x7f7f_ffff
-
