@@ -1,7 +1,7 @@
 -- `job_checks::edition_refusal`: by its test. Assumes nothing.
 use mathlib.Core.Path.{sym, ap}
 use mathlib.Core.Bool.{Bool, not}
-use mathlib.Core.List.{◌∷◌}
+use mathlib.Core.List.{◌∷◌, []}
 use Rattle.lists.specs.Checks.{first_that_applies}
 use Rattle.job_checks.proofs.edition_refusal.Goals as goal
 
