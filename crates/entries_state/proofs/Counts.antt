@@ -1,13 +1,11 @@
--- The counts, by the tests of their functions; and what a test of a number says. Assumes nothing.
+-- The counts, by the tests of their functions. Assumes nothing.
 use Rattle.std.specs.Prelude.{if◌then◌else◌}
 use Prim.Native.Nat.{ℕ, ◌+◌, ◌-◌}
 use mathlib.Core.Path.{◌≡◌, sym, ap}
-use mathlib.Core.Bool.{Bool, not}
-use lib.Dec.{T, eqb}
-use borrow.Author.Tests.{eq-eqb, ne_eqb, eqb-true, eqb-false, not-true, not-false}
+use mathlib.Core.Bool.{Bool}
+use borrow.Author.Tests.{eq-eqb, ne_eqb}
 use Rattle.run_state.specs.declared.Progress.{Progress}
 use Rattle.run_state.specs.Told.{refused_by}
-use Rattle.walking.proofs.Tests.{is_so, not_so}
 use Rattle.entries_state.specs.Records.{stopped_by, popped_by}
 
 pub was_stopped : (number : ℕ) (p : Progress) → (p.number ≡ 0 → ⊥) → p ≡ stopped_by number p
@@ -25,10 +23,3 @@ spent limit p z = ap (λ (t : Bool). if t then refused_by 8 p else record { numb
 pub one_taken_lem : (limit : ℕ) (p : Progress) → (p.pops ≡ limit → ⊥) → ◌≡◌ {A = Progress} (record { number = 0; waiting = p.waiting - 1; pops = p.pops + 1; peak = p.peak }) (popped_by limit p)
 unfolding popped_by
 one_taken_lem limit p z = ap (λ (t : Bool). if t then refused_by 8 p else record { number = 0; waiting = p.waiting - 1; pops = p.pops + 1; peak = p.peak }) (sym (ne_eqb p.pops limit z))
-
--- the test `n != 0`
-pub not_zero_lem : (n : ℕ) → T (not (eqb n 0)) → n ≡ 0 → ⊥
-not_zero_lem n h = eqb-false n 0 (not-true (eqb n 0) (is_so (not (eqb n 0)) h))
-
-pub is_zero : (n : ℕ) → T (not (not (eqb n 0))) → n ≡ 0
-is_zero n h = eqb-true n 0 (not-false (eqb n 0) (not_so (not (eqb n 0)) h))

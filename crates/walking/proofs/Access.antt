@@ -8,7 +8,7 @@ use mathlib.Core.List.{List, [], ◌∷◌}
 use lib.Dec.{T, ltb}
 use lib.ListN.{length, get_or, set as set-list, length-set}
 use seplogic.Ra.Ura.{Ura}
-use seplogic.Ra.TreeShare.{full_share}
+use base.Fraction.{full_share}
 use mir.Syntax.{Ty, w64, ty_int, ty_ptr, place, field, deref, Opd as Operand, copy, int, rv_opd, op2, mul, unsigned, offset, Body, seq, assign}
 use mir.Val.{Val, vint, vptr, WT, has_ty}
 use mir.Raw.{raw as raw_ty}
@@ -32,7 +32,7 @@ module _ {M : Type 1} {𝓤 : Ura M} {𝓛 : Logic 𝓤} where
 
   -- where element i lies
   abbrev pub spot : (k : Kind 𝓛) → Slice k.row → ℕ → Val
-  spot k row i = vptr row.ref.ptr.0 (place_of (step_of k) row.ref.ptr.1 i)
+  spot k row i = vptr row.ref.ref_ptr.0 (place_of (step_of k) row.ref.ref_ptr.1 i)
 
   -- the cell of an element, at its MIR type as the machine sees it
   as_cell : (k : Kind 𝓛) (τ : Ty) → τ ≡ k.mir → (v : Val) (b o : ℕ) → ◌≡◌ {A = Item 𝓤} (‵ (cell_at full_share k.row.mir (v ∷ []) b o)) (‵ (fat full_share (raw_ty τ) b o v))
@@ -46,24 +46,24 @@ module _ {M : Type 1} {𝓤 : Ura M} {𝓛 : Logic 𝓤} {K : Type 0} {E : Env �
   open 𝓛 use {H}
 
   pub points : K → {a p s z : ℕ} {c : Operand} {rest : Body} (k : Kind 𝓛) (row : Slice k.row) (i : ℕ) → i < length row.ref.now → step_of k ≡ z → T (ltb z (2 ^ 64))
-      → opd_cell 𝓤 H E σ c ≡ holds (vint w64 i) → opd_cell 𝓤 H E (set σ a (holds (vint w64 (i * z)))) (copy (place s (field 0 ∷ []))) ≡ holds (vptr row.ref.ptr.0 row.ref.ptr.1)
+      → opd_cell 𝓤 H E σ c ≡ holds (vint w64 i) → opd_cell 𝓤 H E (set σ a (holds (vint w64 (i * z)))) (copy (place s (field 0 ∷ []))) ≡ holds (vptr row.ref.ref_ptr.0 row.ref.ref_ptr.1)
       → Takes 𝓤 H E σ a (ty_int w64) → Takes 𝓤 H E (set σ a (holds (vint w64 (i * z)))) p ty_ptr
       → Step K 𝓛 (Locals 𝓤 H E (set (set σ a (holds (vint w64 (i * z)))) p (holds (spot k row i))) ∷ Γ) (runs C Λ E rest q)
       (Locals 𝓤 H E σ ∷ Γ) (runs C Λ E (seq (assign (place a []) (op2 (mul unsigned) c (int w64 z))) (seq (assign (place p []) (op2 offset (copy (place s (field 0 ∷ []))) (copy (place a [])))) rest)) q)
   points t {a} {p} {s} {z} {c} {rest} k row i l e tz hc hs fa fp = step (λ on.
       puts t (bin t (opd t hc) (lit t tz) (record { fits = fits })) fa.0 (subst (λ (τ : Ty). T (has_ty τ (vint w64 (i * z))) × WT (vint w64 (i * z))) (sym fa.1) (tt, record { fits = fits })) $
-      puts t (bin t (opd t hs) (opd t (got 𝓤 H E σ a (holds (vint w64 (i * z))) (in_it 𝓤 H E σ a fa.0))) tt) fp.0 (subst (λ (τ : Ty). T (has_ty τ (vptr row.ref.ptr.0 (i * z + row.ref.ptr.1))) × Unit {0}) (sym fp.1) (tt, tt)) $
-      subst (λ (o : ℕ). Seq K 𝓛 (Locals 𝓤 H E (set (set σ a (holds (vint w64 (i * z)))) p (holds (vptr row.ref.ptr.0 o))) ∷ Γ) (runs C Λ E rest q)) (place_is (step_of k) row.ref.ptr.1 i ∙ ap (λ (n : ℕ). i * n + row.ref.ptr.1) e) on)
+      puts t (bin t (opd t hs) (opd t (got 𝓤 H E σ a (holds (vint w64 (i * z))) (in_it 𝓤 H E σ a fa.0))) tt) fp.0 (subst (λ (τ : Ty). T (has_ty τ (vptr row.ref.ref_ptr.0 (i * z + row.ref.ref_ptr.1))) × Unit {0}) (sym fp.1) (tt, tt)) $
+      subst (λ (o : ℕ). Seq K 𝓛 (Locals 𝓤 H E (set (set σ a (holds (vint w64 (i * z)))) p (holds (vptr row.ref.ref_ptr.0 o))) ∷ Γ) (runs C Λ E rest q)) (place_is (step_of k) row.ref.ref_ptr.1 i ∙ ap (λ (n : ℕ). i * n + row.ref.ref_ptr.1) e) on)
     where
       fits : i * z < 2 ^ 64
       fits = subst (λ (n : ℕ). i * n < 2 ^ 64) e (small k row i l)
 
   -- the same of the first, which the code does not multiply
-  pub points_first : K → {p s : ℕ} {rest : Body} (k : Kind 𝓛) (row : Slice k.row) → opd_cell 𝓤 H E σ (copy (place s (field 0 ∷ []))) ≡ holds (vptr row.ref.ptr.0 row.ref.ptr.1) → Takes 𝓤 H E σ p ty_ptr
+  pub points_first : K → {p s : ℕ} {rest : Body} (k : Kind 𝓛) (row : Slice k.row) → opd_cell 𝓤 H E σ (copy (place s (field 0 ∷ []))) ≡ holds (vptr row.ref.ref_ptr.0 row.ref.ref_ptr.1) → Takes 𝓤 H E σ p ty_ptr
       → Step K 𝓛 (Locals 𝓤 H E (set σ p (holds (spot k row 0))) ∷ Γ) (runs C Λ E rest q) (Locals 𝓤 H E σ ∷ Γ) (runs C Λ E (seq (assign (place p []) (op2 offset (copy (place s (field 0 ∷ []))) (int w64 0))) rest) q)
   points_first t {p} {s} {rest} k row hs fp = step (λ on.
-      puts t (bin t (opd t hs) (opd t refl) tt) fp.0 (subst (λ (τ : Ty). T (has_ty τ (vptr row.ref.ptr.0 (0 + row.ref.ptr.1))) × Unit {0}) (sym fp.1) (tt, tt)) $
-      subst (λ (o : ℕ). Seq K 𝓛 (Locals 𝓤 H E (set σ p (holds (vptr row.ref.ptr.0 o))) ∷ Γ) (runs C Λ E rest q)) (sym (zero-add row.ref.ptr.1)) on)
+      puts t (bin t (opd t hs) (opd t refl) tt) fp.0 (subst (λ (τ : Ty). T (has_ty τ (vptr row.ref.ref_ptr.0 (0 + row.ref.ref_ptr.1))) × Unit {0}) (sym fp.1) (tt, tt)) $
+      subst (λ (o : ℕ). Seq K 𝓛 (Locals 𝓤 H E (set σ p (holds (vptr row.ref.ref_ptr.0 o))) ∷ Γ) (runs C Λ E rest q)) (sym (zero-add row.ref.ref_ptr.1)) on)
 
 module _ {M : Type 1} {𝓤 : Ura M} {𝓛 : Logic 𝓤} {K : Type 0} {E : Env 𝓤 𝓛.H} {σ : List Cell} {Γ : List (Item 𝓤)} {C : Calls 𝓤 𝓛.H} {Λ : Loops 𝓤 𝓛.H} {q : Post 𝓤 𝓛.H} where
   -- it is read

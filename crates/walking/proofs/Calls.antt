@@ -4,7 +4,7 @@ use Prim.Native.Nat.{ℕ}
 use mathlib.Core.List.{List, [], ◌∷◌, map}
 use lib.Dec.{T}
 use seplogic.Ra.Ura.{Ura}
-use mir.Syntax.{Ty, Name, place, Opd as Operand, Body, seq, call}
+use mir.Syntax.{Ty, Callee, place, Opd as Operand, Body, seq, call}
 use mir.Val.{Val, WT, has_ty}
 use base.Logic.{SProp, ent, sep, ex, emp, id⊢, via, emp∗, comm∗, mono_l, mono_r}
 use prog.Wp.{Env, Calls, Tables}
@@ -27,7 +27,7 @@ module _ {M : Type 1} {𝓤 : Ura M} {𝓛 : Logic 𝓤} where
       H.⇛ (ex 𝓤 (λ (r : k.row.Denot). sep 𝓤 (sep 𝓤 (sem 𝓛 (tokens ps n)) (sem 𝓛 (k.row.own_val r (w ∷ [])))) (ex 𝓤 (λ (zs : Lefts ps). sep 𝓤 (sem 𝓛 (finals ps n zs)) (fact 𝓤 (φ r (changed ps zs)))))))
 
   -- called with ps, the function f returns some r of the kind k and leaves some zs in what it was lent, of which φ holds
-  abbrev pub Does : Calls 𝓤 H → Name → (ps : List (Arg 𝓛)) (k : Kind 𝓛) → (k.row.Denot → Changes ps → Type 0) → Type 1
+  abbrev pub Does : Calls 𝓤 H → Callee → (ps : List (Arg 𝓛)) (k : Kind 𝓛) → (k.row.Denot → Changes ps → Type 0) → Type 1
   Does C f ps k φ = (n : Names ps) → ent 𝓤 (sep 𝓤 (sem 𝓛 (tokens ps n)) (sem 𝓛 (passes ps n))) (C f (words ps) (Ends ps k φ n))
 
   -- by its contract, where it asks for ψ; and where it asks for nothing
@@ -76,16 +76,16 @@ module _ {M : Type 1} {𝓤 : Ura M} {𝓛 : Logic 𝓤} where
   abbrev pub behind : List (Arg 𝓛) → List (Item 𝓤) → List (Item 𝓤)
   behind [] Γ = Γ
   behind (value k v ∷ ps) Γ = behind ps Γ
-  behind (shown s ∷ ps) Γ = behind ps (later_on Γ)
+  behind (shown c s ∷ ps) Γ = behind ps (later_on Γ)
   behind (lent s ∷ ps) Γ = behind ps (later_on Γ)
-  behind (seen s ∷ ps) Γ = behind ps (later_on Γ)
+  behind (seen c s ∷ ps) Γ = behind ps (later_on Γ)
 
 module _ {M : Type 1} {𝓤 : Ura M} {𝓛 : Logic 𝓤} {K : Type 0} {Γ : List (Item 𝓤)} {E : Env 𝓤 𝓛.H} {σ : List Cell} {q : Post 𝓤 𝓛.H} where
   -- a call that does φ. The slices that it takes stand first behind the locals, in the order in which it takes them, and so they do after it. Its operands
   -- are locals or numbers, and its result is put into a local. That all this is so is three times `refl`
   open 𝓛 use {H}
 
-  pub calls : {f : Name} {xs : List Operand} {i : ℕ} {rest : Body} → K → (𝓣 : Tables 𝓤 H) (ps : List (Arg 𝓛)) (k : Kind 𝓛) (φ : k.row.Denot → Changes ps → Type 0) → Does 𝓣.C f ps k φ
+  pub calls : {f : Callee} {xs : List Operand} {i : ℕ} {rest : Body} → K → (𝓣 : Tables 𝓤 H) (ps : List (Arg 𝓛)) (k : Kind 𝓛) (φ : k.row.Denot → Changes ps → Type 0) → Does 𝓣.C f ps k φ
       → slices ps (behind ps Γ) ≡ Γ → map (opd_cell 𝓤 H E σ) xs ≡ map holds (words ps) → Takes 𝓤 H E σ i k.mir
       → ((r : Valued k) (zs : Changes ps) (l : Long ps zs) → φ r.it zs → Seq K 𝓛 (Locals 𝓤 H E (set σ i (holds (k.val r.it))) ∷ slices (after ps zs l) (behind ps Γ)) (runs 𝓣.C 𝓣.Λ E rest q))
       → Seq K 𝓛 (Locals 𝓤 H E σ ∷ Γ) (runs 𝓣.C 𝓣.Λ E (seq (call f xs (place i [])) rest) q)
@@ -107,7 +107,7 @@ module _ {M : Type 1} {𝓤 : Ura M} {𝓛 : Logic 𝓤} {K : Type 0} {Γ : List
   -- a call of which it is said what it returns
   open 𝓛 use {H}
 
-  pub calls_is : {f : Name} {xs : List Operand} {i : ℕ} {rest : Body} → K → (𝓣 : Tables 𝓤 H) (ps : List (Arg 𝓛)) (k : Kind 𝓛) (x : k.row.Denot) → Does 𝓣.C f ps k (λ r zs. r ≡ x)
+  pub calls_is : {f : Callee} {xs : List Operand} {i : ℕ} {rest : Body} → K → (𝓣 : Tables 𝓤 H) (ps : List (Arg 𝓛)) (k : Kind 𝓛) (x : k.row.Denot) → Does 𝓣.C f ps k (λ r zs. r ≡ x)
       → slices ps (behind ps Γ) ≡ Γ → map (opd_cell 𝓤 H E σ) xs ≡ map holds (words ps) → Takes 𝓤 H E σ i k.mir
       → (Is k.row x (k.val x ∷ []) → (zs : Changes ps) (l : Long ps zs) → Seq K 𝓛 (Locals 𝓤 H E (set σ i (holds (k.val x))) ∷ slices (after ps zs l) (behind ps Γ)) (runs 𝓣.C 𝓣.Λ E rest q))
       → Seq K 𝓛 (Locals 𝓤 H E σ ∷ Γ) (runs 𝓣.C 𝓣.Λ E (seq (call f xs (place i [])) rest) q)

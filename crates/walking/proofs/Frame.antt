@@ -6,11 +6,11 @@ use mathlib.Core.List.{List, [], ◌∷◌, map}
 use mathlib.Core.Bool.{Bool, true, false}
 use mathlib.Core.Option.{Option, none, some as found}
 use seplogic.Ra.Ura.{Ura}
-use seplogic.Ra.TreeShare.{full_share}
+use base.Fraction.{full_share}
 use lib.Dec.{T, ltb, ltb→lt, eqb_refl}
 use lib.ListN.{get_or}
-use mir.Syntax.{Ty, Width, Local, Fn, Sym, Tys, ty_int, ty_bool, ty_float, ty_ptr, ty_ref, ty_array, ty_unit, ty_struct, ty_enum, ty_named, variant, place, field, Opd as Operand, copy, int, int_neg, int_big, float, opd_true, opd_false, opd_unit, ptr_const, Rv as RValue, rv_opd, deref, addr_of, aggregate, Body, seq, assign, return}
-use mir.Val.{Val, vunit, vbool, vptr, vint, vfloat, vstruct, Vals, WT, has_ty, bits, bytes}
+use mir.Syntax.{Ty, Width, Local, Fn, Sym, Tys, ty_int, ty_bool, ty_float, ty_ptr, ty_ref, ty_array, ty_unit, ty_struct, ty_enum, ty_named, ty_param, ty_const, ty_array_p, variant, place, field, Opd as Operand, copy, int, int_neg, int_big, float, opd_true, opd_false, opd_unit, ptr_const, size_of, align_of, num_of, fn_addr, vtable, Rv as RValue, rv_opd, deref, addr_of, aggregate, Body, seq, assign, return}
+use mir.Val.{Val, vunit, vbool, vptr, vint, vfloat, vstruct, vcode, Vals, WT, has_ty, bits, bytes}
 use mir.Fields.{get_v, set_v}
 use base.Logic.{SProp, ent, sep, wand, id⊢, via, wand_i, all_i, guard_i, guard_e, mono∗}
 use base.Fml.{Share, ftrue, fat, froom, fdies}
@@ -100,6 +100,7 @@ field_in (vint w n) k = empty
 field_in (vfloat f x) k = empty
 field_in (vptr b o) k = empty
 field_in (vstruct vs) k = holds (get_v vs k)
+field_in (vcode x) k = empty
 
 abbrev field_cell : Option (Ty × ℕ) → Cell → ℕ → Cell
 field_cell none c k = empty
@@ -159,6 +160,11 @@ module _ {M : Type 1} (𝓤 : Ura M) (H : Heap 𝓤) where
   opd_cell E σ opd_false = holds (vbool false)
   opd_cell E σ opd_unit = holds vunit
   opd_cell E σ (ptr_const n) = empty
+  opd_cell E σ (size_of τ) = empty
+  opd_cell E σ (align_of τ) = empty
+  opd_cell E σ (num_of w τ) = empty
+  opd_cell E σ (fn_addr f s) = empty
+  opd_cell E σ (vtable τ ss) = empty
 
   abbrev pub opd_ty : Env 𝓤 H → Operand → Ty
   opd_ty E (copy (place i [])) = (get_or E i (no_local 𝓤 H)).0
@@ -174,6 +180,11 @@ module _ {M : Type 1} (𝓤 : Ura M) (H : Heap 𝓤) where
   opd_ty E opd_false = ty_bool
   opd_ty E opd_unit = ty_unit
   opd_ty E (ptr_const n) = ty_unit
+  opd_ty E (size_of τ) = ty_unit
+  opd_ty E (align_of τ) = ty_unit
+  opd_ty E (num_of w τ) = ty_unit
+  opd_ty E (fn_addr f s) = ty_unit
+  opd_ty E (vtable τ ss) = ty_unit
 
   -- a field that is such an operand: of which struct it is, and what that holds
   record Field (E : Env 𝓤 H) (σ : List Cell) (i k : ℕ) (v : Val) : Type 0 where
@@ -197,6 +208,7 @@ module _ {M : Type 1} (𝓤 : Ura M) (H : Heap 𝓤) where
   in_struct E σ i k v ν τs (found f) (holds (vint w n)) o a h e = absurd (subst Empty e tt)
   in_struct E σ i k v ν τs (found f) (holds (vfloat g x)) o a h e = absurd (subst Empty e tt)
   in_struct E σ i k v ν τs (found f) (holds (vptr b x)) o a h e = absurd (subst Empty e tt)
+  in_struct E σ i k v ν τs (found f) (holds (vcode x)) o a h e = absurd (subst Empty e tt)
   in_struct E σ i k v ν τs (found f) (holds (vstruct vs)) o a h e = record { name = ν; types = τs; type = f.0; after = f.1; values = vs; of = o; at = a; has = h; is = ap (value_in v) e }
 
   in_field : (E : Env 𝓤 H) (σ : List Cell) (i k : ℕ) (v : Val) (τ : Ty) → (get_or E i (no_local 𝓤 H)).0 ≡ τ → field_cell (field_of τ k) (get E σ i) k ≡ holds v → Field E σ i k v
@@ -209,7 +221,10 @@ module _ {M : Type 1} (𝓤 : Ura M) (H : Heap 𝓤) where
   in_field E σ i k v ty_unit o e = absurd (subst Empty e tt)
   in_field E σ i k v (ty_struct ν τs) o e = in_struct E σ i k v ν τs (field_at zero τs k) (get E σ i) o refl refl e
   in_field E σ i k v (ty_enum ν τss) o e = absurd (subst Empty e tt)
-  in_field E σ i k v (ty_named ν) o e = absurd (subst Empty e tt)
+  in_field E σ i k v (ty_named ν τs) o e = absurd (subst Empty e tt)
+  in_field E σ i k v (ty_param j) o e = absurd (subst Empty e tt)
+  in_field E σ i k v (ty_const j) o e = absurd (subst Empty e tt)
+  in_field E σ i k v (ty_array_p τ j) o e = absurd (subst Empty e tt)
 
   abbrev cell : Ty × ℕ → Cell → Item 𝓤
   cell e empty = ‵ (froom e.0 e.1 zero)
@@ -404,6 +419,11 @@ module _ {M : Type 1} {𝓤 : Ura M} {𝓛 : Logic 𝓤} {K : Type 0} {E : Env �
     reads_one t opd_false v e = subst (λ (u : Val). Opd K 𝓛 (Locals 𝓤 H E σ ∷ Γ) E opd_false u) (ap (value_in v) e) (false_lit t)
     reads_one t opd_unit v e = subst (λ (u : Val). Opd K 𝓛 (Locals 𝓤 H E σ ∷ Γ) E opd_unit u) (ap (value_in v) e) (unit_lit t)
     reads_one t (ptr_const n) v e = absurd (subst Empty e tt)
+    reads_one t (size_of τ) v e = absurd (subst Empty e tt)
+    reads_one t (align_of τ) v e = absurd (subst Empty e tt)
+    reads_one t (num_of w τ) v e = absurd (subst Empty e tt)
+    reads_one t (fn_addr f s) v e = absurd (subst Empty e tt)
+    reads_one t (vtable τ ss) v e = absurd (subst Empty e tt)
 
     -- a local, a field of one, or a constant
     pub opd : K → {x : Operand} {v : Val} → opd_cell 𝓤 H E σ x ≡ holds v → Opd K 𝓛 (Locals 𝓤 H E σ ∷ Γ) E x v
@@ -443,6 +463,11 @@ module _ {M : Type 1} {𝓤 : Ura M} {𝓛 : Logic 𝓤} {K : Type 0} {E : Env �
     typed_opd t opd_false v e k = k (subst (λ (u : Val). T (has_ty ty_bool u) × WT u) (ap (value_in v) e) (tt, tt))
     typed_opd t opd_unit v e k = k (subst (λ (u : Val). T (has_ty ty_unit u) × WT u) (ap (value_in v) e) (tt, tt))
     typed_opd t (ptr_const n) v e k = absurd (subst Empty e tt)
+    typed_opd t (size_of τ) v e k = absurd (subst Empty e tt)
+    typed_opd t (align_of τ) v e k = absurd (subst Empty e tt)
+    typed_opd t (num_of w τ) v e k = absurd (subst Empty e tt)
+    typed_opd t (fn_addr f s) v e k = absurd (subst Empty e tt)
+    typed_opd t (vtable τ ss) v e k = absurd (subst Empty e tt)
 
     -- the address of what a slice points to
     addr_of_lem : K → {s n b o : ℕ} {ρ τ : Ty} → (get_or E s (no_local 𝓤 H)).0 ≡ slice_ty ρ → get 𝓤 H E σ s ≡ holds (slice_val (b, o) n) → Rv K 𝓛 (Locals 𝓤 H E σ ∷ Γ) E (addr_of (place s (field 0 ∷ deref τ ∷ []))) (vptr b o)

@@ -6,7 +6,7 @@ use mathlib.Core.List.{List, [], ◌∷◌}
 use lib.ListN.{length}
 use lib.Dec.{T}
 use seplogic.Ra.Ura.{Ura}
-use seplogic.Ra.TreeShare.{full_share}
+use base.Fraction.{full_share}
 use mir.Syntax.{Ty, named}
 use mir.Val.{Val, WT, has_ty}
 use base.Logic.{ent, sep, via}
@@ -14,9 +14,10 @@ use base.Fml.{Lft, GName, Share, Fml, ftrue, fsep, feq, flft}
 use types.Logic.{Logic}
 use types.Kit.{Goal, Soaks, Item, ‵, raw, ◌⊛◌, mean, ⋆, Seq, ◌$◌, ◌∵◌, !, qed, by, move, drop, use1, split, join, fsplit, fjoin, feq_l, frame, push, pop, done}
 use types.Tokens.{lft_new, lft_end}
-use denote.RattleType.{RattleType}
+use denote.RattleType.{RattleType, RowLaws}
 use denote.Laws.{Is, Tells, Makes}
-use denote.Ref.{Bor, at_last}
+use denote.Ref.{Bor, MutBor, at_last, as_bor}
+use denote.Shares.{Shares}
 use denote.Exit.{yes, unchanged}
 use denote.Slice.{slice_val, MutSlice, ShrSlice, Room, finally, shr_slice_copy}
 use denote.Steps.{owned, nothing}
@@ -27,7 +28,7 @@ use Rattle.walking.proofs.Again.{Kept, KeptShared, lends, comes_back, shares_out
 pub record Slice (R : RattleType) : Type 2 where
   pub κ : Lft
   pub q : Share
-  pub ref : Bor (List R.Denot)
+  pub ref : MutBor (List R.Denot)
   pub count : ℕ
   pub long : count ≡ length ref.now
   pub room : Room R count
@@ -38,7 +39,7 @@ module _ {R : RattleType} where
 
   -- its machine value
   abbrev pub word_of : Slice R → Val
-  word_of s = slice_val s.ref.ptr s.count
+  word_of s = slice_val s.ref.ref_ptr s.count
 
   -- of one whose elements stay as they are
   abbrev pub word_at : Slice R → Val
@@ -48,10 +49,10 @@ module _ {R : RattleType} where
   fits_at s = subst (λ (n : ℕ). n < 2 ^ 64) s.long s.room.0
 
   pub spelt_of : (s : Slice R) → Spelt R s.ref.ref_ptr.0 s.ref.ref_ptr.1 s.ref.ghost_name s.ref.now (word_of s)
-  spelt_of s = (ap (λ (n : ℕ). slice_val s.ref.ptr n ∷ []) s.long, subst (Room R) s.long s.room)
+  spelt_of s = (ap (λ (n : ℕ). slice_val s.ref.ref_ptr n ∷ []) s.long, subst (Room R) s.long s.room)
 
 -- one that the function takes
-abbrev pub taken : (R : RattleType) → Lft → Share → (x : Bor (List R.Denot)) → Room R (length x.now) → Slice R
+abbrev pub taken : (R : RattleType) → Lft → Share → (x : MutBor (List R.Denot)) → Room R (length x.now) → Slice R
 taken R κ q x room = record { κ = κ; q = q; ref = x; count = length x.now; long = refl; room = room }
 
 -- the same with other elements
@@ -80,9 +81,9 @@ pub record Valued {M : Type 1} {𝓤 : Ura M} {𝓛 : Logic 𝓤} (k : Kind 𝓛
 
 pub data Arg {M : Type 1} {𝓤 : Ura M} (𝓛 : Logic 𝓤) : Type 2 where
   value : (k : Kind 𝓛) → Valued k → Arg 𝓛
-  shown : {R : RattleType} → Slice R → Arg 𝓛  -- `&[T]`: a copy of the reference is passed
+  shown : {R : RattleType} → RowLaws R → Slice R → Arg 𝓛  -- `&[T]`: a copy of the reference is passed, by the laws of what a `&` holds
   lent : {R : RattleType} → Slice R → Arg 𝓛  -- `&mut [T]`, lent on
-  seen : {R : RattleType} → Slice R → Arg 𝓛  -- `&mut [T]`, lent on as `&[T]`
+  seen : {R : RattleType} → ((l : Lft) → Shares 𝓛 R l) → Slice R → Arg 𝓛  -- `&mut [T]`, lent on as `&[T]`, by the law by which T is shared out
 
 -- ---- what is in the context: the slices, each with its token
 module _ {M : Type 1} {𝓤 : Ura M} where
@@ -90,160 +91,160 @@ module _ {M : Type 1} {𝓤 : Ura M} where
   Mut s = ‵ ((MutSlice (named 0) s.κ (row_of s)).own_val s.ref (word_of s ∷ [])) ⊛ ‵ (flft s.κ s.q)
 
   abbrev pub Shr : {R : RattleType} → Slice R → Item 𝓤
-  Shr s = ‵ ((ShrSlice (named 0) s.κ (row_of s)).own_val s.ref (word_at s ∷ [])) ⊛ ‵ (flft s.κ s.q)
+  Shr s = ‵ ((ShrSlice (named 0) s.κ (row_of s)).own_val (as_bor s.ref) (word_at s ∷ [])) ⊛ ‵ (flft s.κ s.q)
 
 module _ {M : Type 1} {𝓤 : Ura M} {𝓛 : Logic 𝓤} where
   abbrev pub slices : List (Arg 𝓛) → List (Item 𝓤) → List (Item 𝓤)
   slices [] Γ = Γ
   slices (value k v ∷ ps) Γ = slices ps Γ
-  slices (shown s ∷ ps) Γ = Shr s ∷ slices ps Γ
+  slices (shown c s ∷ ps) Γ = Shr s ∷ slices ps Γ
   slices (lent s ∷ ps) Γ = Mut s ∷ slices ps Γ
-  slices (seen s ∷ ps) Γ = Mut s ∷ slices ps Γ
+  slices (seen c s ∷ ps) Γ = Mut s ∷ slices ps Γ
 
   abbrev pub Had : List (Arg 𝓛) → Item 𝓤
   Had [] = ‵ ftrue
   Had (value k v ∷ ps) = Had ps
-  Had (shown s ∷ ps) = Shr s ⊛ Had ps
+  Had (shown c s ∷ ps) = Shr s ⊛ Had ps
   Had (lent s ∷ ps) = Mut s ⊛ Had ps
-  Had (seen s ∷ ps) = Mut s ⊛ Had ps
+  Had (seen c s ∷ ps) = Mut s ⊛ Had ps
 
   -- ---- what a call makes: a lifetime and a name for each slice that is lent on
   abbrev pub Names : List (Arg 𝓛) → Type 0
   Names [] = Unit {0}
   Names (value k v ∷ ps) = Names ps
-  Names (shown s ∷ ps) = Names ps
+  Names (shown c s ∷ ps) = Names ps
   Names (lent s ∷ ps) = (ℕ × GName) × Names ps
-  Names (seen s ∷ ps) = (ℕ × GName) × Names ps
+  Names (seen c s ∷ ps) = ℕ × Names ps
 
   abbrev pub tokens : (ps : List (Arg 𝓛)) → Names ps → Fml
   tokens [] n = ftrue
   tokens (value k v ∷ ps) n = tokens ps n
-  tokens (shown s ∷ ps) n = fsep (flft s.κ s.q) (tokens ps n)
+  tokens (shown c s ∷ ps) n = fsep (flft s.κ s.q) (tokens ps n)
   tokens (lent s ∷ ps) n = fsep (flft (n.0.0 ∷ []) full_share) (tokens ps n.1)
-  tokens (seen s ∷ ps) n = fsep (flft (n.0.0 ∷ []) full_share) (tokens ps n.1)
+  tokens (seen c s ∷ ps) n = fsep (flft (n.0 ∷ []) full_share) (tokens ps n.1)
 
   abbrev pub passes : (ps : List (Arg 𝓛)) → Names ps → Fml
   passes [] n = ftrue
   passes (value k v ∷ ps) n = fsep (k.row.own_val v.it (k.val v.it ∷ [])) (passes ps n)
-  passes (shown s ∷ ps) n = fsep ((ShrSlice (named 0) s.κ (row_of s)).own_val s.ref (word_at s ∷ [])) (passes ps n)
+  passes (shown c s ∷ ps) n = fsep ((ShrSlice (named 0) s.κ (row_of s)).own_val (as_bor s.ref) (word_at s ∷ [])) (passes ps n)
   passes (lent s ∷ ps) n = fsep ((MutSlice (named 0) (n.0.0 ∷ []) (row_of s)).own_val (at s.ref.ref_ptr.0 s.ref.ref_ptr.1 n.0.1 s.ref.now) (word_of s ∷ [])) (passes ps n.1)
-  passes (seen s ∷ ps) n = fsep ((ShrSlice (named 0) (n.0.0 ∷ []) (row_of s)).own_val (at s.ref.ref_ptr.0 s.ref.ref_ptr.1 n.0.1 s.ref.now) (word_of s ∷ [])) (passes ps n.1)
+  passes (seen c s ∷ ps) n = fsep ((ShrSlice (named 0) (n.0 ∷ []) (row_of s)).own_val (as_bor s.ref) (word_of s ∷ [])) (passes ps n.1)
 
   abbrev pub keeps : (ps : List (Arg 𝓛)) → Names ps → Fml
   keeps [] n = ftrue
   keeps (value k v ∷ ps) n = keeps ps n
-  keeps (shown s ∷ ps) n = fsep ((ShrSlice (named 0) s.κ (row_of s)).own_val s.ref (word_at s ∷ [])) (keeps ps n)
+  keeps (shown c s ∷ ps) n = fsep ((ShrSlice (named 0) s.κ (row_of s)).own_val (as_bor s.ref) (word_at s ∷ [])) (keeps ps n)
   keeps (lent s ∷ ps) n = fsep (Kept (row_of s) s.κ s.q s.ref.ghost_name s.ref.ref_ptr.0 s.ref.ref_ptr.1 s.ref.now n.0.0 n.0.1) (keeps ps n.1)
-  keeps (seen s ∷ ps) n = fsep (KeptShared (row_of s) s.κ s.q s.ref.ghost_name s.ref.ref_ptr.0 s.ref.ref_ptr.1 s.ref.now n.0.0) (keeps ps n.1)
+  keeps (seen c s ∷ ps) n = fsep (KeptShared (row_of s) s.κ s.q s.ref.ghost_name s.ref.ref_ptr.0 s.ref.ref_ptr.1 s.ref.now n.0) (keeps ps n.1)
 
   -- ---- what is left: a list for each slice that was lent on as `&mut`, as long as the one before
   abbrev pub Lefts : List (Arg 𝓛) → Type 0
   Lefts [] = Unit {0}
   Lefts (value k v ∷ ps) = Unit {0} × Lefts ps
-  Lefts (shown s ∷ ps) = Unit {0} × Lefts ps
+  Lefts (shown c s ∷ ps) = Unit {0} × Lefts ps
   Lefts (lent s ∷ ps) = List (row_of s).Denot × Lefts ps
-  Lefts (seen s ∷ ps) = Unit {0} × Lefts ps
+  Lefts (seen c s ∷ ps) = Unit {0} × Lefts ps
 
   abbrev pub finals : (ps : List (Arg 𝓛)) → Names ps → Lefts ps → Fml
   finals [] n zs = ftrue
   finals (value k v ∷ ps) n zs = fsep ftrue (finals ps n zs.1)
-  finals (shown s ∷ ps) n zs = fsep ftrue (finals ps n zs.1)
+  finals (shown c s ∷ ps) n zs = fsep ftrue (finals ps n zs.1)
   finals (lent s ∷ ps) n zs = fsep (fsep (finally (row_of s) n.0.1 zs.0) (feq ℕ (length zs.0) (length s.ref.now))) (finals ps n.1 zs.1)
-  finals (seen s ∷ ps) n zs = fsep ftrue (finals ps n.1 zs.1)
+  finals (seen c s ∷ ps) n zs = fsep ftrue (finals ps n.1 zs.1)
 
   -- the lists alone, with nothing for what is not lent so
   abbrev pub Changes : List (Arg 𝓛) → Type 0
   Changes [] = Unit {0}
   Changes (value k v ∷ ps) = Changes ps
-  Changes (shown s ∷ ps) = Changes ps
+  Changes (shown c s ∷ ps) = Changes ps
   Changes (lent s ∷ ps) = List (row_of s).Denot × Changes ps
-  Changes (seen s ∷ ps) = Changes ps
+  Changes (seen c s ∷ ps) = Changes ps
 
   abbrev pub changed : (ps : List (Arg 𝓛)) → Lefts ps → Changes ps
   changed [] zs = tt
   changed (value k v ∷ ps) zs = changed ps zs.1
-  changed (shown s ∷ ps) zs = changed ps zs.1
+  changed (shown c s ∷ ps) zs = changed ps zs.1
   changed (lent s ∷ ps) zs = (zs.0, changed ps zs.1)
-  changed (seen s ∷ ps) zs = changed ps zs.1
+  changed (seen c s ∷ ps) zs = changed ps zs.1
 
   abbrev pub lefts : (ps : List (Arg 𝓛)) → Changes ps → Lefts ps
   lefts [] zs = tt
   lefts (value k v ∷ ps) zs = (tt, lefts ps zs)
-  lefts (shown s ∷ ps) zs = (tt, lefts ps zs)
+  lefts (shown c s ∷ ps) zs = (tt, lefts ps zs)
   lefts (lent s ∷ ps) zs = (zs.0, lefts ps zs.1)
-  lefts (seen s ∷ ps) zs = (tt, lefts ps zs)
+  lefts (seen c s ∷ ps) zs = (tt, lefts ps zs)
 
   abbrev pub Long : (ps : List (Arg 𝓛)) → Changes ps → Type 0
   Long [] zs = Unit {0}
   Long (value k v ∷ ps) zs = Long ps zs
-  Long (shown s ∷ ps) zs = Long ps zs
+  Long (shown c s ∷ ps) zs = Long ps zs
   Long (lent s ∷ ps) zs = (length zs.0 ≡ length s.ref.now) × Long ps zs.1
-  Long (seen s ∷ ps) zs = Long ps zs
+  Long (seen c s ∷ ps) zs = Long ps zs
 
   -- the same as a contract has it
   abbrev pub Fitting : (ps : List (Arg 𝓛)) → Changes ps → Type 0
   Fitting [] zs = Unit {0}
   Fitting (value k v ∷ ps) zs = Unit {0} × Fitting ps zs
-  Fitting (shown s ∷ ps) zs = Unit {0} × Fitting ps zs
+  Fitting (shown c s ∷ ps) zs = Unit {0} × Fitting ps zs
   Fitting (lent s ∷ ps) zs = (length zs.0 ≡ length s.ref.now) × Fitting ps zs.1
-  Fitting (seen s ∷ ps) zs = Unit {0} × Fitting ps zs
+  Fitting (seen c s ∷ ps) zs = Unit {0} × Fitting ps zs
 
   abbrev pub fitting : (ps : List (Arg 𝓛)) (zs : Changes ps) → Long ps zs → Fitting ps zs
   fitting [] zs l = tt
   fitting (value k v ∷ ps) zs l = (tt, fitting ps zs l)
-  fitting (shown s ∷ ps) zs l = (tt, fitting ps zs l)
+  fitting (shown c s ∷ ps) zs l = (tt, fitting ps zs l)
   fitting (lent s ∷ ps) zs l = (l.0, fitting ps zs.1 l.1)
-  fitting (seen s ∷ ps) zs l = (tt, fitting ps zs l)
+  fitting (seen c s ∷ ps) zs l = (tt, fitting ps zs l)
 
   abbrev pub after : (ps : List (Arg 𝓛)) (zs : Changes ps) → Long ps zs → List (Arg 𝓛)
   after [] zs l = []
   after (value k v ∷ ps) zs l = value k v ∷ after ps zs l
-  after (shown s ∷ ps) zs l = shown s ∷ after ps zs l
+  after (shown c s ∷ ps) zs l = shown c s ∷ after ps zs l
   after (lent s ∷ ps) zs l = lent (holding s zs.0 l.0) ∷ after ps zs.1 l.1
-  after (seen s ∷ ps) zs l = seen s ∷ after ps zs l
+  after (seen c s ∷ ps) zs l = seen c s ∷ after ps zs l
 
   -- ---- how a contract sees the list: lifetimes, shares, values, machine values
   abbrev pub Lifetimes : List (Arg 𝓛) → Type 0
   Lifetimes [] = Unit {0}
   Lifetimes (value k v ∷ ps) = Lifetimes ps
-  Lifetimes (shown s ∷ ps) = Lft × Lifetimes ps
+  Lifetimes (shown c s ∷ ps) = Lft × Lifetimes ps
   Lifetimes (lent s ∷ ps) = Lft × Lifetimes ps
-  Lifetimes (seen s ∷ ps) = Lft × Lifetimes ps
+  Lifetimes (seen c s ∷ ps) = Lft × Lifetimes ps
 
   abbrev pub lifetimes : (ps : List (Arg 𝓛)) → Names ps → Lifetimes ps
   lifetimes [] n = tt
   lifetimes (value k v ∷ ps) n = lifetimes ps n
-  lifetimes (shown s ∷ ps) n = (s.κ, lifetimes ps n)
+  lifetimes (shown c s ∷ ps) n = (s.κ, lifetimes ps n)
   lifetimes (lent s ∷ ps) n = (n.0.0 ∷ [], lifetimes ps n.1)
-  lifetimes (seen s ∷ ps) n = (n.0.0 ∷ [], lifetimes ps n.1)
+  lifetimes (seen c s ∷ ps) n = (n.0 ∷ [], lifetimes ps n.1)
 
   abbrev pub Parts : List (Arg 𝓛) → Type 0
   Parts [] = Unit {0}
   Parts (value k v ∷ ps) = Parts ps
-  Parts (shown s ∷ ps) = Share × Parts ps
+  Parts (shown c s ∷ ps) = Share × Parts ps
   Parts (lent s ∷ ps) = Share × Parts ps
-  Parts (seen s ∷ ps) = Share × Parts ps
+  Parts (seen c s ∷ ps) = Share × Parts ps
 
   abbrev pub parts : (ps : List (Arg 𝓛)) → Parts ps
   parts [] = tt
   parts (value k v ∷ ps) = parts ps
-  parts (shown s ∷ ps) = (s.q, parts ps)
+  parts (shown c s ∷ ps) = (s.q, parts ps)
   parts (lent s ∷ ps) = (full_share, parts ps)
-  parts (seen s ∷ ps) = (full_share, parts ps)
+  parts (seen c s ∷ ps) = (full_share, parts ps)
 
   abbrev pub Values : List (Arg 𝓛) → Type 0
   Values [] = Unit {0}
   Values (value k v ∷ ps) = k.row.Denot × Values ps
-  Values (shown s ∷ ps) = Bor (List (row_of s).Denot) × Values ps
-  Values (lent s ∷ ps) = Bor (List (row_of s).Denot) × Values ps
-  Values (seen s ∷ ps) = Bor (List (row_of s).Denot) × Values ps
+  Values (shown c s ∷ ps) = Bor (List (row_of s).Denot) × Values ps
+  Values (lent s ∷ ps) = MutBor (List (row_of s).Denot) × Values ps
+  Values (seen c s ∷ ps) = Bor (List (row_of s).Denot) × Values ps
 
   abbrev pub values : (ps : List (Arg 𝓛)) → Names ps → Values ps
   values [] n = tt
   values (value k v ∷ ps) n = (v.it, values ps n)
-  values (shown s ∷ ps) n = (s.ref, values ps n)
+  values (shown c s ∷ ps) n = (as_bor s.ref, values ps n)
   values (lent s ∷ ps) n = (at s.ref.ref_ptr.0 s.ref.ref_ptr.1 n.0.1 s.ref.now, values ps n.1)
-  values (seen s ∷ ps) n = (at s.ref.ref_ptr.0 s.ref.ref_ptr.1 n.0.1 s.ref.now, values ps n.1)
+  values (seen c s ∷ ps) n = (as_bor s.ref, values ps n.1)
 
   abbrev pub Words : List (Arg 𝓛) → Type 0
   Words [] = Unit {0}
@@ -251,9 +252,9 @@ module _ {M : Type 1} {𝓤 : Ura M} {𝓛 : Logic 𝓤} where
 
   abbrev pub word : Arg 𝓛 → Val
   word (value k v) = k.val v.it
-  word (shown s) = word_at s
+  word (shown c s) = word_at s
   word (lent s) = word_of s
-  word (seen s) = word_of s
+  word (seen c s) = word_of s
 
   abbrev pub each_word : (ps : List (Arg 𝓛)) → Words ps
   each_word [] = tt
@@ -278,48 +279,52 @@ module _ {M : Type 1} {𝓤 : Ura M} (𝓛 : Logic 𝓤) where
   pub bundled : (ps : List (Arg 𝓛)) (Γ : List (Item 𝓤)) → ent 𝓤 (⋆ 𝓛 (slices ps Γ)) (sep 𝓤 (mean 𝓛 (Had ps)) (⋆ 𝓛 Γ))
   bundled [] Γ = qed 𝓛 (raw (⋆ 𝓛 Γ) ∷ []) ∵ nothing ! $ done !
   bundled (value k v ∷ ps) Γ = bundled ps Γ
-  bundled (shown s ∷ ps) Γ = one_by (Shr s) (Had ps) (slices ps Γ) Γ (bundled ps Γ)
+  bundled (shown c s ∷ ps) Γ = one_by (Shr s) (Had ps) (slices ps Γ) Γ (bundled ps Γ)
   bundled (lent s ∷ ps) Γ = one_by (Mut s) (Had ps) (slices ps Γ) Γ (bundled ps Γ)
-  bundled (seen s ∷ ps) Γ = one_by (Mut s) (Had ps) (slices ps Γ) Γ (bundled ps Γ)
+  bundled (seen c s ∷ ps) Γ = one_by (Mut s) (Had ps) (slices ps Γ) Γ (bundled ps Γ)
 
   pub unbundled : (ps : List (Arg 𝓛)) (Γ : List (Item 𝓤)) → ent 𝓤 (sep 𝓤 (mean 𝓛 (Had ps)) (⋆ 𝓛 Γ)) (⋆ 𝓛 (slices ps Γ))
   unbundled [] Γ = qed 𝓛 (‵ ftrue ∷ raw (⋆ 𝓛 Γ) ∷ []) ∵ drop ! $ done !
   unbundled (value k v ∷ ps) Γ = unbundled ps Γ
-  unbundled (shown s ∷ ps) Γ = one_out (Shr s) (Had ps) (slices ps Γ) Γ (unbundled ps Γ)
+  unbundled (shown c s ∷ ps) Γ = one_out (Shr s) (Had ps) (slices ps Γ) Γ (unbundled ps Γ)
   unbundled (lent s ∷ ps) Γ = one_out (Mut s) (Had ps) (slices ps Γ) Γ (unbundled ps Γ)
-  unbundled (seen s ∷ ps) Γ = one_out (Mut s) (Had ps) (slices ps Γ) Γ (unbundled ps Γ)
+  unbundled (seen c s ∷ ps) Γ = one_out (Mut s) (Had ps) (slices ps Γ) Γ (unbundled ps Γ)
 
 module _ {M : Type 1} {𝓤 : Ura M} {𝓛 : Logic 𝓤} {K : Type 0} where
   open 𝓛 use {H}
 
   pub lends_had : {Γ : List (Item 𝓤)} {G : Goal 𝓤 H} → K → Soaks G → (ps : List (Arg 𝓛)) → ((n : Names ps) → Seq K 𝓛 (‵ (tokens ps n) ∷ ‵ (passes ps n) ∷ ‵ (keeps ps n) ∷ Γ) G) → Seq K 𝓛 (Had ps ∷ Γ) G
   lends_had t z [] k = drop t $ nothing t $ nothing t $ nothing t $ k tt
-  lends_had t z (value c v ∷ ps) k =
-      lends_had t z ps (λ n. owned t c.row (Is c.row) c.makes v.it (c.val v.it ∷ []) v.is $ move t (0 ∷ 2 ∷ []) $ fjoin t $ move t (1 ∷ 0 ∷ []) $ k n)
-  lends_had t z (shown s ∷ ps) k =
+  lends_had {Γ = Γ} {G = G} t z (value c v ∷ ps) k =
+      lends_had {Γ = Γ} {G = G} t z ps (λ n. owned t c.row (Is c.row) c.makes v.it (c.val v.it ∷ []) v.is $ move t (0 ∷ 2 ∷ []) $ fjoin t $ move t (1 ∷ 0 ∷ []) $ k n)
+  lends_had {Γ = Γ} {G = G} t z (shown c s ∷ ps) k =
       split t $ split t $
-      use1 𝓛 (‵ ((ShrSlice (named 0) s.κ (row_of s)).own_val s.ref (word_at s ∷ [])) ⊛ ‵ ((ShrSlice (named 0) s.κ (row_of s)).own_val s.ref (word_at s ∷ []))) ((shr_slice_copy 𝓛 (named 0) s.κ (row_of s)).twice s.ref (word_at s ∷ [])) $
-      split t $ move t (3 ∷ []) $ lends_had t z ps (λ n. move t (5 ∷ 0 ∷ []) $ fjoin t $ move t (3 ∷ 1 ∷ []) $ fjoin t $ move t (3 ∷ 2 ∷ []) $ fjoin t $ move t (2 ∷ 1 ∷ 0 ∷ []) $ k n)
-  lends_had t z (lent s ∷ ps) k =
+      use1 𝓛 (‵ ((ShrSlice (named 0) s.κ (row_of s)).own_val (as_bor s.ref) (word_at s ∷ [])) ⊛ ‵ ((ShrSlice (named 0) s.κ (row_of s)).own_val (as_bor s.ref) (word_at s ∷ []))) ((shr_slice_copy 𝓛 (named 0) s.κ (row_of s) c).twice (as_bor s.ref) (word_at s ∷ [])) $
+      split t $ move t (3 ∷ []) $
+      lends_had {Γ = ‵ ((ShrSlice (named 0) s.κ (row_of s)).own_val (as_bor s.ref) (word_at s ∷ [])) ∷ ‵ ((ShrSlice (named 0) s.κ (row_of s)).own_val (as_bor s.ref) (word_at s ∷ [])) ∷ ‵ (flft s.κ s.q) ∷ Γ} {G = G} t z ps (λ n.
+      move t (5 ∷ 0 ∷ []) $ fjoin t $ move t (3 ∷ 1 ∷ []) $ fjoin t $ move t (3 ∷ 2 ∷ []) $ fjoin t $ move t (2 ∷ 1 ∷ 0 ∷ []) $ k n)
+  lends_had {Γ = Γ} {G = G} t z (lent s ∷ ps) k =
       split t $ split t $ lft_new t z (λ ν. move t (1 ∷ 2 ∷ []) $ lends t z (row_of s) s.ref.ref_ptr.0 s.ref.ref_ptr.1 s.ref.now (word_of s) ν (λ δ. move t (3 ∷ []) $
-      lends_had t z ps (λ n. move t (5 ∷ 0 ∷ []) $ fjoin t $ move t (3 ∷ 1 ∷ []) $ fjoin t $ move t (3 ∷ 2 ∷ []) $ fjoin t $ move t (2 ∷ 1 ∷ 0 ∷ []) $ k ((ν, δ), n))))
-  lends_had t z (seen s ∷ ps) k =
-      split t $ split t $ lft_new t z (λ ν. move t (1 ∷ 2 ∷ []) $ shares_out t z (row_of s) s.ref.ref_ptr.0 s.ref.ref_ptr.1 s.ref.now (word_of s) ν (λ δ. move t (3 ∷ []) $
-      lends_had t z ps (λ n. move t (5 ∷ 0 ∷ []) $ fjoin t $ move t (3 ∷ 1 ∷ []) $ fjoin t $ move t (3 ∷ 2 ∷ []) $ fjoin t $ move t (2 ∷ 1 ∷ 0 ∷ []) $ k ((ν, δ), n))))
+      lends_had {Γ = ‵ ((MutSlice (named 0) (ν ∷ []) (row_of s)).own_val (at s.ref.ref_ptr.0 s.ref.ref_ptr.1 δ s.ref.now) (word_of s ∷ [])) ∷ ‵ (Kept (row_of s) s.κ s.q s.ref.ghost_name s.ref.ref_ptr.0 s.ref.ref_ptr.1 s.ref.now ν δ) ∷ ‵ (flft (ν ∷ []) full_share) ∷ Γ} {G = G} t z ps (λ n.
+      move t (5 ∷ 0 ∷ []) $ fjoin t $ move t (3 ∷ 1 ∷ []) $ fjoin t $ move t (3 ∷ 2 ∷ []) $ fjoin t $ move t (2 ∷ 1 ∷ 0 ∷ []) $ k ((ν, δ), n))))
+  lends_had {Γ = Γ} {G = G} t z (seen c s ∷ ps) k =
+      split t $ split t $ lft_new t z (λ ν. move t (1 ∷ 2 ∷ 0 ∷ []) $ shares_out t z (row_of s) s.ref.ref_ptr.0 s.ref.ref_ptr.1 s.ref.now (word_of s) ν (c (ν ∷ [])) $ move t (3 ∷ []) $
+      lends_had {Γ = ‵ ((ShrSlice (named 0) (ν ∷ []) (row_of s)).own_val (as_bor s.ref) (word_of s ∷ [])) ∷ ‵ (KeptShared (row_of s) s.κ s.q s.ref.ghost_name s.ref.ref_ptr.0 s.ref.ref_ptr.1 s.ref.now ν) ∷ ‵ (flft (ν ∷ []) full_share) ∷ Γ} {G = G} t z ps (λ n.
+      move t (5 ∷ 0 ∷ []) $ fjoin t $ move t (3 ∷ 1 ∷ []) $ fjoin t $ move t (3 ∷ 2 ∷ []) $ fjoin t $ move t (2 ∷ 1 ∷ 0 ∷ []) $ k (ν, n)))
 
   -- and they come back
   pub comes_had : {Γ : List (Item 𝓤)} {G : Goal 𝓤 H} → K → Soaks G → (ps : List (Arg 𝓛)) (n : Names ps) (zs : Lefts ps) → ((l : Long ps (changed ps zs)) → Seq K 𝓛 (Had (after ps (changed ps zs) l) ∷ Γ) G)
       → Seq K 𝓛 (‵ (tokens ps n) ∷ ‵ (keeps ps n) ∷ ‵ (finals ps n zs) ∷ Γ) G
   comes_had t z [] n zs k = drop t $ drop t $ k tt
-  comes_had t z (value c v ∷ ps) n zs k = move t (2 ∷ []) $ fsplit t $ drop t $ move t (1 ∷ 2 ∷ 0 ∷ []) $ comes_had t z ps n zs.1 (λ l. k l)
-  comes_had t z (shown s ∷ ps) n zs k =
+  comes_had {Γ = Γ} {G = G} t z (value c v ∷ ps) n zs k = move t (2 ∷ []) $ fsplit t $ drop t $ move t (1 ∷ 2 ∷ 0 ∷ []) $ comes_had {Γ = Γ} {G = G} t z ps n zs.1 (λ l. k l)
+  comes_had {Γ = Γ} {G = G} t z (shown c s ∷ ps) n zs k =
       fsplit t $ move t (2 ∷ []) $ fsplit t $ move t (4 ∷ []) $ fsplit t $ drop t $ move t (1 ∷ 3 ∷ []) $ join t $ move t (3 ∷ 2 ∷ 1 ∷ []) $
-      comes_had t z ps n zs.1 (λ l. move t (1 ∷ 0 ∷ []) $ join t $ k l)
-  comes_had t z (lent s ∷ ps) n zs k =
+      comes_had {Γ = Shr s ∷ Γ} {G = G} t z ps n zs.1 (λ l. move t (1 ∷ 0 ∷ []) $ join t $ k l)
+  comes_had {Γ = Γ} {G = G} t z (lent s ∷ ps) n zs k =
       fsplit t $ move t (2 ∷ []) $ fsplit t $ move t (4 ∷ []) $ fsplit t $ fsplit t $ move t (1 ∷ []) $ feq_l t (λ e. move t (4 ∷ []) $ lft_end t z $ move t (0 ∷ 3 ∷ 1 ∷ []) $
       comes_back t z (row_of s) s.ref.ref_ptr.0 s.ref.ref_ptr.1 s.ref.now zs.0 (word_of s) n.0.0 e (spelt_of s) $ join t $ move t (3 ∷ 2 ∷ 1 ∷ []) $
-      comes_had t z ps n.1 zs.1 (λ l. move t (1 ∷ 0 ∷ []) $ join t $ k (e, l)))
-  comes_had t z (seen s ∷ ps) n zs k =
+      comes_had {Γ = Mut (holding s zs.0 e) ∷ Γ} {G = G} t z ps n.1 zs.1 (λ l. move t (1 ∷ 0 ∷ []) $ join t $ k (e, l)))
+  comes_had {Γ = Γ} {G = G} t z (seen c s ∷ ps) n zs k =
       fsplit t $ move t (2 ∷ []) $ fsplit t $ move t (4 ∷ []) $ fsplit t $ drop t $ move t (3 ∷ []) $ lft_end t z $ move t (0 ∷ 2 ∷ []) $
-      has_again t z (row_of s) s.ref.ref_ptr.0 s.ref.ref_ptr.1 s.ref.now (word_of s) n.0.0 (spelt_of s) $ join t $ move t (3 ∷ 2 ∷ 1 ∷ []) $
-      comes_had t z ps n.1 zs.1 (λ l. move t (1 ∷ 0 ∷ []) $ join t $ k l)
+      has_again t z (row_of s) s.ref.ref_ptr.0 s.ref.ref_ptr.1 s.ref.now (word_of s) n.0 (spelt_of s) $ join t $ move t (3 ∷ 2 ∷ 1 ∷ []) $
+      comes_had {Γ = Mut s ∷ Γ} {G = G} t z ps n.1 zs.1 (λ l. move t (1 ∷ 0 ∷ []) $ join t $ k l)

@@ -16,9 +16,9 @@ pub use prog.Wp.{Heap, Env, WpFn, Tables}
 unfoldable pub use prog.Wp.{after_turn}
 pub use ghost.Atoms.{Atoms}
 pub use contract.Monad.{Fun}
-pub use contract.Running.{given_of, tables}
+pub use contract.Running.{tables}
 unfoldable pub use contract.Running.{tables_of}
-pub use types.Kit.{Given, Item, Sq, prop, runs, at_ret, ◌$◌, !, by, move}
+pub use types.Kit.{Item, Sq, prop, runs, at_ret, ◌$◌, !, by, move}
 pub use types.Run.{bin, first, blocks, exec}
 pub use types.Part.{agg, rep}
 pub use sound.WpLaws.{WpFn-mono}

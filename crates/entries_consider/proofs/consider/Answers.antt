@@ -15,25 +15,23 @@ returns-then-to-eq4294967295 c = was_off _ _ _ _ _ c.if-to-eq4294967295.true
 
 pub bounds-field-i : goal.bounds-field-i
 bounds-field-i c =
-    let below : c.args.to < length c.args.field.now = c.requires.below c.if-to-eq4294967295.false in
-    below
+    c.requires.below c.if-to-eq4294967295.false
 
 -- the square shows that the triangle is no nearer
 pub returns-then-not_nearer : goal.returns-then-not_nearer
 returns-then-not_nearer c =
     let held_q : T (fits binary32 c.args.q) = subst T (sym c.well_formed.1.1.1.1.0.1) tt in
     let shown = c.not_nearer.ensures in
-    was_passed _ _ _ _ _ c.if-to-eq4294967295.false (held_q) (shown.number c.if-not_nearer.true) (shown.not_nearer c.if-not_nearer.true)
+    was_passed _ _ _ _ _ c.if-to-eq4294967295.false held_q (shown.number c.if-not_nearer.true) (shown.not_nearer c.if-not_nearer.true)
 
 pub returns-then-q : goal.returns-then-q
 returns-then-q c =
     let held_q : T (fits binary32 c.args.q) = subst T (sym c.well_formed.1.1.1.1.0.1) tt in
-    was_nan _ _ _ _ _ c.if-to-eq4294967295.false (held_q) c.if-q.true
+    was_nan _ _ _ _ _ c.if-to-eq4294967295.false held_q c.if-q.true
 
 pub bounds-field-i-then-is_nearer : goal.bounds-field-i-then-is_nearer
 bounds-field-i-then-is_nearer c =
-    let below : c.args.to < length c.args.field.now = c.requires.below c.if-to-eq4294967295.false in
-    below
+    c.requires.below c.if-to-eq4294967295.false
 
 pub bounds-names-i : goal.bounds-names-i
 bounds-names-i c =
@@ -44,16 +42,16 @@ bounds-names-i c =
 pub key_of-requires : goal.key_of-requires
 key_of-requires c =
     let held_q : T (fits binary32 c.args.q) = subst T (sym c.well_formed.1.1.1.1.0.1) tt in
-    no_nan _ (ap is_nan c.signed_root-d.ensures ∙ signed_nan c.args.q (held_q) ∙ is_number c.args.q c.if-q.false)
+    no_nan _ (ap is_nan c.signed_root-d.ensures ∙ signed_nan c.args.q held_q ∙ is_number c.args.q c.if-q.false)
 
 pub returns-then-is_nearer : goal.returns-then-is_nearer
 returns-then-is_nearer c =
     let held_q : T (fits binary32 c.args.q) = subst T (sym c.well_formed.1.1.1.1.0.1) tt in
-    was_taken _ _ _ _ _ c.if-to-eq4294967295.false (held_q) c.if-q.false c.signed_root-d.ensures
+    was_taken _ _ _ _ _ c.if-to-eq4294967295.false held_q c.if-q.false c.signed_root-d.ensures
     (sym c.is_nearer.ensures ∙ c.if-is_nearer.true) c.key_of.ensures
 
 pub returns-else-is_nearer : goal.returns-else-is_nearer
 returns-else-is_nearer c =
     let held_q : T (fits binary32 c.args.q) = subst T (sym c.well_formed.1.1.1.1.0.1) tt in
     let not_nearer = told_nearer _ c.signed_root-d.ensures c.is_nearer.ensures c.if-is_nearer.false in
-    was_passed _ _ _ _ _ c.if-to-eq4294967295.false (held_q) (is_number c.args.q c.if-q.false) not_nearer
+    was_passed _ _ _ _ _ c.if-to-eq4294967295.false held_q (is_number c.args.q c.if-q.false) not_nearer
