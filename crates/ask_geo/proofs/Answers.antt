@@ -1,5 +1,6 @@
 -- Questions asked by themselves. A ray's reply never holds a NaN, since t > 0 fails for one; nor does a box, since its coordinates are sums and
 -- differences of finite values. Assumes nothing.
+use Rattle.std.specs.Prelude.{if◌then◌else◌}
 use Prim.Native.Nat.{ℕ, zero, suc, ◌+◌, ◌-◌, ◌*◌, ◌/◌, ◌%◌, ◌^◌, compare}
 use mathlib.Core.Path.{◌≡◌, refl, sym}
 use mathlib.Core.Bool.{Bool, true, false, cond, beq, ◌&&◌, ◌||◌, true≢false}
@@ -7,7 +8,7 @@ use lib.Dec.{T, ltb}
 use lib.Ieee.{Float, nan, inf, fin, Format, binary32, low, emax, prec, up, down, size, nearest, odd, units, round, sum, add, sub, neg, lt, le, is_nan, of_bits}
 use lib.Ieee.Fits.{round_is}
 use lib.Ieee.Scale.{finite}
-use Rattle.float.specs.Arith.{◌⊕◌, ◌⊖◌, ◌≺◌, f0, if◌then◌else◌}
+use Rattle.float.specs.Arith.{◌⊕◌, ◌⊖◌, ◌≺◌, f0}
 use Rattle.float.specs.Steps.{abs_of, least_of, greatest_of, finite_at_most}
 use Rattle.float.proofs.Bools.{and_first, and_second}
 use Rattle.point.specs.Point.{turned}
@@ -41,7 +42,7 @@ above_no_nan (fin s m e) h = refl
 reply_no_nan : (w0 w1 w2 t : Float) → ray_nan (reply w0 w1 w2 t) ≡ false
 reply_no_nan w0 w1 w2 t = go (hits w0 w1 w2 t) (grazes w0 w1 w2) (and_second (all_below w0 w1 w2 || all_above w0 w1 w2) (f0 ≺ t))
   where
-    go : (u v : Bool) → (u ≡ true → f0 ≺ t ≡ true) → ray_nan (if u then Hit t else if v then Grazed else Miss) ≡ false
+    go : (u v : Bool) → (u ≡ true → f0 ≺ t ≡ true) → ray_nan (if u then Hit t else (if v then Grazed else Miss)) ≡ false
     go true v h = above_no_nan t (h refl)
     go false true h = refl
     go false false h = refl

@@ -1,9 +1,8 @@
 -- "Geometry asked by itself answers 2 for a coordinate not finite or above 2,097,152 in magnitude, then 6 for a NaN in its result"
 -- (document 01). Each answer is an enum, and its number and value are given here. Definitions only.
-use Rattle.std.specs.Prelude.{Bool, false, ◌&&◌, ◌||◌, ℕ, Float}
+use Rattle.std.specs.Prelude.{Bool, false, ◌&&◌, ◌||◌, ℕ, Float, if◌then◌else◌}
 use Rattle.std.specs.Float.{binary32}
 use Rattle.std.specs.Float.Ieee.{of_bits, is_nan}
-use Rattle.float.specs.Arith.{if◌then◌else◌}
 use Rattle.float.specs.Steps.{finite_at_most}
 use Rattle.point.specs.declared.Point.{Point}
 use Rattle.point.specs.declared.Axis.{Axis}

@@ -1,5 +1,6 @@
 // The answers of the geometry and of the comparison, as C gets them.
 #![tactic(auto)]
+
 ghost use Rattle.std.specs.Prelude.{◌≡◌};
 ghost use Rattle.ask_geo.specs.Asked as Asked;
 ghost use Rattle.c_records.specs.C as C;

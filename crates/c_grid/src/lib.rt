@@ -1,5 +1,6 @@
 // The answers of the grid's questions, as C gets them.
 #![tactic(auto)]
+
 ghost use Rattle.std.specs.Prelude.{◌≡◌};
 ghost use Rattle.grid.specs.Reply as Reply;
 ghost use Rattle.c_records.specs.C as C;

@@ -1,6 +1,5 @@
 -- How the whole job reaches C and its answer comes back. The outcome is that of crate `job_generate`, unchanged. Definitions only.
-use Rattle.std.specs.Prelude.{ℕ, ◌≡◌, eqb}
-use Rattle.float.specs.Arith.{if◌then◌else◌}
+use Rattle.std.specs.Prelude.{ℕ, ◌≡◌, eqb, if◌then◌else◌}
 use Rattle.mesh_topology.specs.declared.Topology.{Topology}
 use Rattle.mesh_topology.specs.declared.Topology.TheVariants.{TriangleList, TriangleStrip}
 use Rattle.mesh_topology.specs.declared.Indices.{Indices}

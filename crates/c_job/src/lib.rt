@@ -1,6 +1,7 @@
 // What the whole job takes and gives for C beside slices and the records of `c_records`: a topology, whether indices
 // are given, and the answer.
 #![tactic(auto)]
+
 ghost use Rattle.std.specs.Prelude.{◌≡◌};
 ghost use Rattle.c_job.specs.Job.{topology_in, indices_in, answer_out};
 

@@ -1,8 +1,8 @@
 -- How a question reaches C and its answer comes back: as records with C's layout. An answer has document 01's number, 0 where
 -- a value is given, and the value, all zero where it is refused. Definitions only.
-use Rattle.std.specs.Prelude.{◌||◌, ℕ, eqb, ℤ, pos, negsuc, Float}
+use Rattle.std.specs.Prelude.{◌||◌, ℕ, eqb, ℤ, pos, negsuc, Float, if◌then◌else◌}
 use Rattle.std.specs.Float.Ieee.{is_nan}
-use Rattle.float.specs.Arith.{f0, if◌then◌else◌}
+use Rattle.float.specs.Arith.{f0}
 use Rattle.point.specs.declared.Point.{Point}
 use Rattle.point.specs.Point.{vec}
 use Rattle.float_order.specs.Compare.{order}

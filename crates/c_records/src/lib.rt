@@ -2,6 +2,7 @@
 // where a value is given, and the value, all zero where it is refused. The answers are made by `c_grid`
 // and `c_geo`.
 #![tactic(auto)]
+
 ghost use Rattle.std.specs.Prelude.{◌≡◌};
 ghost use Rattle.c_records.specs.C as C;
 

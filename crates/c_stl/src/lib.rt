@@ -1,5 +1,6 @@
 // What reading and writing a scanner's file give for C beside slices: the answer.
 #![tactic(auto)]
+
 ghost use Rattle.std.specs.Prelude.{◌≡◌};
 ghost use Rattle.c_stl.specs.Stl.{stl_out};
 

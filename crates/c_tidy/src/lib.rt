@@ -1,5 +1,6 @@
 // What tidying a mesh gives for C beside slices: the answer.
 #![tactic(auto)]
+
 ghost use Rattle.std.specs.Prelude.{◌≡◌};
 ghost use Rattle.c_tidy.specs.Tidy.{tidy_out};
 

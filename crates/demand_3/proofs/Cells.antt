@@ -1,5 +1,6 @@
 -- What the buffers hold for a cell once a run of a grid and a mesh has gone to its end: by rays the magnitude and the name that the run
 -- leaves, the crossing counts of the definition, and the value with its sign; by triangles the value and the name. Assumes nothing.
+use Rattle.std.specs.Prelude.{if◌then◌else◌}
 use Prim.Native.Nat.{ℕ, ◌+◌, ◌*◌, ◌/◌, ◌%◌, ◌≤◌, ◌<◌}
 use native.Mathlib.Decide.{dec_lt}
 use native.Mathlib.Omega.{arith}
@@ -11,7 +12,6 @@ use lib.Dec.{T, leb}
 use lib.ListN.{length, get_or, replicate, get_or-replicate}
 use lib.Ieee.{Float, nan, neg}
 use borrow.Author.Tests.{eq-eqb, ne_eqb}
-use Rattle.float.specs.Arith.{if◌then◌else◌}
 use Rattle.float.proofs.Order.{distance_unsigned as Unsigned-of}
 use Rattle.lists.specs.Turns.{goes}
 use Rattle.terms.specs.declared.SignMethod.{SignMethod}

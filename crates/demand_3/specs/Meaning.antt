@@ -1,9 +1,9 @@
 -- Demand 3: what the field means, for each cell of a job answered Done. "Demand 3 is read over demand 2's distance and run" (document
 -- 01, "What the contracts owe"). Definitions only; proofs/Theorem.antt shows that it holds.
-use Rattle.std.specs.Prelude.{ℕ, ◌+◌, ◌*◌, ◌%◌, ◌≡◌, ◌⊎◌, true, false, List, leb, get_or, Float}
+use Rattle.std.specs.Prelude.{ℕ, ◌+◌, ◌*◌, ◌%◌, ◌≡◌, ◌⊎◌, true, false, List, leb, get_or, Float, if◌then◌else◌}
 use Rattle.std.specs.Float.{nan}
 use Rattle.std.specs.Float.Ieee.{neg}
-use Rattle.float.specs.Arith.{◌≦◌, ◌≺◌, f_max, if◌then◌else◌}
+use Rattle.float.specs.Arith.{◌≦◌, ◌≺◌, f_max}
 use Rattle.float.specs.Distance.{unsigned}
 use Rattle.float_order.specs.Nearer.{nearer}
 use Rattle.terms.specs.declared.SignMethod.{SignMethod}

@@ -1,4 +1,5 @@
 -- What a cell queues in step 2, by its test; and the counts, by theirs. Assumes nothing.
+use Rattle.std.specs.Prelude.{if◌then◌else◌}
 use Prim.Native.Nat.{ℕ, ◌<◌, ◌≤◌, ◌+◌, max}
 use native.Mathlib.Omega.{arith}
 use mathlib.Core.Path.{◌≡◌, sym, ap, ◌∙◌}
@@ -7,7 +8,7 @@ use mathlib.Core.List.{List}
 use lib.ListN.{get_or}
 use lib.Ieee.{Float, nan}
 use borrow.Author.Tests.{lt-ltb, le-ltb}
-use Rattle.float.specs.Arith.{◌≺◌, f_max, if◌then◌else◌}
+use Rattle.float.specs.Arith.{◌≺◌, f_max}
 use Rattle.lists.specs.Turns.{goes, and_then, turns}
 use Rattle.lists.proofs.Turns.{then_nothing}
 use Rattle.queue.specs.declared.Entry.{Entry}

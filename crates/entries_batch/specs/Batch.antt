@@ -1,7 +1,6 @@
 -- A batch of entries: what an offer, or a cell, comes to once it is made over the field and the names alone, with the queueing left for later.
 -- Definitions only.
-use Rattle.std.specs.Prelude.{ℕ, zero, suc, ◌+◌, ◌<◌, max, ◌≡◌, List, ltb, get_or, Float}
-use Rattle.float.specs.Arith.{if◌then◌else◌}
+use Rattle.std.specs.Prelude.{ℕ, zero, suc, ◌+◌, ◌<◌, max, ◌≡◌, List, ltb, get_or, Float, if◌then◌else◌}
 use Rattle.lists.specs.Turns.{Turn, goes, refuses, and_then, turns}
 use Rattle.queue.specs.declared.Entry.{Entry}
 use Rattle.run.specs.Run.{RunInput, State, queue, queue_cell}

@@ -3,6 +3,7 @@
 // the batch of a cell, and the counts; crate `entries_gather` makes the batch of a pop. A part of the port: users call
 // `sdf`.
 #![tactic(auto)]
+
 ghost use Rattle.std.specs.Prelude.{◌≡◌, ◌≤◌, ◌<◌, length};
 ghost use Rattle.entries_batch.specs.Batch.{entry_in_lem, queued_by, Cell};
 

@@ -1,5 +1,6 @@
 // An offer of a pop, made over the field and the names alone. A part of the port: users call `sdf`.
 #![tactic(auto)]
+
 ghost use Rattle.run_around.specs.Around.{Passable};
 ghost use Rattle.entries_consider.specs.Considered.{Considered};
 

@@ -1,5 +1,6 @@
 -- Offers first and queueing afterwards come to the same as each queueing at its offer: queueing looks at no field and no name, so it may wait
 -- until all offers are made. Assumes nothing.
+use Rattle.std.specs.Prelude.{if◌then◌else◌}
 use Prim.Native.Nat.{ℕ, zero, suc, ◌+◌, ◌<◌}
 use native.Mathlib.Numerals.{add-one}
 use native.Mathlib.Omega.{arith}
@@ -9,7 +10,6 @@ use mathlib.Core.List.{List}
 use lib.Dec.{ltb}
 use lib.ListN.{length, get_or}
 use lib.Ieee.{Float, nan}
-use Rattle.float.specs.Arith.{if◌then◌else◌}
 use Rattle.float_shortcut.specs.Shown.{signed_root}
 use Rattle.lists.specs.Turns.{Turn, goes, refuses, and_then, turns}
 use Rattle.lists.proofs.Turns.{then_nothing, then_alike, turns_same, turns_refused}

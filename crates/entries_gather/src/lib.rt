@@ -1,6 +1,7 @@
 // The offers of a pop, made over the field and the names alone: what is to be queued comes back as a batch. A part
 // of the port: users call `sdf`.
 #![tactic(auto)]
+
 ghost use Rattle.std.specs.Prelude.{◌≡◌, ◌<◌, length};
 ghost use Rattle.grid.specs.Index.{total};
 ghost use Rattle.mesh.specs.Mesh.{mesh_of, triangles_in};

@@ -3,6 +3,7 @@
 // projections: a row has one length, so that no lengths of a queue are left to compare. A part of the port: users
 // call `sdf`.
 #![tactic(auto)]
+
 ghost use Rattle.std.specs.Prelude.{◌≡◌};
 ghost use Rattle.job_checks.specs.Job.{job_of};
 ghost use Rattle.job_outcome.specs.declared.Answer.TheVariants.{Refused};

@@ -2,6 +2,7 @@
 // place"): so that the job over records can be held to the stored sample of whole jobs. A part of the port: users call
 // `sdf`, or run the job program.
 #![tactic(auto)]
+
 ghost use Rattle.std.specs.Prelude.{◌≤◌};
 ghost use Rattle.job_checks.specs.Job.{job_of};
 ghost use Rattle.job_outcome.specs.Outcome.{outcome};

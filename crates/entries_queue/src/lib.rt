@@ -1,5 +1,6 @@
 // The cells that hold a distance, queued in a lent row of entry records. A part of the port: users call `sdf`.
 #![tactic(auto)]
+
 ghost use Rattle.std.specs.Prelude.{◌≡◌, ◌≤◌, length};
 ghost use Rattle.queue.specs.Keys.{by_keys};
 ghost use Rattle.entries.specs.Row.{HeldRow};

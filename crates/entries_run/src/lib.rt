@@ -1,6 +1,7 @@
 // The run over the lent field and names and a lent row of entry records (document 01, "The run", 2 and 3): what crate
 // `run_field` does after seeding, with the same promise, of the row's three projections. A part of the port: users call `sdf`.
 #![tactic(auto)]
+
 ghost use Rattle.std.specs.Prelude.{◌≡◌, length};
 ghost use Rattle.mesh.specs.Mesh.{mesh_of};
 ghost use Rattle.run.specs.Run.{run};

@@ -1,5 +1,6 @@
 // What waits in a lent row of entry records, spread over the field. A part of the port: users call `sdf`.
 #![tactic(auto)]
+
 ghost use Rattle.std.specs.Prelude.{◌≡◌};
 ghost use Rattle.mesh.specs.Mesh.{mesh_of};
 ghost use Rattle.run.specs.Run.{spreading};

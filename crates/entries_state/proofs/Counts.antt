@@ -1,9 +1,9 @@
 -- The counts, by the tests of their functions. Assumes nothing.
+use Rattle.std.specs.Prelude.{if◌then◌else◌}
 use Prim.Native.Nat.{ℕ, ◌+◌, ◌-◌}
 use mathlib.Core.Path.{◌≡◌, sym, ap}
 use mathlib.Core.Bool.{Bool}
 use borrow.Author.Tests.{eq-eqb, ne_eqb}
-use Rattle.float.specs.Arith.{if◌then◌else◌}
 use Rattle.run_state.specs.declared.Progress.{Progress}
 use Rattle.run_state.specs.Told.{refused_by}
 use Rattle.entries_state.specs.Records.{stopped_by, popped_by}

@@ -1,6 +1,5 @@
 -- How the run over a row of records tells what it did: as crate `run_state` has it, of the row's three projections. Definitions only.
-use Rattle.std.specs.Prelude.{ℕ, ◌+◌, ◌-◌, List, eqb, Float}
-use Rattle.float.specs.Arith.{if◌then◌else◌}
+use Rattle.std.specs.Prelude.{ℕ, ◌+◌, ◌-◌, List, eqb, Float, if◌then◌else◌}
 use Rattle.lists.specs.Turns.{Turn}
 use Rattle.terms.specs.declared.SignMethod.{SignMethod}
 use Rattle.grid.specs.declared.Grid.{Grid}

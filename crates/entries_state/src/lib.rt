@@ -3,6 +3,7 @@
 // names alone, as a batch; the batch is queued afterwards. Here are its counts; `entries_push_all` queues a batch,
 // `entries_queue` the cells, and `entries_spread` spreads. A part of the port: users call `sdf`.
 #![tactic(auto)]
+
 ghost use Rattle.std.specs.Prelude.{◌≡◌, ◌≤◌, ◌<◌};
 ghost use Rattle.entries_state.specs.Records.{stopped_by, popped_by};
 

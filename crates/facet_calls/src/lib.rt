@@ -2,6 +2,7 @@
 // field's names, brought up to date when they change, and asked for the cells that name a facet. A part of the public
 // face `sdf`, which users call.
 #![tactic(auto)]
+
 ghost use Rattle.facet_index.specs.Index.{index_of};
 ghost use Rattle.facet_index.specs.Refusals.{Builds, Updates};
 ghost use Rattle.facet_index.specs.Asked.{Answers};

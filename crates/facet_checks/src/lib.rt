@@ -1,6 +1,7 @@
 // The refusals of an index of cells by facet that look at numbers and names alone (document 02, §12): 3, 15 and 4, of a build
 // and of an update. A part of the port: users call `sdf`.
 #![tactic(auto)]
+
 ghost use Rattle.std.specs.Prelude.{◌≡◌};
 ghost use Rattle.lists.specs.Checks.{first_that_applies};
 ghost use Rattle.facet_index.specs.Index.{index_of};

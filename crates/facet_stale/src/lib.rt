@@ -2,6 +2,7 @@
 // nothing changed. Under each triangle stand cells that name it, in order; and if there are as many places as cells that
 // name a triangle, they are all of them. A part of the port: users call `sdf`.
 #![tactic(auto)]
+
 ghost use Rattle.std.specs.Prelude.{◌≡◌, ℕ, ◌+◌, ◌-◌, ◌≤◌, ◌<◌, length, get_or};
 ghost use Rattle.picks.specs.Picks.{Rising};
 ghost use Rattle.run.specs.Run.{none};

@@ -7,7 +7,6 @@ use Rattle.std.specs.Float.{binary32}
 infixl 6 ◌⊕◌ ◌⊖◌
 infixl 7 ◌⊗◌ ◌⊘◌
 infix 5 ◌≦◌ ◌≺◌ ◌≐◌
-infixr 1 if◌then◌else◌
 -- the sum, the difference, the product and the quotient, each rounded to nearest, ties to even
 abbrev pub ◌⊕◌ : Float → Float → Float
 x ⊕ y = Ieee.add binary32 x y
@@ -44,6 +43,3 @@ f1 = Ieee.of_bits binary32 0x3f80_0000
 -- f32::MAX, the largest finite value
 abbrev pub f_max : Float
 f_max = Ieee.of_bits binary32 0x7f7f_ffff
-
-abbrev pub if◌then◌else◌ : {A : Type 0} → Bool → A → A → A
-if t then x else y = cond t x y

@@ -1,9 +1,9 @@
 -- "`floor`, `sqrt`, `clamp`, `abs`: the port's own" (document 01, What must change shape), and f32::min and f32::max: what Rust's f32 offers as
 -- methods. Definitions only.
-use Rattle.std.specs.Prelude.{Bool, false, ◌&&◌, Float}
+use Rattle.std.specs.Prelude.{Bool, false, ◌&&◌, Float, if◌then◌else◌}
 use Rattle.std.specs.Float.{nan, inf, fin}
 use Rattle.std.specs.Float.Ieee.{is_nan}
-use Rattle.float.specs.Arith.{◌≦◌, ◌≺◌, f_max, if◌then◌else◌}
+use Rattle.float.specs.Arith.{◌≦◌, ◌≺◌, f_max}
 
 -- f32::abs: the sign is cleared, that of -0 too. A NaN stays a NaN.
 unfoldable pub abs_of : Float → Float
@@ -19,14 +19,14 @@ sign_bit (fin s m e) = s
 
 -- f32::clamp(lo, hi): a NaN stays, and so does what compares as equal to a bound, such as -0 at a bound of +0
 abbrev pub clamp_of : Float → Float → Float → Float
-clamp_of lo hi x = if x ≺ lo then lo else if hi ≺ x then hi else x
+clamp_of lo hi x = if x ≺ lo then lo else (if hi ≺ x then hi else x)
 
 -- f32::min and f32::max: where one side is a NaN the other is taken. Of -0 and +0, which compare as equal, Rust may give either. Here it is the first.
 abbrev pub least_of : Float → Float → Float
-least_of x y = if y ≺ x then y else if is_nan x then y else x
+least_of x y = if y ≺ x then y else (if is_nan x then y else x)
 
 abbrev pub greatest_of : Float → Float → Float
-greatest_of x y = if x ≺ y then y else if is_nan x then y else x
+greatest_of x y = if x ≺ y then y else (if is_nan x then y else x)
 
 -- x is finite, which is at most f32::MAX in magnitude, and at most the bound
 abbrev pub finite_at_most : Float → Float → Bool

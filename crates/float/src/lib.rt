@@ -2,6 +2,7 @@
 // public face `sdf`, not called by users on its own. The definitions and laws of the square root stand here; its
 // code is the crate `float_root`. The floor is the crate `float_floor`.
 #![tactic(auto)]
+
 ghost use Rattle.std.specs.Prelude.{◌≡◌};
 ghost use Rattle.float.specs.Arith.{f0, f1};
 ghost use Rattle.float.specs.Steps.{abs_of, sign_bit, clamp_of, least_of, greatest_of, finite_at_most};

@@ -1,6 +1,7 @@
 // A float and its bit pattern, both ways and for every value. Rust's `f32::from_bits` and `f32::to_bits` are not asked for a
 // NaN: the language has one NaN, and compiled code may carry any of its patterns. A part of the port: users call `sdf`.
 #![tactic(auto)]
+
 ghost use Rattle.std.specs.Float.{binary32};
 ghost use Rattle.std.specs.Float.Ieee.{of_bits, to_bits};
 ghost use Rattle.std.specs.Prelude.{◌≡◌};

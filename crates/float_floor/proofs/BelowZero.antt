@@ -38,12 +38,16 @@ unfolding lt
 whole_below (fin true n g) k m e v h = absurd (true≢false v.0)
 whole_below (fin false n g) k m e v h =
     lt_of_mul-lt-mul_right (down g) (rw (mul_right_comm k, ← v.1, mul-one) (ltb-true (n * up g * down e) (m * up e * down g) h))
+whole_below nan k m e v h = elim v [ ]
+whole_below (inf _) k m e v h = elim v [ ]
 
 whole_not_below : (y : Float) (k m : ℕ) (e : ℤ) → HasValue y false k 1 → lt y (fin false m e) ≡ false → m * up e ≤ k * down e
 unfolding lt
 whole_not_below (fin true n g) k m e v h = absurd (true≢false v.0)
 whole_not_below (fin false n g) k m e v h =
     le_of_mul-le-mul_right (rw (mul_right_comm k, ← v.1, mul-one) (ltb-false (n * up g * down e) (m * up e * down g) h)) (down_pos g)
+whole_not_below nan k m e v h = elim v [ ]
+whole_not_below (inf _) k m e v h = elim v [ ]
 
 exact : (k : ℕ) → k ≤ 2 ^ 24 → HasValue (of_int binary32 (pos k)) false k 1
 unfolding of_int

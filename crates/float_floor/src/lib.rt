@@ -1,5 +1,6 @@
 // f32::floor, the port's own: as a whole number, and as a cell of a row. A part of the port: users call `sdf`.
 #![tactic(auto)]
+
 ghost use Rattle.std.specs.Prelude.{◌≡◌, ◌^◌, ◌<◌, true, pos, negsuc};
 ghost use Rattle.float.specs.Arith.{f0, ◌≦◌, ◌≺◌};
 ghost use Rattle.float_floor.specs.Cell.{floor_of, Snapped};

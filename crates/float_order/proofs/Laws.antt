@@ -1,6 +1,7 @@
 -- What callers cite of `order`. With neither sign bit set it goes by the values alone (`less_exactly`, `greater_exactly`, `level_exactly`). Asked the
 -- other way round it answers the opposite, and it answers Equal for one and the same pattern alone; with `total_order` that makes it a total order
 -- on the values that are no NaN. Assumes nothing.
+use Rattle.std.specs.Prelude.{if◌then◌else◌}
 use Prim.Native.Nat.{ℕ, ◌<◌}
 use native.Mathlib.Nat.{le_of_lt}
 use native.Mathlib.Omega.{arith}
@@ -12,7 +13,7 @@ use mathlib.Core.Option.{none, some}
 use lib.Dec.{ltb}
 use lib.Ieee.{Float, binary32, to_bits}
 use borrow.Author.Tests.{lt-ltb, le-ltb, eqb-true, eq-eqb}
-use Rattle.float.specs.Arith.{◌≺◌, ◌≐◌, if◌then◌else◌}
+use Rattle.float.specs.Arith.{◌≺◌, ◌≐◌}
 use Rattle.float.specs.Distance.{Distance}
 use Rattle.float.proofs.Order.{same_bits, distance_no_nan, distance_eq}
 use Rattle.float_order.specs.declared.Order.{Order}
@@ -33,7 +34,7 @@ use Rattle.float_order.proofs.Total.{total_order}
 numbers_swapped : (m n : ℕ) → of_numbers n m ≡ opposite (of_numbers m n)
 numbers_swapped m n = go (dec_lt m n) (dec_lt n m)
   where
-    go : Dec (m < n) → Dec (n < m) → (if ltb n m then Less else if ltb m n then Greater else Equal) ≡ opposite (if ltb m n then Less else if ltb n m then Greater else Equal)
+    go : Dec (m < n) → Dec (n < m) → (if ltb n m then Less else (if ltb m n then Greater else Equal)) ≡ opposite (if ltb m n then Less else (if ltb n m then Greater else Equal))
     go (yes h) k = rw (lt-ltb m n h, le-ltb n m (le_of_lt h))
     go (no h) (yes k) = rw (le-ltb m n (le_of_lt k), lt-ltb n m k)
     go (no h) (no k) = rw (le-ltb m n (omega arith), le-ltb n m (omega arith))
@@ -76,10 +77,10 @@ equal_exactly x y = (
 pub less_exactly : (a b : Float) → sign_bit a ≡ false → sign_bit b ≡ false → (order a b ≡ Less) ↔ ((a ≺ b) ≡ true)
 less_exactly a b p q = (
   λ h. from (a ≺ b) (b ≺ a) (sym (no_sign a b p q) ∙ h),
-  λ h. no_sign a b p q ∙ ap (λ (t : Bool). if t then Less else if b ≺ a then Greater else Equal) h,
+  λ h. no_sign a b p q ∙ ap (λ (t : Bool). if t then Less else (if b ≺ a then Greater else Equal)) h,
 )
   where
-    from : (s t : Bool) → (if s then Less else if t then Greater else Equal) ≡ Less → s ≡ true
+    from : (s t : Bool) → (if s then Less else (if t then Greater else Equal)) ≡ Less → s ≡ true
     from true t h = refl
     from false true h = cc
     from false false h = cc

@@ -1,6 +1,7 @@
 -- When one distance is nearer than another. Values without a sign bit are compared as numbers; a NaN is nearer than nothing; and a magnitude that
 -- is not smaller is nearer only where a positive value meets a negative one. The comparison is total, so that nearer is the other way round not
 -- after. Assumes nothing.
+use Rattle.std.specs.Prelude.{if◌then◌else◌}
 use Prim.Native.Nat.{ℕ, ◌+◌, ◌*◌, ◌^◌, ◌<◌}
 use native.Mathlib.Nat.{mul-pos}
 use native.Mathlib.Omega.{arith}
@@ -11,7 +12,7 @@ use lib.Pow.{pow_pos}
 use lib.Ieee.{Float, nan, inf, fin, up, down, binary32, fits, is_nan, unlike, of_bits, to_bits, add, eq, le, lt, sub}
 use lib.Ieee.Fits.{down_pos}
 use borrow.Author.Tests.{lt-leb, lt-ltb}
-use Rattle.float.specs.Arith.{◌≺◌, f_max, if◌then◌else◌}
+use Rattle.float.specs.Arith.{◌≺◌, f_max}
 use Rattle.float.specs.Distance.{Distance}
 use Rattle.float.specs.Steps.{abs_of, sign_bit}
 use Rattle.float.proofs.Magnitude.{abs_distance}
@@ -29,7 +30,7 @@ pub nearer_exactly : (a b : Float) → sign_bit a ≡ false → sign_bit b ≡ f
 unfolding nearer
 nearer_exactly a b p q = ap is_less (no_sign a b p q) ∙ go (a ≺ b) (b ≺ a)
   where
-    go : (s t : Bool) → is_less (if s then Less else if t then Greater else Equal) ≡ s
+    go : (s t : Bool) → is_less (if s then Less else (if t then Greater else Equal)) ≡ s
     go true t = refl
     go false true = refl
     go false false = refl
@@ -38,7 +39,7 @@ nearer_exactly a b p q = ap is_less (no_sign a b p q) ∙ go (a ≺ b) (b ≺ a)
 
 -- by the tests of `order`: k whether the magnitudes are alike, s and t the sign bits, g whether the second magnitude is smaller
 no_less : (k s t g : Bool) → (s ≡ false → t ≡ true → ⊥)
-    → is_less (if k && unlike s t then (if s then Greater else Less) else if g then Greater else Equal) ≡ false
+    → is_less (if k && unlike s t then (if s then Greater else Less) else (if g then Greater else Equal)) ≡ false
 no_less true true true true h = refl
 no_less true true true false h = refl
 no_less true true false g h = refl

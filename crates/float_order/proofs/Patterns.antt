@@ -1,5 +1,6 @@
 -- `order` by the whole patterns of two values that are no NaN, as the code has it: the pattern's upper bit is the sign bit, the rest the magnitude's
 -- pattern. Assumes nothing.
+use Rattle.std.specs.Prelude.{if◌then◌else◌}
 use Prim.Native.Nat.{ℕ, ◌+◌, ◌-◌, ◌/◌, ◌≤◌, ◌<◌}
 use native.Mathlib.Omega.{arith}
 use native.Mathlib.Decide.{dec_lt}
@@ -8,7 +9,6 @@ use mathlib.Core.Bool.{Bool, true, false, cond}
 use lib.Dec.{ltb}
 use lib.Ieee.{binary32, to_bits}
 use borrow.Author.Tests.{lt-ltb, le-ltb}
-use Rattle.float.specs.Arith.{if◌then◌else◌}
 use Rattle.float_order.specs.declared.Order.TheVariants.{Less, Equal, Greater}
 use Rattle.float.specs.Steps.{sign_bit}
 use Rattle.float_order.specs.Compare.{order, of_numbers}
@@ -33,7 +33,7 @@ ltb_shift n i j = go (dec_lt i j)
     go (no h) = le-ltb (n + i) (n + j) (omega arith) ∙ sym (le-ltb i j (omega arith))
 
 numbers_shift : (n i j : ℕ) → of_numbers (n + i) (n + j) ≡ of_numbers i j
-numbers_shift n i j = ap₂ (λ (s : Bool) (t : Bool). if s then Less else if t then Greater else Equal) (ltb_shift n i j) (ltb_shift n j i)
+numbers_shift n i j = ap₂ (λ (s : Bool) (t : Bool). if s then Less else (if t then Greater else Equal)) (ltb_shift n i j) (ltb_shift n j i)
 
 module _ (a b : Value) where
   pub order_level : bits a / 0x8000_0000 ≡ bits b / 0x8000_0000 → order a.float b.float ≡ of_numbers (bits a) (bits b)

@@ -1,5 +1,6 @@
 -- `order` by the sign bits. With the same one the magnitudes decide, so with neither set the values themselves do. With opposite ones the positive
 -- value is less unless it is beyond the other: two magnitudes that are not alike are not equal, so one of them is larger. Assumes nothing.
+use Rattle.std.specs.Prelude.{if◌then◌else◌}
 use Prim.Native.Nat.{ℕ, ◌≤◌}
 use native.Mathlib.Nat.{le_of_lt}
 use native.Mathlib.Omega.{arith}
@@ -9,7 +10,7 @@ use lib.Dec.{ltb}
 use lib.Ieee.{Float, binary32, unlike, of_bits, to_bits}
 use lib.Ieee.Bits.{of_bits-to_bits}
 use borrow.Author.Tests.{le-ltb, ltb-true, ltb-false}
-use Rattle.float.specs.Arith.{◌≺◌, if◌then◌else◌}
+use Rattle.float.specs.Arith.{◌≺◌}
 use Rattle.float.specs.Distance.{Distance}
 use Rattle.float.proofs.Order.{distance_lt}
 use Rattle.float_order.specs.declared.Order.TheVariants.{Less, Equal, Greater}
@@ -33,9 +34,9 @@ same_sign a b e = go (sign_bit a) (sign_bit b) e
     go false false e = ap (λ (k : Bool). cond k Less (by_magnitude a b)) (and-false (alike (abs_of a) (abs_of b)))
 
 -- "with neither sign bit set, only the magnitude decides", and the magnitude is the value
-pub no_sign : (a b : Float) → sign_bit a ≡ false → sign_bit b ≡ false → order a b ≡ (if a ≺ b then Less else if b ≺ a then Greater else Equal)
+pub no_sign : (a b : Float) → sign_bit a ≡ false → sign_bit b ≡ false → order a b ≡ (if a ≺ b then Less else (if b ≺ a then Greater else Equal))
 no_sign a b p q =
-    same_sign a b (p ∙ sym q) ∙ ap₂ (λ (x : Float) (y : Float). if x ≺ y then Less else if y ≺ x then Greater else Equal) (own_magnitude a p) (own_magnitude b q)
+    same_sign a b (p ∙ sym q) ∙ ap₂ (λ (x : Float) (y : Float). if x ≺ y then Less else (if y ≺ x then Greater else Equal)) (own_magnitude a p) (own_magnitude b q)
 
 -- ---- two values that are no NaN, by the patterns of their magnitudes
 
@@ -71,11 +72,11 @@ module _ (a b : Value) where
   pub order_same : sign_bit a.float ≡ sign_bit b.float → order a.float b.float ≡ of_numbers (pattern a) (pattern b)
   order_same e =
       same_sign a.float b.float e
-      ∙ ap₂ (λ (s : Bool) (t : Bool). if s then Less else if t then Greater else Equal) less_is (distance_lt (size b) (size a) (at b) (at a))
+      ∙ ap₂ (λ (s : Bool) (t : Bool). if s then Less else (if t then Greater else Equal)) less_is (distance_lt (size b) (size a) (at b) (at a))
 
 -- opposite sign bits, with k whether the magnitudes are alike, l and g whether the first or the second is less
 positive_less : (k l g : Bool) → (l ≡ true → g ≡ false) → (l ≡ false → g ≡ false → k ≡ true)
-    → (if k && true then Less else if l then Less else if g then Greater else Equal) ≡ (if g && not k then Greater else Less)
+    → (if k && true then Less else (if l then Less else (if g then Greater else Equal))) ≡ (if g && not k then Greater else Less)
 positive_less true l true f h = refl
 positive_less true l false f h = refl
 positive_less false true true f h = absurd (true≢false (f refl))
@@ -84,7 +85,7 @@ positive_less false false true f h = refl
 positive_less false false false f h = absurd (true≢false (sym (h refl refl)))
 
 negative_greater : (k l g : Bool) → (l ≡ false → g ≡ false → k ≡ true)
-    → (if k && true then Greater else if l then Less else if g then Greater else Equal) ≡ (if l && not k then Less else Greater)
+    → (if k && true then Greater else (if l then Less else (if g then Greater else Equal))) ≡ (if l && not k then Less else Greater)
 negative_greater true true g h = refl
 negative_greater true false g h = refl
 negative_greater false true g h = refl

@@ -1,6 +1,7 @@
 -- The comparison is a total order on the values that are no NaN. The idea: the values without a sign bit are in the order of their patterns, and so
 -- are those with one; a positive i goes behind a negative j exactly where i is beyond j. What is beyond stays so as i grows and as j falls, so
 -- the two rows merge into one. Assumes nothing.
+use Rattle.std.specs.Prelude.{if◌then◌else◌}
 use Prim.Native.Nat.{ℕ, ◌≤◌, ◌<◌}
 use native.Mathlib.Nat.{le_trans, le_of_lt, le_antisymm}
 use native.Mathlib.Omega.{arith}
@@ -10,7 +11,6 @@ use mathlib.Core.Bool.{Bool, true, false, not, true≢false}
 use lib.Dec.{T, T_prop, leb, ltb}
 use lib.Ieee.{Float, binary32, fits, is_nan}
 use borrow.Author.Tests.{lt-ltb, le-ltb, lt-leb, le-leb, leb-true, leb-false, not-true, not-false}
-use Rattle.float.specs.Arith.{if◌then◌else◌}
 use Rattle.float_order.specs.declared.Order.TheVariants.{Less, Equal, Greater}
 use Rattle.lists.specs.Total.{Total}
 use Rattle.float.specs.Steps.{sign_bit}
@@ -74,13 +74,13 @@ merged_antisym true i false j h l = absurd (true≢false (sym h ∙ not-true (be
 numbers_first : (m n : ℕ) → not_greater (of_numbers m n) ≡ leb m n
 numbers_first m n = go (dec_lt m n) (dec_lt n m)
   where
-    go : Dec (m < n) → Dec (n < m) → not_greater (if ltb m n then Less else if ltb n m then Greater else Equal) ≡ leb m n
-    go (yes h) k = ap (λ (t : Bool). not_greater (if t then Less else if ltb n m then Greater else Equal)) (lt-ltb m n h) ∙ sym (le-leb m n (le_of_lt h))
+    go : Dec (m < n) → Dec (n < m) → not_greater (if ltb m n then Less else (if ltb n m then Greater else Equal)) ≡ leb m n
+    go (yes h) k = ap (λ (t : Bool). not_greater (if t then Less else (if ltb n m then Greater else Equal))) (lt-ltb m n h) ∙ sym (le-leb m n (le_of_lt h))
     go (no h) (yes k) =
-        ap₂ (λ (s : Bool) (t : Bool). not_greater (if s then Less else if t then Greater else Equal)) (le-ltb m n (omega arith)) (lt-ltb n m k)
+        ap₂ (λ (s : Bool) (t : Bool). not_greater (if s then Less else (if t then Greater else Equal))) (le-ltb m n (omega arith)) (lt-ltb n m k)
         ∙ sym (lt-leb m n k)
     go (no h) (no k) =
-        ap₂ (λ (s : Bool) (t : Bool). not_greater (if s then Less else if t then Greater else Equal)) (le-ltb m n (omega arith)) (le-ltb n m (omega arith))
+        ap₂ (λ (s : Bool) (t : Bool). not_greater (if s then Less else (if t then Greater else Equal))) (le-ltb m n (omega arith)) (le-ltb n m (omega arith))
         ∙ sym (le-leb m n (omega arith))
 
 greater_first : (t : Bool) → not_greater (if t then Greater else Less) ≡ not t

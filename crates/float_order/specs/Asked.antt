@@ -1,8 +1,7 @@
 -- "Asked by itself, .. the comparison answers 6 for a NaN." (document 01). Definitions only.
-use Rattle.std.specs.Prelude.{ℕ, ◌≡◌, ◌||◌, Float}
+use Rattle.std.specs.Prelude.{ℕ, ◌≡◌, ◌||◌, Float, if◌then◌else◌}
 use Rattle.std.proofs.Math.Option.{Option, none, some}
 use Rattle.std.specs.Float.Ieee.{is_nan}
-use Rattle.float.specs.Arith.{if◌then◌else◌}
 use Rattle.float_order.specs.Compare.{order}
 use Rattle.float_order.specs.declared.Order.{Order}
 use Rattle.float_order.specs.declared.Comparison.{Comparison}

@@ -1,9 +1,9 @@
 -- "Magnitudes are alike if equal, or if their rounded difference is at most 1e-6, or if their bit patterns differ by at most 2. Alike with
 -- opposite sign bits: the positive one is smaller. In all other cases the magnitudes decide." (document 01). Definitions only.
-use Rattle.std.specs.Prelude.{ℕ, ◌+◌, ◌-◌, Bool, not, ◌&&◌, ◌||◌, leb, ltb, Float}
+use Rattle.std.specs.Prelude.{ℕ, ◌+◌, ◌-◌, Bool, not, ◌&&◌, ◌||◌, leb, ltb, Float, if◌then◌else◌}
 use Rattle.std.specs.Float.{binary32}
 use Rattle.std.specs.Float.Ieee.{of_bits, to_bits, unlike}
-use Rattle.float.specs.Arith.{◌⊖◌, ◌≺◌, ◌≦◌, ◌≐◌, if◌then◌else◌}
+use Rattle.float.specs.Arith.{◌⊖◌, ◌≺◌, ◌≦◌, ◌≐◌}
 use Rattle.float.specs.Steps.{abs_of, sign_bit}
 use Rattle.float_order.specs.declared.Order.{Order}
 use Rattle.float_order.specs.declared.Order.TheVariants.{Less, Equal, Greater}
@@ -24,8 +24,8 @@ alike x y = (x ≐ y) || (abs_of (x ⊖ y) ≦ alike_margin) || leb (apart (to_b
 abbrev pub by_magnitude : Float → Float → Order
 by_magnitude a b =
     if abs_of a ≺ abs_of b then Less
-    else if abs_of b ≺ abs_of a then Greater
-    else Equal
+    else (if abs_of b ≺ abs_of a then Greater
+    else Equal)
 
 -- "the positive one is smaller", of two with opposite sign bits
 abbrev pub positive_first : Float → Order
@@ -47,5 +47,5 @@ beyond x y = (y ≺ x) && not (alike x y)
 abbrev pub of_numbers : ℕ → ℕ → Order
 of_numbers m n =
     if ltb m n then Less
-    else if ltb n m then Greater
-    else Equal
+    else (if ltb n m then Greater
+    else Equal)

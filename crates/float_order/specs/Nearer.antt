@@ -1,9 +1,8 @@
 -- "compare_distances in full for what a cell takes" (document 02, §8): when one distance is nearer than another. And two numbers that
 -- stand for a distance: its key, by which the queue orders, and its height, by which the proofs do. Definitions only.
-use Rattle.std.specs.Prelude.{ℕ, ◌+◌, ◌*◌, ◌^◌, Bool, true, false, Float}
+use Rattle.std.specs.Prelude.{ℕ, ◌+◌, ◌*◌, ◌^◌, Bool, true, false, Float, if◌then◌else◌}
 use Rattle.std.specs.Float.{binary32}
 use Rattle.std.specs.Float.Ieee.{of_bits, to_bits}
-use Rattle.float.specs.Arith.{if◌then◌else◌}
 use Rattle.float.specs.Steps.{abs_of, sign_bit}
 use Rattle.lists.specs.Range.{count_below}
 use Rattle.float_order.specs.Compare.{order}

@@ -5,6 +5,7 @@
 // numbers that they stand for, infinity's being the largest, so one comparison of whole numbers
 // orders two magnitudes.
 #![tactic(auto)]
+
 ghost use Rattle.std.specs.Prelude.{◌≡◌, not, ◌≤◌, T};
 ghost use Rattle.std.specs.Float.{binary32};
 ghost use Rattle.std.specs.Float.Ieee.{is_nan, of_bits};

@@ -1,6 +1,7 @@
 // The square root, rounded to the nearest binary32: the digits are a whole number, so the root of a whole number is
 // guessed by a table and then corrected by comparing squares (`float_root_whole`). A part of the public face `sdf`.
 #![tactic(auto)]
+
 ghost use Rattle.std.specs.Prelude.{◌≡◌, ◌+◌, ◌-◌, ◌*◌, ◌/◌, ◌%◌, ◌^◌, ◌≤◌, ◌<◌};
 ghost use Rattle.float.specs.RootOf.{NormalForm, root_bits, IsRoot};
 

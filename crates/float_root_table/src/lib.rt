@@ -2,6 +2,7 @@
 // so that nothing rests on these numbers but the time that a root takes. tools/root-check/table.py prints the
 // rows.
 #![tactic(auto)]
+
 ghost use Rattle.std.specs.Prelude.{◌^◌, ◌≤◌};
 
 // Of the roots from 2^23 to 2^24 the parabola nearest to those in part i: 64 parts for an even

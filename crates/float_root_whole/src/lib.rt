@@ -1,6 +1,7 @@
 // The whole number nearest to the root of a whole number, off a guess, corrected by comparing squares. A part of the
 // square root (`float_root`).
 #![tactic(auto)]
+
 ghost use Rattle.std.specs.Prelude.{◌+◌, ◌*◌, ◌^◌, ◌<◌};
 ghost use Rattle.float.specs.RootOf.{NearestTo};
 

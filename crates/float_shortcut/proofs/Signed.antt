@@ -1,11 +1,12 @@
 -- The signed root has the magnitude's root for its magnitude and the sign of the square, unless that is a NaN. So what is not below in magnitude
 -- is not nearer, but where a positive value meets a negative one. Assumes nothing.
+use Rattle.std.specs.Prelude.{if◌then◌else◌}
 use Rattle.std.proofs.Common.{◌≡◌, ℕ, ◌+◌, ◌*◌, ◌<◌, Bool, true, false, cond, not, ◌||◌, T, eqb, ltb, sym, refl, ap, ◌∙◌, subst, true≢false, arith, ltb-true, lt-ltb}
 use native.Mathlib.Decide.{dec_lt}
 use mathlib.Core.Bool.{or-true}
 use lib.Ieee.{Float, nan, inf, fin, binary32, binary64, up, down, below, level, fits, is_nan, of_bits, neg, mul, le, lt, eq}
 use lib.Ieee.Bits.{is_false}
-use Rattle.float.specs.Arith.{◌≺◌, f0, if◌then◌else◌}
+use Rattle.float.specs.Arith.{◌≺◌, f0}
 use Rattle.float.specs.Distance.{Distance}
 use Rattle.float.specs.RootOf.{root_of}
 use Rattle.float.specs.Steps.{abs_of, sign_bit}

@@ -1,9 +1,9 @@
 -- The distance that a signed square stands for, and when the square shows that this distance is not nearer than another, with no root worked
 -- out. Definitions only.
-use Rattle.std.specs.Prelude.{◌≡◌, Bool, true, false, ◌&&◌, ◌||◌, is_nan, Float}
+use Rattle.std.specs.Prelude.{◌≡◌, Bool, true, false, ◌&&◌, ◌||◌, is_nan, Float, if◌then◌else◌}
 use Rattle.std.specs.Float.{binary64}
 use Rattle.std.specs.Float.Ieee.{neg, mul, le}
-use Rattle.float.specs.Arith.{◌≺◌, f0, if◌then◌else◌}
+use Rattle.float.specs.Arith.{◌≺◌, f0}
 use Rattle.float.specs.RootOf.{root_of}
 use Rattle.float.specs.Steps.{abs_of, sign_bit}
 use Rattle.float_order.specs.Nearer.{nearer}

@@ -2,6 +2,7 @@
 // Here is the distance that it stands for; and most offers are no nearer than what the cell holds: where the square already
 // shows that, no root is worked out. A part of the port: users call `sdf`.
 #![tactic(auto)]
+
 ghost use Rattle.std.specs.Prelude.{◌≡◌};
 ghost use Rattle.float_shortcut.specs.Shown.{signed_root, size_of, Shown};
 

@@ -1,5 +1,6 @@
 // The box round a triangle, a little larger than the triangle is. A part of `ask_geo`.
 #![tactic(auto)]
+
 ghost use Rattle.std.specs.Prelude.{◌≡◌};
 ghost use Rattle.geo_box.specs.Box as Box;
 

@@ -1,8 +1,8 @@
 -- "Closest point: equal corners first (a=b=c: a; a=b: segment a,c; b=c or a=c: segment a,b), with -0 equal to +0; then the regions
 -- a, b, c, ab, ac, bc, inside, with the source's formulas in its order. In the segment, a NaN parameter stays NaN under the clamp"
 -- (document 01). Definitions only.
-use Rattle.std.specs.Prelude.{Bool, ◌&&◌, ◌||◌, Float}
-use Rattle.float.specs.Arith.{◌⊕◌, ◌⊖◌, ◌⊗◌, ◌⊘◌, ◌≦◌, f0, f1, if◌then◌else◌}
+use Rattle.std.specs.Prelude.{Bool, ◌&&◌, ◌||◌, Float, if◌then◌else◌}
+use Rattle.float.specs.Arith.{◌⊕◌, ◌⊖◌, ◌⊗◌, ◌⊘◌, ◌≦◌, f0, f1}
 use Rattle.float.specs.Steps.{clamp_of}
 use Rattle.point.specs.Point.{◌+ᵥ◌, ◌-ᵥ◌, ◌*ᵥ◌, ◌·◌, ◌≐ᵥ◌}
 use Rattle.point.specs.declared.Point.{Point}
@@ -26,8 +26,8 @@ two_equal a b c = (a ≐ᵥ b) || (b ≐ᵥ c) || (a ≐ᵥ c)
 unfoldable pub closest_point_equal : Point → Point → Point → Point → Point
 closest_point_equal p a b c =
     if (a ≐ᵥ b) && (b ≐ᵥ c) && (a ≐ᵥ c) then a
-    else if a ≐ᵥ b then closest_point_segment p a c
-    else closest_point_segment p a b
+    else (if a ≐ᵥ b then closest_point_segment p a c
+    else closest_point_segment p a b)
 
 -- ---- the regions of a triangle
 
@@ -78,12 +78,12 @@ on_bc d = (va d ≦ f0) && (f0 ≦ d.d4 ⊖ d.d3) && (f0 ≦ d.d5 ⊖ d.d6)
 unfoldable pub nearest : Dots → Facet → Point
 nearest d f =
     if at_a d then f.a
-    else if at_b d then f.b
-    else if at_c d then f.c
-    else if on_ab d then f.a +ᵥ f.ab *ᵥ (d.d1 ⊘ (d.d1 ⊖ d.d3))
-    else if on_ac d then f.a +ᵥ f.ac *ᵥ (d.d2 ⊘ (d.d2 ⊖ d.d6))
-    else if on_bc d then f.b +ᵥ f.bc *ᵥ ((d.d4 ⊖ d.d3) ⊘ ((d.d4 ⊖ d.d3) ⊕ (d.d5 ⊖ d.d6)))
-    else (let denom = f1 ⊘ (va d ⊕ vb d ⊕ vc d) in f.a +ᵥ f.ab *ᵥ (vb d ⊗ denom) +ᵥ f.ac *ᵥ (vc d ⊗ denom))
+    else (if at_b d then f.b
+    else (if at_c d then f.c
+    else (if on_ab d then f.a +ᵥ f.ab *ᵥ (d.d1 ⊘ (d.d1 ⊖ d.d3))
+    else (if on_ac d then f.a +ᵥ f.ac *ᵥ (d.d2 ⊘ (d.d2 ⊖ d.d6))
+    else (if on_bc d then f.b +ᵥ f.bc *ᵥ ((d.d4 ⊖ d.d3) ⊘ ((d.d4 ⊖ d.d3) ⊕ (d.d5 ⊖ d.d6)))
+    else (let denom = f1 ⊘ (va d ⊕ vb d ⊕ vc d) in f.a +ᵥ f.ab *ᵥ (vb d ⊗ denom) +ᵥ f.ac *ᵥ (vc d ⊗ denom)))))))
 
 -- ---- the triangle a, b, c
 

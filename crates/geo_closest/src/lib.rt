@@ -2,6 +2,7 @@
 // triangle alone is a `Facet`, made once for many points. Here are its parts, and a triangle with equal corners;
 // `geo_closest_branching` has the others. A part of `ask_geo`.
 #![tactic(auto)]
+
 ghost use Rattle.std.specs.Prelude.{◌≡◌};
 ghost use Rattle.point.specs.Point.{◌+ᵥ◌, ◌*ᵥ◌};
 ghost use Rattle.geo_closest.specs.Closest as Closest;

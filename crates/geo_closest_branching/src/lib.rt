@@ -1,6 +1,7 @@
 // The regions of a triangle, after Embree, and with them the point of it that is closest to a point. A part of
 // `ask_geo`.
 #![tactic(auto)]
+
 ghost use Rattle.std.specs.Prelude.{◌≡◌};
 ghost use Rattle.geo_closest.specs.Closest as Closest;
 

@@ -1,8 +1,9 @@
 -- The closest point with no branch is that of the definition: by cases on the outcomes of the six tests. Assumes nothing.
+use Rattle.std.specs.Prelude.{if◌then◌else◌}
 use mathlib.Core.Path.{◌≡◌, refl, ◌∙◌}
 use mathlib.Core.Bool.{Bool, true, false}
 use lib.Ieee.{Float}
-use Rattle.float.specs.Arith.{◌⊕◌, ◌⊖◌, ◌⊗◌, ◌⊘◌, f1, if◌then◌else◌}
+use Rattle.float.specs.Arith.{◌⊕◌, ◌⊖◌, ◌⊗◌, ◌⊘◌, f1}
 use Rattle.point.specs.Point.{◌+ᵥ◌, ◌*ᵥ◌}
 use Rattle.point.specs.declared.Point.{Point}
 use Rattle.geo_closest.specs.declared.Facet.{Facet}
@@ -16,12 +17,12 @@ module _ (d : Dots) (f : Facet) where
   abbrev defined : (u v w x y z : Bool) → Point
   defined u v w x y z =
       if u then f.a
-      else if v then f.b
-      else if w then f.c
-      else if x then f.a +ᵥ f.ab *ᵥ (d.d1 ⊘ (d.d1 ⊖ d.d3))
-      else if y then f.a +ᵥ f.ac *ᵥ (d.d2 ⊘ (d.d2 ⊖ d.d6))
-      else if z then f.b +ᵥ f.bc *ᵥ ((d.d4 ⊖ d.d3) ⊘ ((d.d4 ⊖ d.d3) ⊕ (d.d5 ⊖ d.d6)))
-      else (let denom = f1 ⊘ (va d ⊕ vb d ⊕ vc d) in f.a +ᵥ f.ab *ᵥ (vb d ⊗ denom) +ᵥ f.ac *ᵥ (vc d ⊗ denom))
+      else (if v then f.b
+      else (if w then f.c
+      else (if x then f.a +ᵥ f.ab *ᵥ (d.d1 ⊘ (d.d1 ⊖ d.d3))
+      else (if y then f.a +ᵥ f.ac *ᵥ (d.d2 ⊘ (d.d2 ⊖ d.d6))
+      else (if z then f.b +ᵥ f.bc *ᵥ ((d.d4 ⊖ d.d3) ⊘ ((d.d4 ⊖ d.d3) ⊕ (d.d5 ⊖ d.d6)))
+      else (let denom = f1 ⊘ (va d ⊕ vb d ⊕ vc d) in f.a +ᵥ f.ab *ᵥ (vb d ⊗ denom) +ᵥ f.ac *ᵥ (vc d ⊗ denom)))))))
 
   abbrev outcomes : (u v w x y z : Bool) → Regions
   outcomes u v w x y z = record { a = u; b = v; c = w; ab = x; ac = y; bc = z }

@@ -1,6 +1,7 @@
 // The closest point of a triangle of three different corners, with no branch. Each step is small, so that the
 // compiler puts all of it into a loop over many points and takes several at a time. A part of `ask_geo`.
 #![tactic(auto)]
+
 ghost use Rattle.std.specs.Prelude.{◌≡◌, cond};
 ghost use Rattle.geo_closest.specs.Closest.{nearest, dots_of};
 ghost use Rattle.geo_closest_branchless.specs.Flat as Flat;

@@ -2,6 +2,7 @@
 // triangle with equal corners comes down, which `geo_squares` asks once for many points.
 // A part of `ask_geo`.
 #![tactic(auto)]
+
 ghost use Rattle.std.specs.Prelude.{◌≡◌, ◌&&◌, cond};
 ghost use Rattle.point.specs.Point.{◌-ᵥ◌, ◌·◌, ◌≐ᵥ◌};
 ghost use Rattle.geo_distance.specs.Distance as Distance;

@@ -1,6 +1,7 @@
 // By what a triangle is measured from a point: its distance, where rays give the signs, or its signed distance. A part of the
 // port: users call `sdf`.
 #![tactic(auto)]
+
 ghost use Rattle.geo_squares.specs.Squares.{Alongside, Values};
 ghost use Rattle.geo_measure.specs.Measured.{squared_by};
 

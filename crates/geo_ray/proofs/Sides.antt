@@ -1,5 +1,6 @@
 -- A weight lies on one side of 0 at most: below, above, or at it. So weights that are all on one side are none of them 0, and weights on
 -- both sides are not all on one; and whether a ray grazes is told by its weights alone. Assumes nothing.
+use Rattle.std.specs.Prelude.{if◌then◌else◌}
 use Prim.Native.Nat.{ℕ, ◌+◌, ◌*◌, ◌<◌}
 use native.Mathlib.Omega.{arith}
 use mathlib.Core.Path.{◌≡◌, refl, sym, ap, ◌∙◌}
@@ -8,7 +9,7 @@ use lib.Dec.{ltb, eqb}
 use lib.IntN.{pos}
 use lib.Ieee.{Float, nan, inf, fin, up, down, lt, eq}
 use borrow.Author.Tests.{ltb-true, le-ltb, ne_eqb}
-use Rattle.float.specs.Arith.{◌≺◌, ◌≐◌, f0, if◌then◌else◌}
+use Rattle.float.specs.Arith.{◌≺◌, ◌≐◌, f0}
 use Rattle.float.proofs.Bools.{and_first, and_second}
 use Rattle.float.proofs.Units.{zero_is}
 use Rattle.geo_ray.specs.declared.RayHit.TheVariants.{Miss, Grazed, Hit}
@@ -92,7 +93,7 @@ module _ (w0 w1 w2 : Float) where
   pub grazed_by_weights : (t : Float) → is_grazed (reply w0 w1 w2 t) ≡ grazes w0 w1 w2
   grazed_by_weights t = go (hits w0 w1 w2 t) (grazes w0 w1 w2) refl refl
     where
-      go : (b c : Bool) → hits w0 w1 w2 t ≡ b → grazes w0 w1 w2 ≡ c → is_grazed (if b then Hit t else if c then Grazed else Miss) ≡ c
+      go : (b c : Bool) → hits w0 w1 w2 t ≡ b → grazes w0 w1 w2 ≡ c → is_grazed (if b then Hit t else (if c then Grazed else Miss)) ≡ c
       go true true e k = absurd (true≢false (sym k ∙ no_graze (and_first (all_below w0 w1 w2 || all_above w0 w1 w2) (f0 ≺ t) e)))
       go true false e k = refl
       go false true e k = refl

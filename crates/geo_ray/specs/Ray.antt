@@ -2,9 +2,9 @@
 -- miss or a hit carrying its f32 distance t. Hit only if all weights are below 0 or all above 0, and t > 0" (document 01). "The ray test
 -- shall have a third reply, grazed: not a hit, at least one weight is 0, and not one above 0 with another below 0 (all three 0
 -- included), wherever t lies" (document 02, §3). Definitions only.
-use Rattle.std.specs.Prelude.{Bool, true, false, not, ◌&&◌, ◌||◌, Float}
+use Rattle.std.specs.Prelude.{Bool, true, false, not, ◌&&◌, ◌||◌, Float, if◌then◌else◌}
 use Rattle.std.specs.Float.Ieee.{neg}
-use Rattle.float.specs.Arith.{◌⊕◌, ◌⊖◌, ◌⊗◌, ◌⊘◌, ◌≺◌, ◌≐◌, f0, if◌then◌else◌}
+use Rattle.float.specs.Arith.{◌⊕◌, ◌⊖◌, ◌⊗◌, ◌⊘◌, ◌≺◌, ◌≐◌, f0}
 use Rattle.point.specs.Point.{◌-ᵥ◌, turned}
 use Rattle.point.specs.declared.Point.{Point}
 use Rattle.point.specs.declared.Axis.{Axis}
@@ -54,8 +54,8 @@ grazes w0 w1 w2 = some_zero w0 w1 w2 && not (on_both_sides w0 w1 w2)
 abbrev pub reply : Float → Float → Float → Float → RayHit
 reply w0 w1 w2 t =
     if hits w0 w1 w2 t then Hit t
-    else if grazes w0 w1 w2 then Grazed
-    else Miss
+    else (if grazes w0 w1 w2 then Grazed
+    else Miss)
 
 abbrev pub is_grazed : RayHit → Bool
 is_grazed Miss = false

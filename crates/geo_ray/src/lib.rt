@@ -3,6 +3,7 @@
 // product once for all the rays that share it. The operations stay those of the source, in its order. A part of
 // `ask_geo`.
 #![tactic(auto)]
+
 ghost use Rattle.std.specs.Prelude.{◌≡◌};
 ghost use Rattle.geo_ray.specs.Ray as Ray;
 

@@ -1,8 +1,8 @@
 -- "Bring in the source's Normal method: `point_triangle_signed_distance`, where a dot of exactly 0 gives the negative" (document 02, §8): the distance,
 -- positive on the side of the triangle to which its normal points, and negative on the other and in its plane. Definitions only.
-use Rattle.std.specs.Prelude.{Bool, Float}
+use Rattle.std.specs.Prelude.{Bool, Float, if◌then◌else◌}
 use Rattle.std.specs.Float.Ieee.{neg}
-use Rattle.float.specs.Arith.{◌≺◌, f0, if◌then◌else◌}
+use Rattle.float.specs.Arith.{◌≺◌, f0}
 use Rattle.point.specs.Point.{◌-ᵥ◌, ◌·◌, ◌×ᵥ◌}
 use Rattle.point.specs.declared.Point.{Point}
 use Rattle.geo_closest.specs.Closest.{facet_of, closest_on}

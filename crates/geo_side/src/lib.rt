@@ -1,6 +1,7 @@
 // On which side of a triangle a point lies, and its signed distance: positive where the triangle's normal points to,
 // negative elsewhere. Its square, with the same sign, spares the root where it is not needed. A part of `ask_geo`.
 #![tactic(auto)]
+
 ghost use Rattle.std.specs.Prelude.{◌≡◌};
 ghost use Rattle.geo_side.specs.Side as Side;
 

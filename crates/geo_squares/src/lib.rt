@@ -1,6 +1,7 @@
 // The squared distances of a triangle from many points, by themselves and with the sign of the side: the run's inner
 // loop, which has no branch. Which form the triangle has is asked once for all points. A part of the port: users call `sdf`.
 #![tactic(auto)]
+
 ghost use Rattle.std.specs.Prelude.{◌≡◌, ◌<◌, length};
 ghost use Rattle.geo_closest.specs.Closest.{closest_point_segment, nearest, dots_of, closest_on};
 ghost use Rattle.geo_squares.specs.Squares.{point_at, Alongside, Squares, SquaresTo, SignedSquares, SignedSquaresTo};

@@ -1,7 +1,6 @@
 -- Where cells lie, and in which cell a point lies (document 01, "Grid"). What is alike on the three axes is defined on one
 -- (`grid_axis`, OnAxis). Definitions only.
-use Rattle.std.specs.Prelude.{Bool, ℤ}
-use Rattle.float.specs.Arith.{if◌then◌else◌}
+use Rattle.std.specs.Prelude.{Bool, ℤ, if◌then◌else◌}
 use Rattle.float_floor.specs.Cell.{floor_of, cell_of, outside}
 use Rattle.grid_axis.specs.OnAxis.{centre_on, low_on, high_on, quotient_on, box_size, box_first}
 use Rattle.point.specs.declared.Point.{Point}

@@ -1,7 +1,6 @@
 -- "Asked by itself, a grid question answers 1 for a grid out of bounds and 4 for a cell or index outside the counts." (document 01,
 -- "Reply numbers"). Definitions only.
-use Rattle.std.specs.Prelude.{Bool, List, [], ◌∷◌, ℕ}
-use Rattle.float.specs.Arith.{if◌then◌else◌}
+use Rattle.std.specs.Prelude.{Bool, List, [], ◌∷◌, ℕ, if◌then◌else◌}
 use Rattle.point.specs.declared.Point.{Point}
 use Rattle.grid.specs.declared.Grid.{Grid}
 use Rattle.grid.specs.declared.Cell.{Cell}

@@ -5,6 +5,7 @@
 // what is alike on the three axes is in `grid_axis`, index and product of the counts in `grid_index`. Users find
 // `Grid` and its answers in `sdf`, and no `parts`.
 #![tactic(auto)]
+
 pub mod parts;
 
 ghost use Rattle.std.specs.Prelude.{◌≡◌};

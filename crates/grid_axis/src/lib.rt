@@ -2,6 +2,7 @@
 // "Grid" and "Bounds on a job"). The three axes are alike, so each is one function of numbers. A part of the
 // port: users call `sdf`.
 #![tactic(auto)]
+
 ghost use Rattle.std.specs.Prelude.{◌≡◌, ◌^◌, ◌<◌};
 ghost use Rattle.float_floor.specs.Cell.{Snapped};
 ghost use Rattle.grid_axis.specs.OnAxis as Spec;

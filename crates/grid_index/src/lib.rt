@@ -1,6 +1,7 @@
 // The index of a cell and the way back, and the product of the counts, over plain numbers (document 01, "Grid" and "Bounds on a
 // job"): nx, ny and nz are how many cells there are along the axes. A part of the port: users call `sdf`.
 #![tactic(auto)]
+
 ghost use Rattle.std.specs.Prelude.{◌≡◌, ◌*◌, ◌^◌, ◌≤◌, ◌<◌, ltb};
 ghost use Rattle.grid_index.specs.ByCounts.{index_by, x_by, y_by, z_by, is_total};
 

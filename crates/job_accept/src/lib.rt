@@ -1,6 +1,7 @@
 // A job that is not refused before its run: it runs over buffers that are cleared first, and is then finished, or
 // cleared again. A part of the port: users call `sdf`.
 #![tactic(auto)]
+
 ghost use Rattle.std.specs.Prelude.{◌≡◌};
 ghost use Rattle.mesh.specs.Mesh.{mesh_of};
 ghost use Rattle.run_state.specs.Told.{Fit};

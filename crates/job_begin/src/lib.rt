@@ -1,6 +1,7 @@
 // What comes before the queue is filled (document 01, "Reply numbers", and "The run", 1): the refusals that change
 // nothing, then the field and the names cleared and seeded. A part of the port: users call `sdf`.
 #![tactic(auto)]
+
 ghost use Rattle.mesh.specs.Mesh.{mesh_of};
 ghost use Rattle.job_begin.specs.Begins.{Begins};
 

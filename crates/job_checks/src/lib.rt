@@ -1,6 +1,7 @@
 // The refusals that are checked before the run, in their order: 1, 14, 2, 13, 3, 4, 10 and 5 (document 01, "Reply numbers",
 // and document 02, §6, §7 and §11). A part of the port: users call `sdf`.
 #![tactic(auto)]
+
 ghost use Rattle.std.specs.Prelude.{◌≡◌, true, ◌+◌, ◌*◌, ◌%◌, ◌<◌};
 ghost use Rattle.grid_axis.specs.AxisBounds.{is_coordinate};
 ghost use Rattle.grid.specs.Bounds.{in_bounds};

@@ -1,6 +1,7 @@
 // The lent buffers as a refusal of the run leaves them, and as a run begins: the field all f32::MAX, the
 // names all 4,294,967,295, the others zero. A part of the port: users call `sdf`.
 #![tactic(auto)]
+
 ghost use Rattle.std.specs.Prelude.{◌≡◌, length, replicate};
 ghost use Rattle.float.specs.Arith.{f_max};
 ghost use Rattle.job_checks.specs.Job.{lent_of};

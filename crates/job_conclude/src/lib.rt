@@ -1,5 +1,6 @@
 // What follows the run, and the queue with it. A part of the port: users call `sdf`.
 #![tactic(auto)]
+
 ghost use Rattle.lists.specs.Turns.{told};
 ghost use Rattle.mesh.specs.Mesh.{mesh_of};
 ghost use Rattle.run_state.specs.Told.{order_in, state_of, Fit, Ran};

@@ -2,6 +2,7 @@
 // `sdf::generate_grid_sdf`. It is refused before anything is changed, or accepted and run. A part of the port:
 // users call `sdf`.
 #![tactic(auto)]
+
 ghost use Rattle.job_checks.specs.Job.{job_of, lent_of};
 ghost use Rattle.job_outcome.specs.Outcome.{Gives, outcome};
 

@@ -3,6 +3,7 @@
 // write the lines of its cells and layers into lent bytes; the whole is written by `listing_whole`. A part of the
 // port: users run the job program.
 #![tactic(auto)]
+
 mod asked;
 mod cells;
 mod floats;

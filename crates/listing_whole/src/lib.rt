@@ -1,5 +1,6 @@
 // The whole listing of an answer, written into lent bytes. A part of the port: users run the job program.
 #![tactic(auto)]
+
 ghost use Rattle.std.specs.Prelude.{◌≤◌, ◌<◌, length, ◌≡◌};
 ghost use Rattle.job_outcome.specs.declared.Answer.TheVariants.{Done};
 ghost use Rattle.job_outcome.specs.declared.Tally.{Tally};

@@ -1,6 +1,7 @@
 // The mesh as it is lent: a row of coordinates, three to a vertex, and the corners of a triangle read
 // off it. A part of the port: users call `sdf`.
 #![tactic(auto)]
+
 ghost use Rattle.std.specs.Prelude.{◌≡◌, true, ◌+◌, ◌*◌, ◌/◌, ◌^◌, ◌<◌, ◌≤◌, length};
 ghost use Rattle.mesh_topology.specs.Topology.{triangles_of, kth};
 ghost use Rattle.mesh_topology.specs.Refusals.{all_below_count};

@@ -1,6 +1,7 @@
 // Whether a job may have its triangles: refusals 3 and 4 (document 01, "Reply numbers"), and 13 (document 02, §7). A
 // part of the port: users call `sdf`.
 #![tactic(auto)]
+
 ghost use Rattle.std.specs.Prelude.{◌≡◌, ◌^◌, ◌<◌};
 ghost use Rattle.mesh_topology.specs.Topology.{triangles_of};
 ghost use Rattle.mesh_topology.specs.Refusals.{is_strip, too_many_triangles, below_count, all_below_count};

@@ -2,6 +2,7 @@
 // strip becomes a list that names the same triangles in the same order. A part of the port: users run the
 // converter.
 #![tactic(auto)]
+
 ghost use Rattle.std.specs.Prelude.{◌+◌, ◌*◌, ◌^◌, ◌<◌, ◌≤◌, length};
 ghost use Rattle.lists.specs.Put.{Put};
 ghost use Rattle.mesh_topology.specs.Topology.{triangles_of};

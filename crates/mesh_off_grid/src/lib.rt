@@ -1,6 +1,7 @@
 // Whether a triangle lies off the grid: refusal 10 (document 02, §6). Snapping would bring such a triangle to the
 // outermost cells, and it would shape them. A part of the port: users call `sdf`.
 #![tactic(auto)]
+
 ghost use Rattle.std.specs.Prelude.{◌≡◌};
 ghost use Rattle.mesh.specs.Mesh.{Sound, mesh_of};
 ghost use Rattle.mesh_off_grid.specs.OffGrid as OffGrid;

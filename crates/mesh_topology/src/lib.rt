@@ -3,6 +3,7 @@
 // beside it. Whether a job may have its triangles is asked by `mesh_checks`. A part of the port: users call
 // `sdf`.
 #![tactic(auto)]
+
 ghost use Rattle.std.specs.Prelude.{◌≡◌, ◌-◌, ◌^◌, ◌<◌, length, get_or};
 ghost use Rattle.mesh_topology.specs.Topology.{corners, triangles_of, kth, triangle_count, first_corner};
 

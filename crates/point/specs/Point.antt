@@ -1,7 +1,7 @@
 -- "Componentwise `sub` and `add`, dot as (x·x + y·y) + z·z, and length as the square root of the dot with itself" (document 01).
 -- One rounding for each operation, in the order of `point.rs`. Definitions only.
-use Rattle.std.specs.Prelude.{Bool, ◌&&◌, ℕ, eqb, Float}
-use Rattle.float.specs.Arith.{◌⊕◌, ◌⊖◌, ◌⊗◌, ◌⊘◌, ◌≐◌, if◌then◌else◌}
+use Rattle.std.specs.Prelude.{Bool, ◌&&◌, ℕ, eqb, Float, if◌then◌else◌}
+use Rattle.float.specs.Arith.{◌⊕◌, ◌⊖◌, ◌⊗◌, ◌⊘◌, ◌≐◌}
 use Rattle.float.specs.RootOf.{root_of}
 use Rattle.point.specs.declared.Point.{Point}
 use Rattle.point.specs.declared.Axis.{Axis}
@@ -55,8 +55,8 @@ coordinate Z p = p.z
 abbrev pub axis_numbered : ℕ → Axis
 axis_numbered n =
     if eqb n 0 then X
-    else if eqb n 1 then Y
-    else Z
+    else (if eqb n 1 then Y
+    else Z)
 
 -- the coordinates in the order in which the ray test's get_x, get_y, get_z read them: first the one along the axis
 abbrev pub turned : Axis → Point → Point

@@ -1,6 +1,7 @@
 // A point: a plain record of three f32, after `point.rs`, with its steps by value. Each step rounds
 // once for each operation, in the source's order. A part of the public face `sdf`.
 #![tactic(auto)]
+
 ghost use Rattle.std.specs.Prelude.{◌≡◌};
 ghost use Rattle.point.specs.Point.{◌+ᵥ◌, ◌-ᵥ◌, ◌*ᵥ◌, ◌÷ᵥ◌, ◌·◌, ◌×ᵥ◌, ◌≐ᵥ◌};
 ghost use Rattle.point.specs.Point as Spec;

@@ -4,13 +4,17 @@
 // the models' (samples/README.md has the format). A part of the programs `replay_jobs`, `replay_conversions` and
 // `replay_tidyings`.
 #![tactic(auto)]
-ghost use Rattle.std.specs.Prelude.{◌≡◌, true, ◌+◌, ◌*◌, ◌<◌, ◌≤◌, length};
-ghost use Rattle.io.specs.Counts.{IsPrefixLen};
+
+ghost use Rattle.std.specs.Prelude.{◌≡◌, true, ◌+◌, ◌*◌, ◌<◌, ◌≤◌, length, IfOk};
+ghost use Rattle.std.specs.Io.{ReadsAtMost};
 ghost use Rattle.text.specs.Limits.{listing_room, text_room};
 ghost use Rattle.listing.specs.Listing.{Prints};
 ghost use Rattle.text_convert.specs.Converted.{Converts};
 ghost use Rattle.text_tidy.specs.Tidied.{Tidies, tidy_room};
 
+use std::io;
+use std::io::Read;
+use streams::{large_buffer, read_full};
 use terms::Pass;
 use text::{LISTING_ROOM, TEXT_ROOM};
 
@@ -48,24 +52,24 @@ fn line_room() -> [u8; 128]
 }
 
 // Reads a line of standard input, at most as long as `line`: how many bytes stand before its LF.
-fn read_line(line: &mut [u8]) -> usize
-    ensures { result ≤ length line.new }
+fn read_line(input: &mut impl Read, line: &mut [u8]) -> io::Result<usize>
+    ensures { IfOk result (λ n. n ≤ length line.new) }
 {
     let mut i = 0;
     while i < line.len() {
         let mut one = [0u8; 1];
-        let got = io::read_full(0, &mut one);
+        let got = read_full(input, &mut one)?;
         if got == 0 {
-            return i;
+            return Ok(i);
         }
         let b = one[0];
         if b == 10 {
-            return i;
+            return Ok(i);
         }
         line[i] = b;
         i += 1;
     }
-    i
+    Ok(i)
 }
 
 // Where the word begins that ends at `end`: behind the last space before it.
@@ -109,11 +113,11 @@ fn number_in(line: &[u8], from: usize, to: usize) -> usize
 }
 
 // Reads n bytes of standard input to the front of `buf`, or as many as there are.
-fn read_part(buf: &mut [u8], n: usize) -> usize
+fn read_part(input: &mut impl Read, buf: &mut [u8], n: usize) -> io::Result<usize>
     requires { n ≤ length buf.old }
-    ensures { IsPrefixLen result buf.new }
+    ensures { ReadsAtMost result buf.new }
 {
-    io::read_full(0, &mut buf[..n])
+    read_full(input, &mut buf[..n])
 }
 
 // Whether the text is answered by the stored listing, over a row of records or over a flat queue, by this pass.
@@ -123,7 +127,7 @@ fn is_owed(text: &[u8], owed: &[u8], out: &mut [u8], records: bool, pass: Pass) 
         (result ≡ true → owes) × (owes → result ≡ true) }
 {
     let n = text_answer::run_text_by(text, out, records, pass);
-    check::same(&out[..n], owed)
+    &out[..n] == owed
 }
 
 // Whether the text is converted to the stored one.
@@ -133,7 +137,7 @@ fn is_converted(text: &[u8], owed: &[u8], out: &mut [u8]) -> bool
         (result ≡ true → owes) × (owes → result ≡ true) }
 {
     let n = text_convert::convert_text(text, out);
-    check::same(&out[..n], owed)
+    &out[..n] == owed
 }
 
 // Whether the text is tidied to the stored one.
@@ -143,119 +147,129 @@ fn is_tidied(text: &[u8], owed: &[u8], out: &mut [u8]) -> bool
         (result ≡ true → owes) × (owes → result ≡ true) }
 {
     let n = text_tidy::tidy_text(text, out);
-    check::same(&out[..n], owed)
+    &out[..n] == owed
 }
 
 // Says that a text's answer differs: one difference.
-fn print_difference(number: u64) -> u64
-    ensures { result ≡ 1 }
+fn print_difference(rt: &impl Print, number: u64) -> io::Result<u64>
+    ensures { IfOk result (λ n. n ≡ 1) }
 {
-    io::write_all(1, b"difference text=");
-    io::print_decimal(1, number);
-    io::write_all(1, b"\n");
-    1
+    println!(rt; "difference text={number}")?;
+    Ok(1)
 }
 
 // How many differences the listing of a job shows, 0 or 1. Each answer has bytes of its own, so that none is taken for
 // another's.
-fn lists_otherwise(text: &[u8], owed: &[u8], number: u64, records: bool, quick: bool) -> u64
-    ensures { result ≤ 1 }
+fn lists_otherwise(
+    rt: &impl Print,
+    text: &[u8],
+    owed: &[u8],
+    number: u64,
+    records: bool,
+    quick: bool,
+) -> io::Result<u64>
+    ensures { IfOk result (λ n. n ≤ 1) }
 {
     let mut out = listing_room();
     let pass = if quick { Pass::Quick } else { Pass::Plain };
     if is_owed(text, owed, &mut out, records, pass) {
-        return 0;
+        return Ok(0);
     }
-    io::write_all(1, b"records=");
-    io::print_decimal(1, if records { 1 } else { 0 });
-    io::write_all(1, b" quick=");
-    io::print_decimal(1, if quick { 1 } else { 0 });
-    io::write_all(1, b" ");
-    print_difference(number)
+    print!(rt; "records={} quick={} ", records as u8, quick as u8)?;
+    print_difference(rt, number)
 }
 
 // The same over both queues and by both passes.
-fn job_differs(text: &[u8], owed: &[u8], number: u64) -> u64
-    ensures { result ≤ 4 }
+fn job_differs(rt: &impl Print, text: &[u8], owed: &[u8], number: u64) -> io::Result<u64>
+    ensures { IfOk result (λ n. n ≤ 4) }
 {
-    let flat_plain = lists_otherwise(text, owed, number, false, false);
-    let flat_quick = lists_otherwise(text, owed, number, false, true);
-    let row_plain = lists_otherwise(text, owed, number, true, false);
-    let row_quick = lists_otherwise(text, owed, number, true, true);
-    flat_plain + flat_quick + row_plain + row_quick
+    let flat_plain = lists_otherwise(rt, text, owed, number, false, false)?;
+    let flat_quick = lists_otherwise(rt, text, owed, number, false, true)?;
+    let row_plain = lists_otherwise(rt, text, owed, number, true, false)?;
+    let row_quick = lists_otherwise(rt, text, owed, number, true, true)?;
+    Ok(flat_plain + flat_quick + row_plain + row_quick)
 }
 
 // How many differences the conversion of a text shows, 0 or 1.
-fn conversion_differs(text: &[u8], owed: &[u8], number: u64) -> u64
-    ensures { result ≤ 1 }
+fn conversion_differs(rt: &impl Print, text: &[u8], owed: &[u8], number: u64) -> io::Result<u64>
+    ensures { IfOk result (λ n. n ≤ 1) }
 {
     let mut out = text_room();
     if is_converted(text, owed, &mut out) {
-        return 0;
+        return Ok(0);
     }
-    print_difference(number)
+    print_difference(rt, number)
 }
 
 // How many differences the tidying of a text shows, 0 or 1.
-fn tidying_differs(text: &[u8], owed: &[u8], number: u64) -> u64
-    ensures { result ≤ 1 }
+fn tidying_differs(rt: &impl Print, text: &[u8], owed: &[u8], number: u64) -> io::Result<u64>
+    ensures { IfOk result (λ n. n ≤ 1) }
 {
-    let mut out = io::large_buffer();
+    let mut out = large_buffer();
     if is_tidied(text, owed, &mut out) {
-        return 0;
+        return Ok(0);
     }
-    print_difference(number)
+    print_difference(rt, number)
 }
 
 // Reads the text that the header line of n bytes announces, and what is owed to it: how many differences there are.
-fn differs(line: &[u8], n: usize, number: u64, program: Program) -> u64
+fn differs(
+    rt: &impl Print,
+    input: &mut impl Read,
+    line: &[u8],
+    n: usize,
+    number: u64,
+    program: Program,
+) -> io::Result<u64>
     requires { n ≤ length line.now }
-    ensures { result ≤ 4 }
+    ensures { IfOk result (λ found. found ≤ 4) }
 {
     let last = word_start(line, n);
     let end = before_space(last);
     let before = word_start(line, end);
     let owed_bytes = number_in(line, last, n);
     let text_bytes = number_in(line, before, end);
-    let mut text = io::large_buffer();
-    let mut owed = io::large_buffer();
-    let t = read_part(&mut text, text_bytes);
-    let o = read_part(&mut owed, owed_bytes);
+    let mut text = large_buffer();
+    let mut owed = large_buffer();
+    let t = read_part(input, &mut text, text_bytes)?;
+    let o = read_part(input, &mut owed, owed_bytes)?;
     match program {
-        Program::Job => job_differs(&text[..t], &owed[..o], number),
-        Program::Converter => conversion_differs(&text[..t], &owed[..o], number),
-        Program::Tidier => tidying_differs(&text[..t], &owed[..o], number),
+        Program::Job => job_differs(rt, &text[..t], &owed[..o], number),
+        Program::Converter => conversion_differs(rt, &text[..t], &owed[..o], number),
+        Program::Tidier => tidying_differs(rt, &text[..t], &owed[..o], number),
     }
 }
 
-fn replay_all(program: Program) -> Tally
-    ensures { result.differences ≤ 4 * result.texts }
+fn replay_all(rt: &impl Print, input: &mut impl Read, program: Program) -> io::Result<Tally>
+    ensures { IfOk result (λ tally. tally.differences ≤ 4 * tally.texts) }
 {
     let mut line = line_room();
     let mut texts: u64 = 0;
     let mut differences: u64 = 0;
     // A loop has to end, and nothing says that the input does.
     while texts < 1000000 {
-        let n = read_line(&mut line);
+        let n = read_line(input, &mut line)?;
         if n == 0 {
-            return Tally { texts, differences };
+            return Ok(Tally { texts, differences });
         }
-        differences += differs(&line, n, texts, program);
+        differences += differs(rt, input, &line, n, texts, program)?;
         texts += 1;
     }
-    Tally { texts, differences }
+    Ok(Tally { texts, differences })
 }
 
 // Replays the texts of a program. Prints a line for each difference, and last how many texts there were, after `key`,
 // and how many differences in all.
-pub fn replay(program: Program, key: &[u8]) -> Tally
-    ensures { result.differences ≤ 4 * result.texts }
+pub fn replay(
+    rt: &impl Print,
+    input: &mut impl Read,
+    program: Program,
+    key: &[u8],
+) -> io::Result<Tally>
+    ensures { IfOk result (λ tally. tally.differences ≤ 4 * tally.texts) }
 {
-    let tally = replay_all(program);
-    io::write_all(1, key);
-    io::print_decimal(1, tally.texts);
-    io::write_all(1, b" differences=");
-    io::print_decimal(1, tally.differences);
-    io::write_all(1, b"\n");
-    tally
+    let tally = replay_all(rt, input, program)?;
+    rt.write_all(key)?;
+    println!(rt; "{} differences={}", tally.texts, tally.differences)?;
+    Ok(tally)
 }

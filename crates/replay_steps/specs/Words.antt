@@ -1,9 +1,8 @@
 -- The text of the sample as a list of bytes (samples/README.md has the format): words of eight hex digits, each with one byte after it, so word n
 -- begins at byte 9 n. What a word, a float, a point, a cell and a grid of a case are, and when a stored value is the port's. Definitions only.
-use Rattle.std.specs.Prelude.{Bool, ◌&&◌, List, ℕ, ◌+◌, ◌-◌, ◌*◌, ◌/◌, ltb, leb, eqb, length, get_or, Float}
+use Rattle.std.specs.Prelude.{Bool, ◌&&◌, List, ℕ, ◌+◌, ◌-◌, ◌*◌, ◌/◌, ltb, leb, eqb, length, get_or, Float, if◌then◌else◌}
 use Rattle.std.specs.Float.{binary32}
 use Rattle.std.specs.Float.Ieee.{of_bits, to_bits}
-use Rattle.float.specs.Arith.{if◌then◌else◌}
 use Rattle.c_records.specs.declared.SdfPoint.{SdfPoint}
 use Rattle.c_records.specs.declared.SdfCell.{SdfCell}
 use Rattle.c_records.specs.declared.SdfGrid.{SdfGrid}
@@ -12,10 +11,10 @@ use Rattle.c_records.specs.declared.SdfGrid.{SdfGrid}
 unfoldable pub sample_digit : ℕ → ℕ
 sample_digit b =
     if ltb b 48 then 0
-    else if ltb b 58 then b - 48
-    else if ltb b 97 then 0
-    else if ltb b 103 then b - 87
-    else 0
+    else (if ltb b 58 then b - 48
+    else (if ltb b 97 then 0
+    else (if ltb b 103 then b - 87
+    else 0)))
 
 -- two digits
 unfoldable pub sample_byte : List ℕ → ℕ → ℕ

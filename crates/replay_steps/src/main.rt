@@ -3,11 +3,15 @@
 // the unmodified Rust, or document 01's refusals (samples/README.md has the format). Prints a line for each
 // difference, and last how many cases and differences there were.
 #![tactic(auto)]
+
 mod geometry;
 mod grids;
 mod words;
 
-ghost use Rattle.std.specs.Prelude.{◌<◌, ◌≤◌};
+ghost use Rattle.std.specs.Prelude.{◌<◌, ◌≤◌, IfOk};
+
+use std::io;
+use streams::{large_buffer, read_full};
 
 // The steps, by their number.
 
@@ -68,17 +72,13 @@ struct Tally {
     differences: u64,
 }
 
-fn tell(case: u64, step: u32) {
-    io::write_all(1, b"difference case=");
-    io::print_decimal(1, case);
-    io::write_all(1, b" step=");
-    io::print_decimal(1, step as u64);
-    io::write_all(1, b"\n");
+fn tell(rt: &impl Print, case: u64, step: u32) -> io::Result<()> {
+    println!(rt; "difference case={case} step={step}")
 }
 
 // Asks the case that begins with word `base`, which is case number `case`: how many differences, 0 or 1.
-fn differs(text: &[u8], base: usize, case: u64) -> u64
-    ensures { result ≤ 1 }
+fn differs(rt: &impl Print, text: &[u8], base: usize, case: u64) -> io::Result<u64>
+    ensures { IfOk result (λ n. n ≤ 1) }
 {
     let step = words::word(text, base, 0);
     let of_grid = (8 <= step) & (step < 19);
@@ -88,34 +88,30 @@ fn differs(text: &[u8], base: usize, case: u64) -> u64
         geometry_step(text, base, step)
     };
     if same {
-        return 0;
+        return Ok(0);
     }
-    tell(case, step);
-    1
+    tell(rt, case, step)?;
+    Ok(1)
 }
 
-fn replay(text: &[u8]) -> Tally
-    ensures { result.differences ≤ result.cases }
+fn replay(rt: &impl Print, text: &[u8]) -> io::Result<Tally>
+    ensures { IfOk result (λ tally. tally.differences ≤ tally.cases) }
 {
     let words = text.len() / 9;
     let mut cases: u64 = 0;
     let mut differences: u64 = 0;
     let mut base: usize = 0;
     while base < words {
-        differences += differs(text, base, cases);
+        differences += differs(rt, text, base, cases)?;
         cases += 1;
         base += case_words(words::word(text, base, 0));
     }
-    Tally { cases, differences }
+    Ok(Tally { cases, differences })
 }
 
-fn main() {
-    let mut text = io::large_buffer();
-    let n = io::read_full(0, &mut text);
-    let tally = replay(&text[..n]);
-    io::write_all(1, b"cases=");
-    io::print_decimal(1, tally.cases);
-    io::write_all(1, b" differences=");
-    io::print_decimal(1, tally.differences);
-    io::write_all(1, b"\n");
+fn main(rt: HostRuntime) -> io::Result<()> {
+    let mut text = large_buffer();
+    let n = read_full(&mut rt.stdin(), &mut text)?;
+    let tally = replay(&rt, &text[..n])?;
+    println!(rt; "cases={} differences={}", tally.cases, tally.differences)
 }

@@ -2,7 +2,11 @@
 // written of it again (samples/README.md has the format). What it must print was made from the same files by a reader and
 // a writer of another language.
 #![tactic(auto)]
+
 ghost use Rattle.std.specs.Prelude.{◌≡◌, ◌+◌, ◌*◌, ◌<◌, ◌≤◌, length};
+
+use std::io;
+use std::io::Read;
 
 // A stored file has at most 80 facets.
 const MOST_FACETS: u32 = 80;
@@ -20,7 +24,7 @@ fn hex_digit(d: u32) -> u8
 }
 
 // The eight hex digits of a word.
-fn print_word(w: u32) {
+fn print_word(rt: &impl Print, w: u32) -> io::Result<()> {
     let mut out = [48u8; 8];
     let mut rest = w;
     let mut i: usize = 8;
@@ -29,124 +33,127 @@ fn print_word(w: u32) {
         out[i] = hex_digit(rest % 16);
         rest = rest / 16;
     }
-    io::write_all(1, &out);
+    rt.write_all(&out)
 }
 
 // A key and words of four bytes, from the place `from` on.
-fn print_words(key: &[u8], bytes: &[u8], from: usize, words: usize)
+fn print_words(
+    rt: &impl Print,
+    key: &[u8],
+    bytes: &[u8],
+    from: usize,
+    words: usize,
+) -> io::Result<()>
     requires { from + 4 * words ≤ length bytes.now }
 {
-    io::write_all(1, key);
+    rt.write_all(key)?;
     let mut i = 0;
     while i < words {
         if 0 < i {
-            io::write_all(1, b" ");
+            rt.write_all(b" ")?;
         }
-        print_word(stl::word(bytes, from + 4 * i));
+        print_word(rt, stl::word(bytes, from + 4 * i))?;
         i += 1;
     }
+    Ok(())
 }
 
 // A key and an answer: its number and its facets.
-fn print_answer(key: &[u8], answer: sdf::StlAnswer) {
-    io::write_all(1, key);
+fn print_answer(rt: &impl Print, key: &[u8], answer: sdf::StlAnswer) -> io::Result<()> {
+    rt.write_all(key)?;
     match answer {
-        sdf::StlAnswer::Refused(number) => {
-            io::print_decimal(1, number as u64);
-            io::write_all(1, b" 0\n");
-        }
-        sdf::StlAnswer::Facets(facets) => {
-            io::write_all(1, b"0 ");
-            io::print_decimal(1, facets as u64);
-            io::write_all(1, b"\n");
-        }
+        sdf::StlAnswer::Refused(number) => println!(rt; "{number} 0"),
+        sdf::StlAnswer::Facets(facets) => println!(rt; "0 {facets}"),
     }
 }
 
 // A line for a corner, whose numbers stand from `at` on.
-fn print_corner(vertices: &[f32], at: usize)
+fn print_corner(rt: &impl Print, vertices: &[f32], at: usize) -> io::Result<()>
     requires { at + 3 ≤ length vertices.now }
 {
-    io::write_all(1, b"v=");
-    print_word(float_bits::bits_of(vertices[at]));
-    io::write_all(1, b" ");
-    print_word(float_bits::bits_of(vertices[at + 1]));
-    io::write_all(1, b" ");
-    print_word(float_bits::bits_of(vertices[at + 2]));
-    io::write_all(1, b"\n");
+    rt.write_all(b"v=")?;
+    print_word(rt, float_bits::bits_of(vertices[at]))?;
+    rt.write_all(b" ")?;
+    print_word(rt, float_bits::bits_of(vertices[at + 1]))?;
+    rt.write_all(b" ")?;
+    print_word(rt, float_bits::bits_of(vertices[at + 2]))?;
+    rt.write_all(b"\n")
 }
 
-fn print_corners(vertices: &[f32], corners: usize)
+fn print_corners(rt: &impl Print, vertices: &[f32], corners: usize) -> io::Result<()>
     requires { 3 * corners ≤ length vertices.now }
 {
     let mut i = 0;
     while i < corners {
-        print_corner(vertices, 3 * i);
+        print_corner(rt, vertices, 3 * i)?;
         i += 1;
     }
+    Ok(())
 }
 
 // A line for the record that stands at `at`: twelve words, and the last two bytes as one more.
-fn print_record(file: &[u8], at: usize)
+fn print_record(rt: &impl Print, file: &[u8], at: usize) -> io::Result<()>
     requires { at + 50 ≤ length file.now }
 {
-    print_words(b"f=", file, at, 12);
-    io::write_all(1, b" ");
-    print_word(stl::word(file, at + 46) / 65536);
-    io::write_all(1, b"\n");
+    print_words(rt, b"f=", file, at, 12)?;
+    rt.write_all(b" ")?;
+    print_word(rt, stl::word(file, at + 46) / 65536)?;
+    rt.write_all(b"\n")
 }
 
 // A file that was written: its head, and its records.
-fn print_file(file: &[u8], facets: usize)
+fn print_file(rt: &impl Print, file: &[u8], facets: usize) -> io::Result<()>
     requires { length file.now ≡ 84 + 50 * facets }
 {
-    print_words(b"h=", file, 0, 21);
-    io::write_all(1, b"\n");
+    print_words(rt, b"h=", file, 0, 21)?;
+    rt.write_all(b"\n")?;
     let mut k = 0;
     while k < facets {
-        print_record(file, 84 + 50 * k);
+        print_record(rt, file, 84 + 50 * k)?;
         k += 1;
     }
+    Ok(())
 }
 
 // The corners that were read, written again into lent bytes of the right length.
-fn show_written(corners: &[f32], again: &mut [u8], facets: usize)
+fn show_written(rt: &impl Print, corners: &[f32], again: &mut [u8], facets: usize) -> io::Result<()>
     requires { length again.old ≡ 84 + 50 * facets }
 {
     let written = sdf::write_stl(corners, again);
-    print_answer(b"write=", written);
-    print_file(again, facets);
+    print_answer(rt, b"write=", written)?;
+    print_file(rt, again, facets)
 }
 
 // The corners of a file, into a lent buffer of the right length, and what is written of them again.
-fn show_corners(file: &[u8], corners: &mut [f32], facets: usize)
+fn show_corners(rt: &impl Print, file: &[u8], corners: &mut [f32], facets: usize) -> io::Result<()>
     requires facets_bound { facets ≤ 80 }
     requires corners_len { length corners.old ≡ 9 * facets }
 {
     let read = sdf::read_stl(file, corners);
-    print_answer(b"read=", read);
-    print_corners(corners, 3 * facets);
-    let mut again = io::buffer();
+    print_answer(rt, b"read=", read)?;
+    print_corners(rt, corners, 3 * facets)?;
+    let mut again = streams::buffer();
     let m = 84 + 50 * facets;
-    show_written(corners, &mut again[..m], facets);
+    show_written(rt, corners, &mut again[..m], facets)
 }
 
-fn show_read(file: &[u8], facets: usize)
+fn show_read(rt: &impl Print, file: &[u8], facets: usize) -> io::Result<()>
     requires { facets ≤ 80 }
 {
     let mut corners = numbers();
     let n = 9 * facets;
-    show_corners(file, &mut corners[..n], facets);
+    show_corners(rt, file, &mut corners[..n], facets)
 }
 
-fn show(file: &[u8]) {
+fn show(rt: &impl Print, file: &[u8]) -> io::Result<()> {
     let found = sdf::stl_count(file);
-    print_answer(b"facets=", found);
+    print_answer(rt, b"facets=", found)?;
     if let sdf::StlAnswer::Facets(facets) = found {
         if facets <= MOST_FACETS {
-            show_read(file, facets as usize);
+            show_read(rt, file, facets as usize)?;
         }
     }
+    Ok(())
 }
 
 // Reads the length that stands before a file, four bytes; false where the input ends.
@@ -156,51 +163,49 @@ struct Length {
     bytes: u32,
 }
 
-fn next_length() -> Length {
+fn next_length(input: &mut impl Read) -> io::Result<Length> {
     let mut four = [0u8; 4];
-    let got = io::read_full(0, &mut four);
+    let got = streams::read_full(input, &mut four)?;
     if got < 4 {
-        return Length {
+        return Ok(Length {
             read: false,
             bytes: 0,
-        };
+        });
     }
-    Length {
+    Ok(Length {
         read: true,
         bytes: stl::word(&four, 0),
-    }
+    })
 }
 
 // Reads the next file, number i, into the lent bytes, which it fills, and shows it.
-fn show_next(i: u64, file: &mut [u8]) {
-    let n = io::read_full(0, file);
-    io::write_all(1, b"file=");
-    io::print_decimal(1, i);
-    io::write_all(1, b" ");
-    io::print_decimal(1, n as u64);
-    io::write_all(1, b"\n");
-    show(&file[..n]);
+fn show_next(rt: &impl Print, input: &mut impl Read, i: u64, file: &mut [u8]) -> io::Result<()> {
+    let n = streams::read_full(input, file)?;
+    println!(rt; "file={i} {n}")?;
+    show(rt, &file[..n])
 }
 
-fn show_file(i: u64, bytes: usize)
+fn show_file(rt: &impl Print, input: &mut impl Read, i: u64, bytes: usize) -> io::Result<()>
     requires { bytes ≤ 4096 }
 {
-    let mut room = io::buffer();
-    show_next(i, &mut room[..bytes]);
+    let mut room = streams::buffer();
+    show_next(rt, input, i, &mut room[..bytes])
 }
 
-fn main() {
+fn main(rt: HostRuntime) -> io::Result<()> {
+    let mut input = rt.stdin();
     let mut i: u64 = 0;
     // A loop has to end, and nothing says that the input does.
     while i < 1000000 {
-        let next = next_length();
+        let next = next_length(&mut input)?;
         if !next.read {
-            return;
+            return Ok(());
         }
         if 4096 < next.bytes {
-            return;
+            return Ok(());
         }
-        show_file(i, next.bytes as usize);
+        show_file(&rt, &mut input, i, next.bytes as usize)?;
         i += 1;
     }
+    Ok(())
 }

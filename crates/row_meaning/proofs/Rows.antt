@@ -1,5 +1,6 @@
 -- A magnitude has no sign bit, so the value has one exactly where it was negated. A row, a sum of weights that are 1 or 0, counts the cells that
 -- have one; where the weights are 2, 1 or 0 it is two counts. And each cell is in one layer, so all rows together are all cells. Assumes nothing.
+use Rattle.std.specs.Prelude.{if◌then◌else◌}
 use Prim.Native.Nat.{ℕ, ◌+◌, ◌*◌, ◌<◌}
 use mathlib.Core.Path.{◌≡◌, refl, sym, ap, ap₂, ◌∙◌}
 use mathlib.Core.Bool.{Bool, true, false, ◌&&◌, cond, true≢false}
@@ -7,7 +8,6 @@ use mathlib.Core.List.{List}
 use lib.Dec.{eqb}
 use lib.ListN.{length, get_or}
 use lib.Ieee.{Float, nan, inf, fin, neg}
-use Rattle.float.specs.Arith.{if◌then◌else◌}
 use Rattle.float.specs.Steps.{sign_bit}
 use Rattle.float.specs.Distance.{unsigned}
 use Rattle.lists.specs.Range.{sum_below}

@@ -1,11 +1,11 @@
 -- Two meshes with the same vertices that name the same triangles in the same order are one to the run, to the rays and to the signs: these
 -- look at a mesh through its vertices and its triangles alone. Assumes nothing.
+use Rattle.std.specs.Prelude.{if◌then◌else◌}
 use Prim.Native.Nat.{ℕ, ◌+◌, ◌*◌, ◌/◌}
 use mathlib.Core.Path.{◌≡◌, refl, ap}
 use mathlib.Core.List.{List}
 use lib.ListN.{length, get_or}
 use lib.Ieee.{Float, nan, neg}
-use Rattle.float.specs.Arith.{if◌then◌else◌}
 use Rattle.lists.specs.Range.{count_below, sum_below}
 use Rattle.lists.specs.Table.{table}
 use Rattle.terms.specs.declared.SignMethod.{SignMethod}

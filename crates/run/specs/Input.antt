@@ -1,6 +1,6 @@
 -- What the run is told of a job's grid, mesh and method of signs (document 01, "The run", 1 and 3; document 02, §8). Definitions only.
-use Rattle.std.specs.Prelude.{ℕ, ◌+◌, ◌-◌, ◌&&◌, ltb, length, Float}
-use Rattle.float.specs.Arith.{◌≺◌, if◌then◌else◌}
+use Rattle.std.specs.Prelude.{ℕ, ◌+◌, ◌-◌, ◌&&◌, ltb, length, Float, if◌then◌else◌}
+use Rattle.float.specs.Arith.{◌≺◌}
 use Rattle.terms.specs.declared.SignMethod.{SignMethod}
 use Rattle.point.specs.declared.Point.{Point}
 use Rattle.point.specs.declared.Axis.{Axis}

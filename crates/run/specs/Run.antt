@@ -1,10 +1,10 @@
 -- "The run, from document 000" (document 01), steps 1 to 3, in the words of that section and over what the run is told of the grid,
 -- the mesh and the lent queue: which cells a triangle's snapped box has, how far a triangle is from a cell, which cells lie around a
 -- cell, which entry is taken first. Input.antt says what these are for a job. Definitions only.
-use Rattle.std.specs.Prelude.{ℕ, zero, suc, ◌+◌, max, Bool, List, [], ◌∷◌, ltb, length, get_or, set, replicate, Float}
+use Rattle.std.specs.Prelude.{ℕ, zero, suc, ◌+◌, max, Bool, List, [], ◌∷◌, ltb, length, get_or, set, replicate, Float, if◌then◌else◌}
 use Rattle.std.specs.Float.{nan}
 use Rattle.std.specs.Float.Ieee.{is_nan}
-use Rattle.float.specs.Arith.{◌≺◌, f_max, if◌then◌else◌}
+use Rattle.float.specs.Arith.{◌≺◌, f_max}
 use Rattle.float_order.specs.Nearer.{nearer, key_of}
 use Rattle.lists.specs.Turns.{Turn, goes, refuses, and_then, turns, through}
 use Rattle.grid.specs.declared.Cell.{Cell}
@@ -77,7 +77,7 @@ takes c k d s = record { field = set s.field c d; names = set s.names c k; waiti
 -- Triangle k, d away, is offered to cell c: "takes the triangle if its distance is smaller than what it holds", by "`compare_distances` in
 -- full". Refusal 6, "a distance met in seeding or spreading is NaN", is tested at each distance. `also` is what else a cell does that takes it.
 unfoldable pub offer_at : (Entry → State → Turn State) → ℕ → ℕ → Float → State → Turn State
-offer_at also k c d s = if is_nan d then refuses 6 else if nearer d (held s c) then also (entry d c k) (takes c k d s) else goes s
+offer_at also k c d s = if is_nan d then refuses 6 else (if nearer d (held s c) then also (entry d c k) (takes c k d s) else goes s)
 
 unfoldable pub offer : RunInput → (Entry → State → Turn State) → ℕ → ℕ → State → Turn State
 offer g also k c s = offer_at also k c (g.distance k c) s

@@ -2,10 +2,10 @@
 -- t adds one to that axis's count at each cell of the line whose number is at most floor(t / size); an infinite quotient reaches all of
 -- them. A cell with two or three odd counts has its distance negated; 0 becomes −0." (document 01, "The run", 4). A count is the
 -- number of triangles whose hit reaches the cell, with no order of rays or triangles in it. Definitions only.
-use Rattle.std.specs.Prelude.{ℕ, ◌+◌, ◌*◌, ◌/◌, ◌%◌, Bool, true, false, ◌&&◌, ◌||◌, List, leb, ltb, eqb, ℤ, pos, negsuc, length, get_or, Float}
+use Rattle.std.specs.Prelude.{ℕ, ◌+◌, ◌*◌, ◌/◌, ◌%◌, Bool, true, false, ◌&&◌, ◌||◌, List, leb, ltb, eqb, ℤ, pos, negsuc, length, get_or, Float, if◌then◌else◌}
 use Rattle.std.specs.Float.{nan}
 use Rattle.std.specs.Float.Ieee.{neg}
-use Rattle.float.specs.Arith.{◌⊘◌, ◌≺◌, ◌≐◌, f0, if◌then◌else◌}
+use Rattle.float.specs.Arith.{◌⊘◌, ◌≺◌, ◌≐◌, f0}
 use Rattle.float.specs.Steps.{abs_of, sign_bit}
 use Rattle.float_floor.specs.Cell.{floor_of}
 use Rattle.lists.specs.Range.{count_below, sum_below}
@@ -58,7 +58,7 @@ crossings g m axis c = count_below (crosses g m axis c) (length (triangles_in m)
 -- ---- "3 × cells (x, y, z of each cell in turn)": what the lent crossings hold
 
 abbrev pub axis_at : ℕ → Axis
-axis_at i = if eqb (i % 3) 0 then X else if eqb (i % 3) 1 then Y else Z
+axis_at i = if eqb (i % 3) 0 then X else (if eqb (i % 3) 1 then Y else Z)
 
 unfoldable pub crossings_at : Grid → Mesh → ℕ → ℕ
 crossings_at g m i = crossings g m (axis_at i) (cell_at g (i / 3))
@@ -97,7 +97,7 @@ whole_weight d = if sign_bit d then 1 else 0
 -- Edition 2: "Rows of edition 2 are in half cells: 2 for a set sign bit and a magnitude above zero, 1 for magnitude zero with either sign, 0
 -- otherwise" (document 02, §11)
 abbrev pub half_weight : Float → ℕ
-half_weight d = if sign_bit d && (f0 ≺ abs_of d) then 2 else if abs_of d ≐ f0 then 1 else 0
+half_weight d = if sign_bit d && (f0 ≺ abs_of d) then 2 else (if abs_of d ≐ f0 then 1 else 0)
 
 -- with what weight a cell's distance is added to its row; a job of another edition is refused
 abbrev pub row_weight : ℕ → Float → ℕ

@@ -1,9 +1,8 @@
 -- "offered to the cells around, itself included, by a fixed table of 27 steps from (−1,−1,−1) to (1,1,1), z fastest" (document 01,
 -- "The run", 3). Definitions only.
-use Rattle.std.specs.Prelude.{ℕ, ◌+◌, ◌-◌, Bool, true, ◌&&◌, List, [], ◌∷◌, ◌++◌, ltb, get_or}
+use Rattle.std.specs.Prelude.{ℕ, ◌+◌, ◌-◌, Bool, true, ◌&&◌, List, [], ◌∷◌, ◌++◌, ltb, get_or, if◌then◌else◌}
 use Rattle.point.specs.declared.Axis.{Axis}
 use Rattle.point.specs.declared.Axis.TheVariants.{X, Y, Z}
-use Rattle.float.specs.Arith.{if◌then◌else◌}
 use Rattle.grid.specs.declared.Grid.{Grid}
 use Rattle.grid.specs.declared.Cell.{Cell}
 use Rattle.grid.specs.Axes.{count_on, cell_on, cell_by, on_every}

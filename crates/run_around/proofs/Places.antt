@@ -1,5 +1,6 @@
 -- Where the steps lead: the place that an index stands for, and that the turns of spreading an entry are the offers of its triangle to those
 -- places. Assumes nothing.
+use Rattle.std.specs.Prelude.{if◌then◌else◌}
 use Prim.Native.Nat.{ℕ, ◌<◌}
 use native.Mathlib.Omega.{arith}
 use mathlib.Core.Path.{◌≡◌, refl, sym, ap, ◌∙◌}
@@ -8,7 +9,6 @@ use mathlib.Core.List.{List}
 use lib.ListN.{length, get_or}
 use lib.Ieee.{Float, nan}
 use borrow.Author.Tests.{eq-eqb, ne_eqb}
-use Rattle.float.specs.Arith.{if◌then◌else◌}
 use Rattle.float_shortcut.specs.Shown.{signed_root}
 use Rattle.lists.proofs.Turns.{turns_same}
 use Rattle.terms.specs.declared.SignMethod.{SignMethod}

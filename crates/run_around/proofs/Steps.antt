@@ -1,5 +1,6 @@
 -- The table of steps in numbers says what `steps` says, and a step from a cell of the grid leads to the place that `step_from` names.
 -- The table's rule is one law over any list of steps. Assumes nothing.
+use Rattle.std.specs.Prelude.{if◌then◌else◌}
 use Prim.Native.Nat.{ℕ, zero, suc, ◌+◌, ◌*◌, ◌/◌, ◌%◌, ◌^◌, ◌≤◌, ◌<◌}
 use native.Mathlib.Nat.{not-suc-le-zero, le_of_suc-le-suc}
 use native.Mathlib.Omega.{arith}
@@ -9,7 +10,6 @@ use mathlib.Core.List.{List, [], ◌∷◌}
 use lib.ListN.{length, get_or}
 use lib.Ieee.{Float, nan}
 use borrow.Author.Tests.{ltb-true, eq-eqb, ne_eqb}
-use Rattle.float.specs.Arith.{if◌then◌else◌}
 use Rattle.float_shortcut.specs.Shown.{signed_root}
 use Rattle.terms.specs.declared.SignMethod.{SignMethod}
 use Rattle.point.specs.declared.Axis.TheVariants.{X, Y, Z}

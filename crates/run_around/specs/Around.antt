@@ -1,8 +1,7 @@
 -- "offered to the cells around, itself included, by a fixed table of 27 steps" (document 01, "The run", 3): the table in numbers, where
 -- its steps lead, and the signed squares there. Definitions only.
-use Rattle.std.specs.Prelude.{ℕ, zero, suc, ◌+◌, ◌*◌, ◌/◌, ◌%◌, ◌<◌, ◌≡◌, List, map, eqb, length, get_or, Float}
+use Rattle.std.specs.Prelude.{ℕ, zero, suc, ◌+◌, ◌*◌, ◌/◌, ◌%◌, ◌<◌, ◌≡◌, List, map, eqb, length, get_or, Float, if◌then◌else◌}
 use Rattle.std.specs.Float.{nan}
-use Rattle.float.specs.Arith.{if◌then◌else◌}
 use Rattle.float_shortcut.specs.Shown.{signed_root}
 use Rattle.lists.specs.Table.{table}
 use Rattle.lists.specs.Turns.{Turn, goes, turns}

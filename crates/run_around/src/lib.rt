@@ -1,6 +1,7 @@
 // The cells around a cell: where the 27 steps lead from it, and the signed squares of a triangle's
 // distance from there (document 01, "The run", 3). A part of the port: users call `sdf`.
 #![tactic(auto)]
+
 ghost use Rattle.std.specs.Prelude.{◌≡◌, true, ◌<◌, length};
 ghost use Rattle.grid.specs.Bounds.{in_bounds};
 ghost use Rattle.grid.specs.Index.{Inside, total};

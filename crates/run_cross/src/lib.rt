@@ -5,6 +5,7 @@
 // `run_cross_marks` which lines of a row may be hit or grazed, `run_cross_hits` counts them, `run_cross_rows` takes the
 // rows one after the other, and `run_cross_back` sums what the quick pass has marked back along the lines.
 #![tactic(auto)]
+
 ghost use Rattle.std.specs.Prelude.{◌≡◌, true, ◌*◌, ◌≤◌, length, replicate};
 ghost use Rattle.grid.specs.Index.{total};
 ghost use Rattle.grid.specs.Bounds.{in_bounds};

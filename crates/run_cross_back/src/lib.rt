@@ -3,6 +3,7 @@
 // after it on its line. The cells are gone through once for all three axes, as they lie, the last one first: the next cell
 // of a line has the higher index, so that its sum is there already. A part of the port: users call `sdf`.
 #![tactic(auto)]
+
 ghost use Rattle.std.specs.Prelude.{◌≡◌, true, ◌+◌, ◌*◌, ◌^◌, ◌<◌, length};
 ghost use Rattle.grid.specs.Index.{total};
 ghost use Rattle.grid.specs.Bounds.{in_bounds};

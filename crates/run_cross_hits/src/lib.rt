@@ -2,6 +2,7 @@
 // the last of them alone; and a graze is counted by itself. Only the lines that may be hit or grazed are asked. A part of
 // the port: users call `sdf`.
 #![tactic(auto)]
+
 ghost use Rattle.std.specs.Prelude.{◌≡◌, true, cond, ◌*◌, ◌<◌, ◌≤◌, length};
 ghost use Rattle.grid.specs.Axes.{count_on, next};
 ghost use Rattle.grid.specs.Index.{total};

@@ -1,5 +1,6 @@
 -- Every cell is one number of one line along each axis, and every entry is that of one cell and one axis. So an entry is found by
 -- its axis, its line and its number on the line, and only so. Once over the three axes. Assumes nothing.
+use Rattle.std.specs.Prelude.{if◌then◌else◌}
 use Prim.Native.Nat.{ℕ, zero, suc, ◌+◌, ◌*◌, ◌/◌, ◌%◌, ◌<◌}
 use native.Mathlib.Nat.{mod-lt}
 use native.Mathlib.Omega.{arith}
@@ -12,7 +13,6 @@ use Rattle.grid.specs.declared.Cell.{Cell}
 use Rattle.grid.specs.Axes.{count_on, cell_on, cell_numbered, next, cell_from}
 use Rattle.grid.specs.Index.{Inside, index_of, cell_at, total, stride_on}
 use Rattle.grid.proofs.Laws.{index_below, index_of_cell, index_injective, index_along, cell_within}
-use Rattle.float.specs.Arith.{if◌then◌else◌}
 use Rattle.run.specs.Signs.{axis_at}
 use Rattle.run_cross_lines.specs.Lines.{u_of, v_of, axis_number, entry_of}
 
@@ -93,7 +93,7 @@ entry_along g axis first j u v = omega (arith, index_on_line g axis (first + j) 
 axis_place : (i : ℕ) → axis_number (axis_at i) ≡ i % 3
 axis_place i = go (i % 3) (mod-lt i (lit< tt))
   where
-    go : (r : ℕ) → r < 3 → axis_number (if eqb r 0 then X else if eqb r 1 then Y else Z) ≡ r
+    go : (r : ℕ) → r < 3 → axis_number (if eqb r 0 then X else (if eqb r 1 then Y else Z)) ≡ r
     go zero h = refl
     go (suc zero) h = refl
     go (suc (suc zero)) h = refl

@@ -1,4 +1,5 @@
 -- The ray of a line, from the parts that the pass works out once, and what its answer can be. Assumes nothing.
+use Rattle.std.specs.Prelude.{if◌then◌else◌}
 use Prim.Native.Nat.{ℕ, ◌+◌, ◌*◌, ◌/◌, ◌^◌, ◌≤◌, ◌<◌}
 use native.Mathlib.Decide.{dec_lt}
 use native.Mathlib.Omega.{arith}
@@ -9,7 +10,7 @@ use lib.Dec.{eqb}
 use lib.ListN.{length, get_or, replicate, length-replicate, get_or-replicate, get_or-eq_default}
 use lib.Ieee.{Float}
 use borrow.Author.Tests.{not-false}
-use Rattle.float.specs.Arith.{◌⊖◌, ◌⊘◌, ◌≺◌, f0, if◌then◌else◌}
+use Rattle.float.specs.Arith.{◌⊖◌, ◌⊘◌, ◌≺◌, f0}
 use Rattle.float.proofs.Bools.{and_second}
 use Rattle.float_floor.specs.Cell.{floor_of, cell_of}
 use Rattle.point.specs.declared.Axis.{Axis}
@@ -57,7 +58,7 @@ hit_ahead zs ys xs =
     let t = reach w0 w1 w2 xs.v0 xs.v1 xs.v2 in
     go t (hits w0 w1 w2 t) (grazes w0 w1 w2) (and_second (all_below w0 w1 w2 || all_above w0 w1 w2) (f0 ≺ t))
   where
-    go : (t : Float) (b c : Bool) → (b ≡ true → f0 ≺ t ≡ true) → ahead (if b then Hit t else if c then Grazed else Miss) ≡ true
+    go : (t : Float) (b c : Bool) → (b ≡ true → f0 ≺ t ≡ true) → ahead (if b then Hit t else (if c then Grazed else Miss)) ≡ true
     go t true c h = h refl
     go t false true h = refl
     go t false false h = refl

@@ -2,6 +2,7 @@
 // cells on the two other axes, in the order in which `Point::turned` reads the coordinates. The crossing
 // counts are 3 to a cell, one for each axis; here that is an entry. A part of the port: users call `sdf`.
 #![tactic(auto)]
+
 ghost use Rattle.std.specs.Prelude.{◌≡◌, true, ◌*◌, ◌^◌, ◌<◌};
 ghost use Rattle.grid.specs.Axes as Axes;
 ghost use Rattle.grid.specs.Index.{Inside, stride_on};

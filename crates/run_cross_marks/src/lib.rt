@@ -2,6 +2,7 @@
 // numbers is worked out once, and a loop over the lines of a row only tells which are to be asked. It has no branch, so
 // that it is compiled to vector code. A part of the port: users call `sdf`.
 #![tactic(auto)]
+
 ghost use Rattle.std.specs.Prelude.{◌≡◌, true, false, ℕ, ◌<◌, ◌≤◌, length};
 ghost use Rattle.grid.specs.Axes.{count_on};
 ghost use Rattle.grid.specs.Bounds.{in_bounds};

@@ -1,6 +1,7 @@
 // The run over the lent field, names and queue (document 01, "The run", 1 to 3): seeding, then queueing,
 // then spreading. A part of the port: users call `sdf`.
 #![tactic(auto)]
+
 ghost use Rattle.std.specs.Prelude.{length};
 ghost use Rattle.lists.specs.Turns.{and_then};
 ghost use Rattle.mesh.specs.Mesh.{mesh_of};

@@ -1,9 +1,12 @@
 // The job program (document 01, "One job, one listing"): standard input is a job's text, and its listing goes
 // to standard output, or `answer=9`. All that it decides is `text_answer::run_text`.
 #![tactic(auto)]
+
 ghost use Rattle.std.specs.Prelude.{◌≡◌, length};
 ghost use Rattle.text.specs.Limits.{listing_room};
 
+use std::io;
+use streams::{large_buffer, read_full};
 use text::LISTING_ROOM;
 
 fn room() -> [u8; LISTING_ROOM]
@@ -12,11 +15,11 @@ fn room() -> [u8; LISTING_ROOM]
     [0; LISTING_ROOM]
 }
 
-fn main() {
+fn main(rt: HostRuntime) -> io::Result<()> {
     // The longest text of a job has 37,499 bytes: one that fills the buffer is none.
-    let mut text = io::large_buffer();
-    let n = io::read_full(0, &mut text);
+    let mut text = large_buffer();
+    let n = read_full(&mut rt.stdin(), &mut text)?;
     let mut out = room();
     let m = text_answer::run_text(&text[..n], &mut out);
-    io::write_all(1, &out[..m]);
+    rt.write_all(&out[..m])
 }

@@ -1,6 +1,7 @@
 // Offers: the triangle of an entry that was taken is offered to the cells around its cell, and a cell that finds
 // it nearer takes it and queues an entry (document 01, "The run", 3). A part of the port: users call `sdf`.
 #![tactic(auto)]
+
 ghost use Rattle.std.specs.Prelude.{◌≡◌, ◌<◌, length};
 ghost use Rattle.float_shortcut.specs.Shown.{signed_root};
 ghost use Rattle.queue.specs.Keys.{by_keys};

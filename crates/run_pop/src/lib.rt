@@ -2,6 +2,7 @@
 // cell (document 01, "The run", 3). Older entries of a cell are not removed and still spread: what its cell holds by now
 // is not asked when an entry is taken. A part of the port: users call `sdf`.
 #![tactic(auto)]
+
 ghost use Rattle.std.specs.Prelude.{◌≡◌, ◌<◌};
 ghost use Rattle.lists.specs.Turns.{goes};
 ghost use Rattle.mesh.specs.Mesh.{mesh_of};

@@ -1,4 +1,5 @@
 -- An entry that is queued: the room is full and 7 is told, or the queue's `push` puts it in. Assumes nothing.
+use Rattle.std.specs.Prelude.{if◌then◌else◌}
 use Prim.Native.Nat.{ℕ, ◌+◌, ◌≤◌, ◌<◌, max}
 use mathlib.Core.Path.{◌≡◌, sym, ap, ◌∙◌}
 use mathlib.Core.Bool.{Bool, true, false}
@@ -7,7 +8,7 @@ use lib.Dec.{ltb}
 use lib.ListN.{length, get_or}
 use lib.Ieee.{Float, nan}
 use borrow.Author.Tests.{lt-ltb, le-ltb}
-use Rattle.float.specs.Arith.{◌≺◌, f_max, if◌then◌else◌}
+use Rattle.float.specs.Arith.{◌≺◌, f_max}
 use Rattle.float_order.specs.Nearer.{key_of}
 use Rattle.lists.specs.Turns.{goes, refuses, told}
 use Rattle.lists.proofs.Turns.{told_goes}

@@ -1,6 +1,7 @@
 // Queueing: each cell below f32::MAX becomes one entry, by cell index (document 01, "The run", 2). A part of the
 // port: users call `sdf`.
 #![tactic(auto)]
+
 ghost use Rattle.std.specs.Prelude.{◌≡◌, ◌≤◌, ◌<◌, max, length};
 ghost use Rattle.queue.specs.Keys.{by_keys};
 ghost use Rattle.queue.specs.Queue.{Held};

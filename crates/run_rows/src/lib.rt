@@ -5,6 +5,7 @@
 // Along any axis the field is a row of blocks. A block has the cells of every layer in turn, `step` of each side by side, where `step` is
 // by how much the index grows from a layer to the next: with z upright a block is one column of cells, with x upright the whole field.
 #![tactic(auto)]
+
 ghost use Rattle.std.specs.Prelude.{◌≡◌, true, ◌+◌, ◌*◌, ◌^◌, ◌≤◌, ◌<◌, length};
 ghost use Rattle.grid.specs.Index.{total};
 ghost use Rattle.grid.specs.Layers.{layers};

@@ -1,6 +1,7 @@
 // Seeding (document 01, "The run", 1): each triangle, in order, is offered to the cells of its snapped
 // box. A part of the port: users call `sdf`.
 #![tactic(auto)]
+
 ghost use Rattle.std.specs.Prelude.{◌≡◌, true, ◌^◌, ◌<◌, length};
 ghost use Rattle.lists.specs.Turns.{told, turns};
 ghost use Rattle.point.specs.declared.Axis.TheVariants.{X};

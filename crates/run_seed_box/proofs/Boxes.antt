@@ -1,10 +1,11 @@
 -- A snapped cell is on the grid, so its numbers are small; and the last cell of a box is on the grid too. Assumes nothing.
+use Rattle.std.specs.Prelude.{if◌then◌else◌}
 use mathlib.Core.Path.{◌≡◌}
 use mathlib.Core.Bool.{true, ◌&&◌}
 use Prim.Native.Nat.{ℕ, ◌+◌, ◌-◌, ◌^◌, ◌≤◌, ◌<◌}
 use lib.Dec.{ltb}
 use native.Mathlib.Omega.{arith}
-use Rattle.float.specs.Arith.{◌≺◌, if◌then◌else◌}
+use Rattle.float.specs.Arith.{◌≺◌}
 use Rattle.point.specs.declared.Point.{Point}
 use Rattle.point.specs.declared.Axis.TheVariants.{X, Y, Z}
 use Rattle.grid.specs.declared.Grid.{Grid}

@@ -1,8 +1,9 @@
 // The snapped box of a triangle: its first and its last cell (document 01, "The run", 1). A part of the port: users call
 // `sdf`.
 #![tactic(auto)]
-ghost use Rattle.std.specs.Prelude.{◌≡◌, true, ◌&&◌, ◌+◌, ◌-◌, ◌<◌, ltb};
-ghost use Rattle.float.specs.Arith.{◌≺◌, if◌then◌else◌};
+
+ghost use Rattle.std.specs.Prelude.{◌≡◌, true, ◌&&◌, ◌+◌, ◌-◌, ◌<◌, ltb, if◌then◌else◌};
+ghost use Rattle.float.specs.Arith.{◌≺◌};
 ghost use Rattle.grid.specs.Bounds.{in_bounds};
 ghost use Rattle.grid.specs.Place.{snap_cell};
 ghost use Rattle.run.specs.Input.{seed_first, seed_last};

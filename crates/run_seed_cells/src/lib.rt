@@ -1,6 +1,7 @@
 // Seeding's offers: a triangle is offered to a cell, which takes it if it is nearer (document 01, "The run", 1). And
 // the loops of seeding, as definitions. A part of the port: users call `sdf`.
 #![tactic(auto)]
+
 ghost use Rattle.std.specs.Prelude.{◌≡◌, ◌<◌, length};
 ghost use Rattle.float_shortcut.specs.Shown.{signed_root};
 ghost use Rattle.lists.specs.Turns.{told};

@@ -1,5 +1,6 @@
 // Seeding's offers, four cells of a line at a time. A part of the port: users call `sdf`.
 #![tactic(auto)]
+
 ghost use Rattle.std.specs.Prelude.{◌≡◌, true, ◌+◌, ◌≤◌, ◌<◌, length};
 ghost use Rattle.lists.specs.Turns.{told};
 ghost use Rattle.grid.specs.Axes.{cell_numbered};

@@ -1,6 +1,7 @@
 // Seeding along a line of cells: a triangle is offered to the cells of a line, four at a time. A part of the port: users call
 // `sdf`.
 #![tactic(auto)]
+
 ghost use Rattle.std.specs.Prelude.{◌≡◌, true, ◌+◌, ◌≤◌, ◌<◌, length};
 ghost use Rattle.lists.specs.Turns.{told};
 ghost use Rattle.grid.specs.Axes.{cell_numbered};

@@ -1,8 +1,7 @@
 -- The signs from lent counts. proofs/Parity.antt has that they make the run's `signed_field`. Definitions only.
-use Rattle.std.specs.Prelude.{ℕ, ◌+◌, ◌*◌, Bool, List, length, get_or, Float}
+use Rattle.std.specs.Prelude.{ℕ, ◌+◌, ◌*◌, Bool, List, length, get_or, Float, if◌then◌else◌}
 use Rattle.std.specs.Float.{nan}
 use Rattle.std.specs.Float.Ieee.{neg}
-use Rattle.float.specs.Arith.{if◌then◌else◌}
 use Rattle.lists.specs.Table.{table}
 use Rattle.run.specs.Signs.{two_odd}
 

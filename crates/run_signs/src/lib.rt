@@ -1,9 +1,9 @@
 // The signs: "a cell with two or three odd counts has its distance negated; 0 becomes −0" (document 01). A part of
 // the port: users call `sdf`.
 #![tactic(auto)]
-ghost use Rattle.std.specs.Prelude.{◌≡◌, ◌+◌, ◌*◌, ◌<◌, length};
+
+ghost use Rattle.std.specs.Prelude.{◌≡◌, ◌+◌, ◌*◌, ◌<◌, length, if◌then◌else◌};
 ghost use Rattle.std.specs.Float.Ieee.{neg};
-ghost use Rattle.float.specs.Arith.{if◌then◌else◌};
 ghost use Rattle.run.specs.Signs.{two_odd};
 ghost use Rattle.run_signs.specs.Sign.{inside_at, signed_by};
 

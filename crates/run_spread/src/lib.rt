@@ -1,6 +1,7 @@
 // Spreading: the waiting entries are taken one after the other, until none waits (document 01, "The run", 3). A part of the
 // port: users call `sdf`.
 #![tactic(auto)]
+
 ghost use Rattle.std.specs.Prelude.{◌≡◌};
 ghost use Rattle.mesh.specs.Mesh.{mesh_of};
 ghost use Rattle.run.specs.Run.{spreading};

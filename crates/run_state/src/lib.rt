@@ -1,6 +1,7 @@
 // How far a run has come, and how queueing and spreading tell what they did to the lent field, names and queue
 // (document 01, "The run", 2 and 3). A part of the port: users call `sdf`.
 #![tactic(auto)]
+
 ghost use Rattle.std.specs.Prelude.{◌≡◌};
 ghost use Rattle.run_state.specs.Told.{refused_by};
 

@@ -15,6 +15,7 @@
 //
 // The same for C stands in crate `sdf_c`.
 #![tactic(auto)]
+
 mod questions;
 
 // ---- what is asked about, and answered with

@@ -3,13 +3,7 @@
 ghost use Rattle.facet_index.specs.Index.{index_of};
 ghost use Rattle.facet_index.specs.Refusals.{Builds, Updates};
 
-#[unsafe(no_mangle)]
-pub extern "C" fn sdf_index_build(
-    triangles: u32,
-    names: &[u32],
-    starts: &mut [u32],
-    list: &mut [u32],
-) -> u32
+pub fn sdf_index_build(triangles: u32, names: &[u32], starts: &mut [u32], list: &mut [u32]) -> u32
     ensures { let lent = index_of starts.old list.old in
         let left = index_of starts.new list.new in
         Builds triangles names.now lent result left }
@@ -17,8 +11,7 @@ pub extern "C" fn sdf_index_build(
     sdf::index_build(triangles, names, starts, list)
 }
 
-#[unsafe(no_mangle)]
-pub extern "C" fn sdf_index_update(
+pub fn sdf_index_update(
     triangles: u32,
     old: &[u32],
     names: &[u32],

@@ -6,22 +6,19 @@ ghost use Rattle.c_stl.specs.Stl.{stl_out, GivesStl};
 
 use c_stl::{SdfStlAnswer, stl_out};
 
-#[unsafe(no_mangle)]
-pub extern "C" fn sdf_stl_facets(file: &[u8]) -> SdfStlAnswer
+pub fn sdf_stl_facets(file: &[u8]) -> SdfStlAnswer
     ensures { result ≡ stl_out (counting file.now) }
 {
     stl_out(sdf::stl_count(file))
 }
 
-#[unsafe(no_mangle)]
-pub extern "C" fn sdf_read_stl(file: &[u8], vertices: &mut [f32]) -> SdfStlAnswer
+pub fn sdf_read_stl(file: &[u8], vertices: &mut [f32]) -> SdfStlAnswer
     ensures { GivesStl (reading file.now vertices.old) result vertices.new }
 {
     stl_out(sdf::read_stl(file, vertices))
 }
 
-#[unsafe(no_mangle)]
-pub extern "C" fn sdf_write_stl(vertices: &[f32], file: &mut [u8]) -> SdfStlAnswer
+pub fn sdf_write_stl(vertices: &[f32], file: &mut [u8]) -> SdfStlAnswer
     ensures { GivesStl (writing vertices.now file.old) result file.new }
 {
     stl_out(sdf::write_stl(vertices, file))

@@ -10,43 +10,37 @@ use c_records::{
     SdfBoxAnswer, SdfDistanceAnswer, SdfOrderAnswer, SdfPoint, SdfPointAnswer, SdfRayAnswer,
 };
 
-#[unsafe(no_mangle)]
-pub extern "C" fn sdf_sqrt(x: f32) -> f32
+pub fn sdf_sqrt(x: f32) -> f32
     ensures { IsRoot x result }
 {
     sdf::sqrt(x)
 }
 
-#[unsafe(no_mangle)]
-pub extern "C" fn sdf_sqrt_bits(b: u32) -> u32
+pub fn sdf_sqrt_bits(b: u32) -> u32
     ensures { result ≡ root_bits b }
 {
     sdf::sqrt_bits(b)
 }
 
-#[unsafe(no_mangle)]
-pub extern "C" fn sdf_compare_distances(a: f32, b: f32) -> SdfOrderAnswer
+pub fn sdf_compare_distances(a: f32, b: f32) -> SdfOrderAnswer
     ensures { result ≡ C.compared_for_c a b }
 {
     c_geo::order_answer(sdf::compare(a, b))
 }
 
-#[unsafe(no_mangle)]
-pub extern "C" fn sdf_triangle_bounding_box(a: SdfPoint, b: SdfPoint, c: SdfPoint) -> SdfBoxAnswer
+pub fn sdf_triangle_bounding_box(a: SdfPoint, b: SdfPoint, c: SdfPoint) -> SdfBoxAnswer
     ensures { result ≡ C.triangle_box_for_c (asked_box (point_in a) (point_in b) (point_in c)) }
 {
     c_geo::triangle_box_answer(sdf::triangle_bounding_box(a.point(), b.point(), c.point()))
 }
 
-#[unsafe(no_mangle)]
-pub extern "C" fn sdf_closest_point_segment(p: SdfPoint, a: SdfPoint, b: SdfPoint) -> SdfPointAnswer
+pub fn sdf_closest_point_segment(p: SdfPoint, a: SdfPoint, b: SdfPoint) -> SdfPointAnswer
     ensures { result ≡ C.closest_for_c (asked_segment (point_in p) (point_in a) (point_in b)) }
 {
     c_geo::closest_answer(sdf::closest_point_segment(p.point(), a.point(), b.point()))
 }
 
-#[unsafe(no_mangle)]
-pub extern "C" fn sdf_closest_point_triangle(
+pub fn sdf_closest_point_triangle(
     p: SdfPoint,
     a: SdfPoint,
     b: SdfPoint,
@@ -57,8 +51,7 @@ pub extern "C" fn sdf_closest_point_triangle(
     c_geo::closest_answer(sdf::closest_point_triangle(p.point(), a.point(), b.point(), c.point()))
 }
 
-#[unsafe(no_mangle)]
-pub extern "C" fn sdf_point_triangle_distance(
+pub fn sdf_point_triangle_distance(
     p: SdfPoint,
     a: SdfPoint,
     b: SdfPoint,
@@ -69,8 +62,7 @@ pub extern "C" fn sdf_point_triangle_distance(
     c_geo::distance_answer(sdf::point_triangle_distance(p.point(), a.point(), b.point(), c.point()))
 }
 
-#[unsafe(no_mangle)]
-pub extern "C" fn sdf_point_triangle_signed_distance(
+pub fn sdf_point_triangle_signed_distance(
     p: SdfPoint,
     a: SdfPoint,
     b: SdfPoint,
@@ -87,8 +79,7 @@ pub extern "C" fn sdf_point_triangle_signed_distance(
 }
 
 // `axis` is 0 for x, 1 for y, and any other number for z.
-#[unsafe(no_mangle)]
-pub extern "C" fn sdf_ray_triangle_intersection_aligned(
+pub fn sdf_ray_triangle_intersection_aligned(
     o: SdfPoint,
     v0: SdfPoint,
     v1: SdfPoint,

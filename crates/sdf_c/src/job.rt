@@ -12,8 +12,7 @@ use sdf::Entry;
 
 // `topology` is 0 for a list and any other number for a strip, which is refused by 13; `given` is 0 where there are no
 // indices.
-#[unsafe(no_mangle)]
-pub extern "C" fn sdf_generate_grid_sdf(
+pub fn sdf_generate_grid_sdf(
     grid: SdfGrid,
     vertices: &[f32],
     topology: u32,
@@ -54,8 +53,7 @@ pub extern "C" fn sdf_generate_grid_sdf(
 }
 
 // The same with the queue as a row of records.
-#[unsafe(no_mangle)]
-pub extern "C" fn sdf_generate_grid_sdf_records(
+pub fn sdf_generate_grid_sdf_records(
     grid: SdfGrid,
     vertices: &[f32],
     topology: u32,

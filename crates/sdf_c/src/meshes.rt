@@ -10,8 +10,7 @@ use c_tidy::{SdfTidyAnswer, tidy_out};
 
 // `topology` is 0 for a list and any other number for a strip, which is refused by 13; `given` is 0 where there are no
 // indices.
-#[unsafe(no_mangle)]
-pub extern "C" fn sdf_tidy_mesh(
+pub fn sdf_tidy_mesh(
     vertices: &[f32],
     topology: u32,
     given: u32,

@@ -1,5 +1,6 @@
 // Small steps on lent slices: all of them filled, and numbers that grow by one. A part of the port: users call `sdf`.
 #![tactic(auto)]
+
 ghost use Rattle.std.specs.Prelude.{◌≡◌, cond, ◌+◌, ◌*◌, ◌<◌, length, replicate};
 ghost use Rattle.slices.specs.Counts.{Room, PlacesBelow, Stepped};
 

@@ -1,6 +1,7 @@
 // A scanner's file, binary STL, piece by piece (document 02, §1): a word of four bytes and the record of a facet, read and
 // written. What a file says as a whole is defined in specs/File.antt. A part of the port: users call `sdf`.
 #![tactic(auto)]
+
 ghost use Rattle.std.specs.Prelude.{◌+◌, ◌≤◌, ◌≡◌, length};
 ghost use Rattle.lists.specs.Put.{Put};
 ghost use Rattle.float_bits.specs.Patterns.{floats_of, bits_of};

@@ -1,6 +1,7 @@
 // A scanner's file, binary STL, read (document 02, §1): how many facets it has, and their corners as the vertices of a list
 // without indices. A part of the public face `sdf`, which users call.
 #![tactic(auto)]
+
 ghost use Rattle.std.specs.Prelude.{◌≡◌, ◌*◌, length};
 ghost use Rattle.lists.specs.Checks.{first_that_applies};
 ghost use Rattle.stl.specs.File.{count_in, length_for, corners_in};

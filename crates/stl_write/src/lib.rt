@@ -1,6 +1,7 @@
 // A scanner's file, binary STL, written (document 02, §1): header, normals and attributes zero, so that what is read
 // from it are the corners that were lent, bit for bit. A part of the public face `sdf`, which users call.
 #![tactic(auto)]
+
 ghost use Rattle.std.specs.Prelude.{◌≡◌, ◌*◌, ◌≤◌, length};
 ghost use Rattle.lists.specs.Checks.{first_that_applies};
 ghost use Rattle.lists.specs.Joined.{joined};

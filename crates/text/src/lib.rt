@@ -3,6 +3,7 @@
 // limits. The only code here are the program's limits and the records that are handed over. A part of the
 // port: users run the job program and the converter.
 #![tactic(auto)]
+
 ghost use Rattle.std.specs.Prelude.{◌≡◌};
 ghost use Rattle.text.specs.Limits.{most_indices};
 

@@ -1,6 +1,7 @@
 // A job's text answered by its listing (document 01, "One job, one listing"): what the job program does with
 // its input, as one function on lent bytes. A part of the port: users run the job program.
 #![tactic(auto)]
+
 ghost use Rattle.std.specs.Prelude.{◌≡◌, ◌<◌, ◌≤◌, length};
 ghost use Rattle.text.specs.Limits.{listing_room};
 ghost use Rattle.text.specs.Answering.{Answered, Front};

@@ -2,6 +2,7 @@
 // explicit indices, and a list as it is. What the converter does with its input, as one function on lent bytes. It is
 // about text: no job is refused for what it asks. A part of the port: users run the converter.
 #![tactic(auto)]
+
 ghost use Rattle.std.specs.Prelude.{◌≡◌, ◌<◌, ◌≤◌, length};
 ghost use Rattle.mesh_topology.specs.declared.Topology.TheVariants.{TriangleStrip};
 ghost use Rattle.lists.specs.Put.{Put};

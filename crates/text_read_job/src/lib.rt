@@ -7,6 +7,7 @@
 //   text_read_parts   the head, the vertices, the indices, the tail
 //   read_job          the whole text: the job that it is the text of, or that it is none
 #![tactic(auto)]
+
 ghost use Rattle.std.specs.Prelude.{◌≡◌, ◌≤◌, length};
 ghost use Rattle.text.specs.Limits.{coordinate_room, index_room};
 ghost use Rattle.text_read_job.specs.Reading.{Reads};

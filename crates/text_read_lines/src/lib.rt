@@ -1,6 +1,7 @@
 // The lines of the job's text: a key, and what stands behind it (document 01, "One job, one listing"). A
 // part of the reader: callers use `text_read_job::read_job`.
 #![tactic(auto)]
+
 ghost use Rattle.std.specs.Prelude.{◌≡◌, drop};
 ghost use Rattle.text.specs.Reader.{value_at, three_numbers, number_line, floats_line, few_cells, count_line};
 ghost use Rattle.text.specs.Reader.{upright_at, topology_line, sign_at, table_at};

@@ -1,6 +1,7 @@
 // The parts of the job's text: the lines before the vertices, the vertices, the indices, and the lines
 // after them (document 01, "One job, one listing"). A part of the reader: callers use `text_read_job::read_job`.
 #![tactic(auto)]
+
 ghost use Rattle.std.specs.Prelude.{◌≡◌, ◌*◌, ◌≤◌, length, take, drop};
 ghost use Rattle.text.specs.Limits.{coordinate_room, index_room};
 ghost use Rattle.text.specs.Reader.{head_at, vertex_line_at, vertices_at, index_at, indices_at, tail_at, lines_at};

@@ -2,6 +2,7 @@
 // function looks at one place of the text, and tells what stands there and the place behind it. A part of
 // the reader: callers use `text_read_job::read_job`.
 #![tactic(auto)]
+
 ghost use Rattle.std.specs.Prelude.{◌≡◌, drop};
 ghost use Rattle.text.specs.Reader.{hex_value, word_at, number_at, bits_at, value_at};
 ghost use Rattle.text_read_words.specs.Told.{got_next, got_number};

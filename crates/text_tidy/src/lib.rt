@@ -6,6 +6,7 @@
 //   kept       what is kept, as the text of a job
 //   whole      a text read, its mesh tidied, and what came of it printed
 #![tactic(auto)]
+
 mod kept;
 mod lines;
 mod patterns;

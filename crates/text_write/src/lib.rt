@@ -1,6 +1,7 @@
 // Text written into lent bytes: each function writes at a place and answers the place after what it wrote.
 // A part of the port: users run the job program.
 #![tactic(auto)]
+
 mod bytes;
 mod lines;
 mod numbers;

@@ -2,6 +2,7 @@
 // hold is written as the one text that the reader reads as it. A part of the port: users run the
 // converter.
 #![tactic(auto)]
+
 mod parts;
 mod whole;
 

@@ -1,6 +1,7 @@
 // A mesh tidied, and what went (document 02, §10). specs/ has what a tidied mesh is, proofs/ the laws that the request asks
 // for. The code here is what the search for repeats compares: three numbers at a time. A part of the port: users call `sdf`.
 #![tactic(auto)]
+
 ghost use Rattle.std.specs.Prelude.{◌≡◌};
 ghost use Rattle.tidy.specs.Same.{same_words};
 

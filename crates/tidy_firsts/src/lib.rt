@@ -2,6 +2,7 @@
 // entered one by one into a row of links, and each is looked for before it is entered. The row is lent: the
 // coordinates' output, which has three words for each vertex. A part of the port: users call `sdf`.
 #![tactic(auto)]
+
 ghost use Rattle.std.specs.Prelude.{◌≡◌, ◌+◌, ◌*◌, ◌^◌, ◌<◌, length};
 ghost use Rattle.float_bits.specs.Patterns.{bits_of};
 ghost use Rattle.lists.specs.Table.{table};

@@ -1,11 +1,15 @@
 // The tidier (document 02, §10): standard input is a job's text, and what went and the text of the tidied job go to
 // standard output, or `answer=` and a number. All that it decides is `text_tidy::tidy_text`.
 #![tactic(auto)]
-fn main() {
+
+use std::io;
+use streams::{large_buffer, read_full};
+
+fn main(rt: HostRuntime) -> io::Result<()> {
     // The longest text of a job has fewer than 40,000 bytes: one that fills the buffer is none.
-    let mut text = io::large_buffer();
-    let n = io::read_full(0, &mut text);
-    let mut out = io::large_buffer();
+    let mut text = large_buffer();
+    let n = read_full(&mut rt.stdin(), &mut text)?;
+    let mut out = large_buffer();
     let m = text_tidy::tidy_text(&text[..n], &mut out);
-    io::write_all(1, &out[..m]);
+    rt.write_all(&out[..m])
 }

@@ -2,6 +2,7 @@
 // kept triangle has are marked, and the marked ones numbered from 1 on. Marks and numbers stand in the last third of a
 // row of floats that is lent, the coordinates' output. A part of the port: users call `sdf`.
 #![tactic(auto)]
+
 ghost use Rattle.std.specs.Prelude.{◌≡◌, cond, ◌&&◌, ◌+◌, ◌*◌, ◌^◌, ◌<◌, ◌≤◌, length};
 ghost use Rattle.lists.specs.Range.{count_below};
 ghost use Rattle.mesh_topology.specs.Topology.{triangles_of};

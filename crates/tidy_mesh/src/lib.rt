@@ -2,6 +2,7 @@
 // the triangles, and what is kept. It takes no room beyond the lent outputs, which hold links and marks on the way. A
 // part of the public face `sdf`, which users call.
 #![tactic(auto)]
+
 ghost use Rattle.std.specs.Prelude.{◌≡◌, ◌≤◌};
 ghost use Rattle.tidy.specs.Tidy.{triangle_total};
 ghost use Rattle.mesh.specs.Mesh.{mesh_of};

@@ -5,6 +5,7 @@
 // or two as a rule. A link is 0, or the number of an item plus 1. What is found does not depend on how well the keys
 // are spread, which is all that this file decides. A part of the port: users call `sdf`.
 #![tactic(auto)]
+
 ghost use Rattle.std.specs.Prelude.{◌≡◌, ◌+◌, ◌*◌, ◌^◌, ◌<◌};
 ghost use Rattle.tidy_search.specs.Links.{mixed_of, head_link, turned_key, link_of};
 

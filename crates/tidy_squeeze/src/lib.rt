@@ -3,6 +3,7 @@
 // the front of the same row: a vertex is put no further back than where its own mark stands, which has been read by
 // then. A part of the port: users call `sdf`.
 #![tactic(auto)]
+
 ghost use Rattle.std.specs.Prelude.{◌≡◌, ◌+◌, ◌-◌, ◌*◌, ◌^◌, ◌<◌, ◌≤◌, length};
 ghost use Rattle.lists.specs.Range.{count_below};
 ghost use Rattle.lists.specs.Joined.{joined};

@@ -2,6 +2,7 @@
 // links and marks (document 02, §10, lends no room for them). The floats are only moved, never computed with. A part of
 // the port: users call `sdf`.
 #![tactic(auto)]
+
 ghost use Rattle.std.specs.Prelude.{◌≡◌, ◌^◌, ◌<◌, length, get_or, set};
 ghost use Rattle.float_bits.specs.Patterns.{bits_of};
 

@@ -1,9 +1,9 @@
 -- `geometry::sdf_compare_distances`: the order that an answer gives, or that it gives none, says which answer it is. Assumes nothing.
+use Rattle.std.specs.Prelude.{if◌then◌else◌}
 use mathlib.Core.Path.{◌≡◌, refl}
 use mathlib.Core.Bool.{Bool, true, false, ◌||◌}
 use mathlib.Core.Option.{Option, none, some}
 use lib.Ieee.{is_nan}
-use Rattle.float.specs.Arith.{if◌then◌else◌}
 use Rattle.float_order.specs.Asked.{compared_order}
 use Rattle.float_order.specs.Compare.{order}
 use Rattle.float_order.specs.declared.Order.{Order}

@@ -1,0 +1,6 @@
+-- `geo_closest_branchless::nearest_to`: the steps with no branch, put together. Assumes nothing.
+use Rattle.geo_closest_branchless.proofs.Placed.{in_turn}
+use Rattle.geo_closest_branchless.proofs.nearest_to.Goals as goal
+
+pub returns : goal.returns
+returns c = in_turn _ _ c.dots_of-d.ensures c.regions_of-g.ensures c.ratio.ensures c.place.ensures

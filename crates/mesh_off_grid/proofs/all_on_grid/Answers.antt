@@ -1,0 +1,40 @@
+-- `mesh_off_grid::all_on_grid`: the loop's invariant is that no triangle passed lies off the grid. One that does decides the answer, and
+-- so does the end of the row. Assumes nothing.
+use borrow.Author.Count.{below_more}
+use mathlib.Core.Path.{◌≡◌, sym, ap, ◌∙◌}
+use mathlib.Core.Bool.{Bool, true, not}
+use Prim.Native.Nat.{◌-◌}
+use native.Mathlib.Omega.{arith}
+use Rattle.lists.proofs.Every.{every_each, every_not}
+use Rattle.mesh_topology.specs.Topology.{triangle, kth}
+use Rattle.grid.specs.declared.BoundingBox.{BoundingBox}
+use Rattle.mesh.specs.declared.Corners.{Corners}
+use Rattle.mesh.specs.Mesh.{mesh_of, triangles_in, corners_of, corners_at}
+use Rattle.mesh_off_grid.specs.OffGrid.{off_box, all_on_grid}
+use Rattle.mesh_off_grid.proofs.all_on_grid.Goals as goal
+
+-- the box that was formed is the grid's
+same_box : {b grid's : BoundingBox} → b ≡ grid's → (t : Corners) {r : Bool} → off_box b t ≡ r → off_box grid's t ≡ r
+same_box e t h = rw e at h
+
+pub returns-then-off : goal.returns-then-off
+unfolding all_on_grid corners_at
+returns-then-off c =
+    let found : (let s = c.args in
+    let m = mesh_of s.vertices.now s.topology s.given s.indices.now in
+    off_box c.get_bounding_box-filled.result (corners_of m.vertices (kth (triangles_in m) c.loop-k.k)) ≡ c.off_box-off.result) = sym (rw c.corners_at-t.ensures at c.off_box-off.ensures) in
+    let off = same_box c.get_bounding_box-filled.ensures _ (found ∙ c.if-off.true) in
+    sym (every_not _ (triangle 0 0 0) _ c.loop-k.k (omega arith) (ap not off))
+
+pub loop-k-preserved : goal.loop-k-preserved
+unfolding corners_at
+loop-k-preserved c =
+    let found : (let s = c.args in
+    let m = mesh_of s.vertices.now s.topology s.given s.indices.now in
+    off_box c.get_bounding_box-filled.result (corners_of m.vertices (kth (triangles_in m) c.loop-k.k)) ≡ c.off_box-off.result) = sym (rw c.corners_at-t.ensures at c.off_box-off.ensures) in
+    (omega arith, below_more _ _ c.loop-k.invariant.1 (ap not (found ∙ c.if-off.false)))
+
+pub returns : goal.returns
+unfolding all_on_grid
+returns c =
+    sym (every_each _ (triangle 0 0 0) _ (λ k h. rw c.get_bounding_box-filled.ensures at (c.loop-k.invariant.1 k (omega arith))))

@@ -1,0 +1,76 @@
+-- `run_seed_four::offer_four`: the state is the one after i offers in a row, and these are the offers along the line. Assumes nothing.
+use Prim.Native.Nat.{◌+◌, ◌-◌, ◌≤◌, ◌<◌}
+use native.Mathlib.Omega.{arith}
+use mathlib.Core.Path.{◌≡◌, refl, ◌∙◌}
+use Rattle.lists.specs.Turns.{turns}
+use Rattle.lists.proofs.Turns.{turns_none, turns_on, turns_stop, turns_end}
+use Rattle.grid.specs.Index.{Inside, total}
+use Rattle.grid.proofs.Laws.{index_below}
+use Rattle.run_seed_cells.specs.Parts.{seed_state, along_line}
+use Rattle.run_seed_four.proofs.Fours.{in_row, index_behind, inside_behind, row_is_line}
+use Rattle.run_seed_four.proofs.offer_four.Goals as goal
+use Rattle.run_seed_four.proofs.offer_four.Goals.{After-offer-arg-in-loop-i-1, At-loop-i}
+
+-- the cell that turn i offers to is on the grid, and has its index
+below : (c : After-offer-arg-in-loop-i-1) → c.get_cell_idx-c.result + c.loop-i.i < total c.args.grid
+below c =
+    let a = c.args in
+    let e = index_behind a.grid a.at _ c.loop-i.i c.get_cell_idx-c.ensures in
+    let behind : a.at.z + c.loop-i.i ≤ a.last = omega (arith, c.loop-i-test.true, c.requires.grid_value.2) in
+    omega (arith, e, index_below (inside_behind a.grid a.sign a.f a.at a.last c.requires.grid_value.1 _ c.squares_from-squares.ensures c.loop-i.i behind))
+
+few : (c : After-offer-arg-in-loop-i-1) → c.loop-i.i < 4
+few c = omega (arith, c.loop-i-test.true, c.requires.grid_value.2, c.requires.grid_value.3)
+
+-- the offers in a row are those along the line
+line : (l : At-loop-i) → let a = l.args in let state = seed_state a.field.now a.names.now in
+    along_line a.grid a.sign a.f a.k a.at.x a.at.y a.at.z a.last state
+    ≡ turns (in_row a.k l.get_cell_idx-c.result l.squares_from-squares.result) (a.last - a.at.z + 1) state
+line l =
+    let a = l.args in
+    row_is_line a.grid a.sign a.f a.at a.last l.requires.grid_value.1 _ l.squares_from-squares.ensures a.k _ _ _ l.get_cell_idx-c.ensures refl
+    l.requires.grid_value.2 l.requires.grid_value.3
+
+pub squares_from-squares-requires : goal.squares_from-squares-requires
+squares_from-squares-requires c =
+    let inside_at_lem : Inside c.args.grid c.args.at = record { x_below = c.requires.grid_value.1.x_below; y_below = c.requires.grid_value.1.y_below; z_below = omega (arith, c.requires.grid_value.1.z_below, c.requires.grid_value.2) } in
+    (c.requires.grid_value.0, inside_at_lem)
+
+pub get_cell_idx-c-requires : goal.get_cell_idx-c-requires
+get_cell_idx-c-requires c =
+    let inside_at_lem : Inside c.args.grid c.args.at = record { x_below = c.requires.grid_value.1.x_below; y_below = c.requires.grid_value.1.y_below; z_below = omega (arith, c.requires.grid_value.1.z_below, c.requires.grid_value.2) } in
+    (c.requires.grid_value.0, inside_at_lem)
+
+pub overflow_sub-n : goal.overflow_sub-n
+overflow_sub-n c = c.requires.grid_value.2
+
+pub loop-i-init : goal.loop-i-init
+loop-i-init c = (omega arith, refl, refl, turns_none _ _)
+
+pub overflow_add-c : goal.overflow_add-c
+overflow_add-c c = omega (arith, below c)
+
+pub offset_bounds-squares-i : goal.offset_bounds-squares-i
+offset_bounds-squares-i c = omega (arith, few c)
+
+pub bounds-squares-i : goal.bounds-squares-i
+bounds-squares-i c = few c
+
+pub offer-r-requires : goal.offer-r-requires
+offer-r-requires c =
+    (omega (arith, below c, c.loop-i.invariant.1, c.requires.field_len.0), omega (arith, below c, c.loop-i.invariant.2, c.requires.field_len.1))
+
+pub returns-then-r-ne0 : goal.returns-then-r-ne0
+returns-then-r-ne0 c =
+    line (search) ∙ turns_stop _ _ _ _ _ _ _ _ c.loop-i.invariant.3 c.offer-r.ensures c.if-r-ne0.true (omega (arith, c.loop-i-test.true))
+
+pub loop-i-preserved : goal.loop-i-preserved
+loop-i-preserved c = (
+  omega (arith, c.loop-i-test.true),
+  omega arith,
+  omega arith,
+  turns_on _ _ _ _ _ _ c.loop-i.invariant.3 c.offer-r.ensures c.if-r-ne0.false,
+)
+
+pub returns : goal.returns
+returns c = line (search) ∙ turns_end _ _ _ _ _ c.loop-i.invariant.3 (omega (arith, c.loop-i.invariant.0, c.loop-i-test.false))

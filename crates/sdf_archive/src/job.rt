@@ -1,0 +1,65 @@
+// The whole job, for C: the calls of `sdf_c::job`.
+ghost use Rattle.c_records.specs.C.{grid_in, terms_in};
+ghost use Rattle.job_checks.specs.Job.{job_of, lent_of};
+ghost use Rattle.job_outcome.specs.Outcome.{outcome};
+ghost use Rattle.entries_generate.specs.LentRow.{lent_row};
+ghost use Rattle.c_job.specs.Job.{topology_in, indices_in, GivesC};
+
+use c_job::SdfJobAnswer;
+use c_records::{SdfGrid, SdfTerms};
+use sdf::Entry;
+
+#[unsafe(no_mangle)]
+pub extern "C" fn sdf_generate_grid_sdf(
+    grid: SdfGrid,
+    vertices: &[f32],
+    topology: u32,
+    given: u32,
+    indices: &[u32],
+    field: &mut [f32],
+    names: &mut [u32],
+    crossings: &mut [u32],
+    rows: &mut [u32],
+    distances: &mut [u32],
+    cells: &mut [u32],
+    triangles: &mut [u32],
+    terms: SdfTerms,
+) -> SdfJobAnswer
+    ensures { let job = job_of (grid_in grid) vertices.now (topology_in topology) (indices_in given)
+        indices.now (terms_in terms) in
+        let lent = lent_of field.old names.old crossings.old rows.old
+        distances.old cells.old triangles.old in
+        let left = lent_of field.new names.new crossings.new rows.new
+        distances.new cells.new triangles.new in
+        GivesC (outcome job lent) result left }
+{
+    sdf_c::job::sdf_generate_grid_sdf(
+        grid, vertices, topology, given, indices, field, names, crossings, rows, distances, cells,
+        triangles, terms,
+    )
+}
+
+#[unsafe(no_mangle)]
+pub extern "C" fn sdf_generate_grid_sdf_records(
+    grid: SdfGrid,
+    vertices: &[f32],
+    topology: u32,
+    given: u32,
+    indices: &[u32],
+    field: &mut [f32],
+    names: &mut [u32],
+    crossings: &mut [u32],
+    rows: &mut [u32],
+    queue: &mut [Entry],
+    terms: SdfTerms,
+) -> SdfJobAnswer
+    ensures { let job = job_of (grid_in grid) vertices.now (topology_in topology) (indices_in given)
+        indices.now (terms_in terms) in
+        let lent = lent_row field.old names.old crossings.old rows.old queue.old in
+        let left = lent_row field.new names.new crossings.new rows.new queue.new in
+        GivesC (outcome job lent) result left }
+{
+    sdf_c::job::sdf_generate_grid_sdf_records(
+        grid, vertices, topology, given, indices, field, names, crossings, rows, queue, terms,
+    )
+}

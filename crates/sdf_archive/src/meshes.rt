@@ -1,0 +1,35 @@
+// A mesh tidied, for C: the call of `sdf_c::meshes`.
+ghost use Rattle.mesh.specs.Mesh.{mesh_of};
+ghost use Rattle.tidy_mesh.specs.Outcome.{tidy_lent_of, tidy_outcome};
+ghost use Rattle.c_job.specs.Job.{topology_in, indices_in};
+ghost use Rattle.c_tidy.specs.Tidy.{GivesTidyC};
+
+use c_tidy::SdfTidyAnswer;
+
+#[unsafe(no_mangle)]
+pub extern "C" fn sdf_tidy_mesh(
+    vertices: &[f32],
+    topology: u32,
+    given: u32,
+    indices: &[u32],
+    coordinates: &mut [f32],
+    listed: &mut [u32],
+    firsts: &mut [u32],
+    causes: &mut [u32],
+) -> SdfTidyAnswer
+    ensures { let m = mesh_of vertices.now (topology_in topology) (indices_in given) indices.now in
+        let lent = tidy_lent_of coordinates.old listed.old firsts.old causes.old in
+        let left = tidy_lent_of coordinates.new listed.new firsts.new causes.new in
+        GivesTidyC (tidy_outcome m lent) result left }
+{
+    sdf_c::meshes::sdf_tidy_mesh(
+        vertices,
+        topology,
+        given,
+        indices,
+        coordinates,
+        listed,
+        firsts,
+        causes,
+    )
+}

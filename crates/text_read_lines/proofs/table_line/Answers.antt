@@ -1,0 +1,14 @@
+-- `text_read_lines::table_line`: a line with a number, or the value that is meant without it, as in the reader on lists. Assumes nothing.
+use mathlib.Core.Path.{refl}
+use Rattle.text.specs.Reader.{optional, table_line}
+use Rattle.text.proofs.Calls.{onward, stopped, the_first, the_second}
+use Rattle.text_read_lines.proofs.table_line.Goals as goal
+
+pub returns-in-Is : goal.returns-in-Is
+unfolding optional table_line
+returns-in-Is c =
+    the_first _ (onward _ (rw c.in-Is.is at c.number_line.ensures))
+
+pub returns : goal.returns
+unfolding optional table_line
+returns c = the_second (stopped _ (rw c.in_default.is at c.number_line.ensures)) refl
