@@ -102,4 +102,4 @@ pub pass_not_shown : (g : Grid) (vertices : List Float) (topology : Topology) (g
     → Gives (outcome (job_of g vertices topology given indices (record { limit = limit; pass = p; sign = sign; edition = edition })) b) answer left
     → Gives (outcome (job_of g vertices topology given indices (record { limit = limit; pass = q; sign = sign; edition = edition })) b) answer' left'
     → (answer ≡ answer') × (left ≡ left')
-pass_not_shown g vertices topology given indices limit p q sign edition b = one_outcome
+pass_not_shown g vertices topology _ indices limit p q sign edition b = one_outcome
