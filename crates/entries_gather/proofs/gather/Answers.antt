@@ -6,7 +6,6 @@ use lib.ListN.{length}
 use Rattle.entries_gather.proofs.Gathering.{gathering_starts, may_pass, gathering_on, gathering_stops, gathering_ends}
 use Rattle.entries_gather.proofs.gather.Goals as goal
 
-
 pub loop-j-init : goal.loop-j-init
 loop-j-init c = gathering_starts _ _ _ _ _ _ _ refl refl
 

@@ -32,10 +32,12 @@ loop-j-preserved c =
     let q = c.loop-j.row in
     let q' = c.push.new.row in
     let p = c.loop-j.reached in
-    let in_it = subst (λ (e : Entry). PushedRow by_keys e q q' p.waiting) c.entry_in-e.ensures c.push.ensures in
-    (omega arith, λ field names. goes_on (queues b) (c.loop-j.invariant.1 field names)
-    (goes_in (length q) p c.queued-reached.ensures q (c.loop-j.invariant.1 field names).held refl b c.loop-j.j field names q' c.if-reached-ne0.false in_it)
-    refl refl (same_room q q' c.push.auto.row) c.if-reached-ne0.false)
+    let in_it = subst (λ (e : Entry). PushedRow by_keys e q q' p.waiting) c.entry_in-e.ensures c.push.ensures in (
+      omega arith,
+      λ field names. goes_on (queues b) (c.loop-j.invariant.1 field names)
+          (goes_in (length q) p c.queued-reached.ensures q (c.loop-j.invariant.1 field names).held refl b c.loop-j.j field names q' c.if-reached-ne0.false in_it)
+          refl refl (same_room q q' c.push.auto.row) c.if-reached-ne0.false,
+    )
 
 pub returns : goal.returns
 returns c = λ field names.
@@ -46,7 +48,7 @@ returns c = λ field names.
     let told = λ (r : Progress). ToldByKeysRow (λ g. turns (queues b g) b.count) field names c.args.row.now c.args.at field names q r in
     subst (λ (r : Progress). ToldByKeysRow (λ g. queue_all g b) field names c.args.row.now c.args.at field names q r) (sym c.stopped.ensures)
     (then_stopped b (elim c.loop-j-test.branch [
-      else-loop-j-test w ↦ subst told (sym w.reached-is) (ends (queues b) b.count a (omega (arith, c.loop-j.invariant.0, w.loop-j-test.false)))
+      | else-loop-j-test w ↦ subst told (sym w.reached-is) (ends (queues b) b.count a (omega (arith, c.loop-j.invariant.0, w.loop-j-test.false)))
       | then-loop-j-test+then-reached-ne0 w ↦ subst told (sym w.reached-is)
-        (stops (queues b) a (stays_out (length q) p w.queued-reached.ensures q a.held refl b c.loop-j.j field names w.if-reached-ne0.true) b.count w.if-reached-ne0.true w.loop-j-test.true)
+          (stops (queues b) a (stays_out (length q) p w.queued-reached.ensures q a.held refl b c.loop-j.j field names w.if-reached-ne0.true) b.count w.if-reached-ne0.true w.loop-j-test.true)
     ]))

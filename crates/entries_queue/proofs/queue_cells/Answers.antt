@@ -18,9 +18,11 @@ pub push_all-reached-requires : goal.push_all-reached-requires
 push_all-reached-requires c = (c.loop-c.invariant.1.held, c.loop-c.invariant.1.fine, c.cell_batch-b.ensures.few)
 
 pub loop-c-preserved : goal.loop-c-preserved
-loop-c-preserved c =
-    (omega arith, goes_on queue_cell c.loop-c.invariant.1 (cell_queued c.cell_batch-b.ensures (c.push_all-reached.ensures c.args.field.now c.args.names.now))
-    refl refl (same_room c.loop-c.row c.push_all-reached.new.row c.push_all-reached.auto.row) c.if-reached-ne0.false)
+loop-c-preserved c = (
+  omega arith,
+  goes_on queue_cell c.loop-c.invariant.1 (cell_queued c.cell_batch-b.ensures (c.push_all-reached.ensures c.args.field.now c.args.names.now))
+      refl refl (same_room c.loop-c.row c.push_all-reached.new.row c.push_all-reached.auto.row) c.if-reached-ne0.false,
+)
 
 pub returns-after-loop-c : goal.returns-after-loop-c
 returns-after-loop-c c = ends queue_cell _ c.loop-c.invariant.1 (omega (arith, c.loop-c.invariant.0, c.loop-c-test.false))

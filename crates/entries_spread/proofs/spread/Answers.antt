@@ -28,7 +28,7 @@ loop-run-smaller c =
     let a = c.loop-run.invariant in
     let z = c.if-run-ne0.false in
     let one = pop a c.popped-run.ensures z c.take-e.ensures c.requires.0 (same_room c.loop-run.row c.take-e.new.row c.take-e.auto.row) c.offers-b.auto.field c.offers-b.auto.names
-        c.offers-b.ensures (c.push_all-run.ensures c.offers-b.new.field c.offers-b.new.names) in
+    c.offers-b.ensures (c.push_all-run.ensures c.offers-b.new.field c.offers-b.new.names) in
     omega (arith, fewer a c.popped-run.ensures z, counted a c.loop-run-test.true one c.if-run-ne0-2.false)
 
 pub loop-run-preserved : goal.loop-run-preserved
@@ -36,7 +36,7 @@ loop-run-preserved c =
     let a = c.loop-run.invariant in
     let z = c.if-run-ne0.false in
     let one = pop a c.popped-run.ensures z c.take-e.ensures c.requires.0 (same_room c.loop-run.row c.take-e.new.row c.take-e.auto.row) c.offers-b.auto.field c.offers-b.auto.names
-        c.offers-b.ensures (c.push_all-run.ensures c.offers-b.new.field c.offers-b.new.names) in
+    c.offers-b.ensures (c.push_all-run.ensures c.offers-b.new.field c.offers-b.new.names) in
     spread_on a c.loop-run-test.true one c.requires.0 (fewer a c.popped-run.ensures z)
     (same_room c.loop-run.row c.push_all-run.new.row (c.push_all-run.auto.row ∙ c.take-e.auto.row)) c.if-run-ne0-2.false
 
@@ -54,5 +54,5 @@ returns-then-run-ne0-2 c =
     let a = c.loop-run.invariant in
     let z = c.if-run-ne0.false in
     let one = pop a c.popped-run.ensures z c.take-e.ensures c.requires.0 (same_room c.loop-run.row c.take-e.new.row c.take-e.auto.row) c.offers-b.auto.field c.offers-b.auto.names
-        c.offers-b.ensures (c.push_all-run.ensures c.offers-b.new.field c.offers-b.new.names) in
+    c.offers-b.ensures (c.push_all-run.ensures c.offers-b.new.field c.offers-b.new.names) in
     spread_stops a c.loop-run-test.true one (fewer a c.popped-run.ensures z) c.if-run-ne0-2.true
