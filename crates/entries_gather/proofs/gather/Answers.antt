@@ -1,8 +1,6 @@
 -- `gather`: the invariant is that what was offered comes to the entries so far. Assumes nothing.
-use native.Mathlib.Omega.{arith}
-use Prim.Native.Nat.{◌-◌, ◌<◌}
+use Prim.Native.Nat.{◌-◌}
 use mathlib.Core.Path.{refl}
-use lib.ListN.{length}
 use Rattle.entries_gather.proofs.Gathering.{gathering_starts, may_pass, gathering_on, gathering_stops, gathering_ends}
 use Rattle.entries_gather.proofs.gather.Goals as goal
 

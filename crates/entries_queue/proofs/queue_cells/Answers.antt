@@ -1,7 +1,6 @@
 -- `entries_queue::queue_cells`: a cell's batch is queued, and that is the cell queued; a refusal ends the loop. Assumes nothing.
 use native.Mathlib.Omega.{arith}
 use mathlib.Core.Path.{refl}
-use lib.ListN.{length}
 use Rattle.run.specs.Run.{queue_cell}
 use Rattle.run_state.proofs.Loops.{begins, goes_on, stops, ends}
 use Rattle.entries.proofs.Projections.{same_room}
