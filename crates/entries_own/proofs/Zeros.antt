@@ -1,9 +1,10 @@
 -- A row that is all zero has three projections that are, and what the job over it gives is what the job over three buffers that are all zero gives.
 -- Assumes nothing.
-use Prim.Native.Nat.{ℕ}
-use mathlib.Core.Path.{◌≡◌, refl, sym, ap, ◌∙◌}
+use Prim.Native.Nat.{ℕ, ◌≤◌}
+use mathlib.Core.Path.{◌≡◌, refl, sym, ap, subst, ◌∙◌}
 use mathlib.Core.List.{List, map}
-use lib.ListN.{length, replicate, length-map, length-replicate}
+use lib.ListN.{length, replicate, take, length-map, length-replicate}
+use lib.Seq.{length-take-le}
 use lib.Ieee.{Float}
 use Rattle.queue.specs.declared.Entry.{Entry}
 use Rattle.job_checks.specs.Job.{Job, Lent}
@@ -13,6 +14,10 @@ use Rattle.entries_generate.specs.LentRow.{lent_row}
 use Rattle.entries_generate.proofs.Same.{Agree, same_outcome}
 use Rattle.job_clear.proofs.Lengths.{lengths_same}
 use Rattle.entries_own.specs.Own.{lent_own, GivesFour}
+
+-- the first k of n
+pub first_long : (n k : ℕ) (x : Entry) → k ≤ n → length (take k (replicate n x)) ≡ k
+first_long n k x h = length-take-le k (replicate n x) (subst (λ (m : ℕ). k ≤ m) (sym (length-replicate n x)) h)
 
 pub gives_four : (j : Job) (field : List Float) (names crossings rows : List ℕ) (queue : List Entry) (room : ℕ) → length queue ≡ room
     → (answer : Answer) (field' : List Float) (names' crossings' rows' : List ℕ) (queue' : List Entry)

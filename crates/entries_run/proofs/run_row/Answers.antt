@@ -1,6 +1,6 @@
 -- `entries_run::run_row`: seeding may have been refused; else the cells are queued, and what waits is spread. Each way out is a law of Rows.antt, at the counts
 -- that `begun` gave. Assumes nothing.
-use mathlib.Core.Path.{sym, ap, subst, ◌∙◌}
+use mathlib.Core.Path.{◌≡◌, sym, ap, subst, ◌∙◌}
 use lib.ListN.{length}
 use Rattle.mesh.specs.Mesh.{mesh_of}
 use Rattle.queue.specs.Keys.{by_keys}
@@ -19,7 +19,8 @@ returns-then-at-ne0 c =
 
 pub queue_cells-queued-requires : goal.queue_cells-queued-requires
 queue_cells-queued-requires c =
-    let s = c.requires.1 in (
+    let s = c.requires.1 in
+    (
       subst (λ (r : Progress). HeldRow by_keys c.args.row.now r.waiting) (sym c.begun-at.ensures) s.empty,
       c.if-at-ne0.false,
       s.names_long ∙ sym s.field_long,
