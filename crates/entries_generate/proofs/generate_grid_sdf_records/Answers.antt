@@ -19,11 +19,10 @@ run_row-ran-requires c =
     let m = mesh_of a.vertices.now a.topology a.given a.indices.now in
     let b = c.begin-begun in
     let z = c.if-begun-ne0.false in
-    let q = c.clear in
-    (
+    let q = c.clear in (
       fits a.grid m t.sign t.limit t.edition a.field.now a.names.now a.crossings.now a.rows.now a.queue.now b.new.field b.new.names b.result b.ensures z,
       seeds a.grid m t.sign t.limit t.edition a.field.now a.names.now a.crossings.now a.rows.now a.queue.now b.new.field b.new.names b.result b.ensures z
-      b.auto.field b.auto.names q.new.row q.auto.row q.ensures,
+          b.auto.field b.auto.names q.new.row q.auto.row q.ensures,
     )
 
 pub close-answer-requires : goal.close-answer-requires
@@ -34,12 +33,11 @@ close-answer-requires c =
     let b = c.begin-begun in
     let z = c.if-begun-ne0.false in
     let q = c.clear in
-    let r = c.run_row-ran in
-    (
+    let r = c.run_row-ran in (
       fits a.grid m t.sign t.limit t.edition a.field.now a.names.now a.crossings.now a.rows.now a.queue.now b.new.field b.new.names b.result b.ensures z,
       field_long a.grid m t.sign t.limit t.edition a.field.now a.names.now a.crossings.now a.rows.now a.queue.now b.new.field b.new.names b.result b.ensures z
-      b.auto.field b.auto.names q.new.row q.auto.row q.ensures
-      r.new.field r.new.names r.new.row r.result r.auto.field r.auto.names r.auto.row r.ensures,
+          b.auto.field b.auto.names q.new.row q.auto.row q.ensures
+          r.new.field r.new.names r.new.row r.result r.auto.field r.auto.names r.auto.row r.ensures,
       is_long a.grid m t.sign t.limit t.edition a.field.now a.names.now a.crossings.now a.rows.now a.queue.now b.new.field b.new.names b.result b.ensures z,
     )
 

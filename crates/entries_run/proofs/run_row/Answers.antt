@@ -19,8 +19,7 @@ returns-then-at-ne0 c =
 
 pub queue_cells-queued-requires : goal.queue_cells-queued-requires
 queue_cells-queued-requires c =
-    let s = c.requires.1 in
-    (
+    let s = c.requires.1 in (
       subst (λ (r : Progress). HeldRow by_keys c.args.row.now r.waiting) (sym c.begun-at.ensures) s.empty,
       c.if-at-ne0.false,
       s.names_long ∙ sym s.field_long,
