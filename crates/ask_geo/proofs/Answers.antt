@@ -99,10 +99,16 @@ sum_no_nan f s a t b c =
 add_no_nan : (x y : Float) → T (finite x) → T (finite y) → is_nan (x ⊕ y) ≡ false
 unfolding add
 add_no_nan (fin s m e) (fin t n d) p q = sum_no_nan binary32 s (m * up e * down d) t (n * up d * down e) (down e * down d)
+add_no_nan nan y p q = elim p [ ]
+add_no_nan (inf _) y p q = elim p [ ]
+add_no_nan (fin s m e) nan p q = elim q [ ]
+add_no_nan (fin s m e) (inf _) p q = elim q [ ]
 
 neg_finite : (x : Float) → T (finite x) → T (finite (neg x))
 unfolding neg
 neg_finite (fin s m e) p = tt
+neg_finite nan p = elim p [ ]
+neg_finite (inf _) p = elim p [ ]
 
 sub_no_nan : (x y : Float) → T (finite x) → T (finite y) → is_nan (x ⊖ y) ≡ false
 unfolding sub

@@ -6,7 +6,7 @@ use native.Mathlib.Decide.{dec_lt}
 use native.Mathlib.Omega.{arith}
 use mathlib.Core.Path.{◌≡◌, refl, ◌∙◌}
 use mathlib.Core.Logic.{◌⊎◌, inl, inr}
-use mathlib.Core.Bool.{Bool, true}
+use mathlib.Core.Bool.{Bool, true, false}
 use mathlib.Core.List.{List}
 use lib.Dec.{T, leb}
 use lib.ListN.{length, get_or, replicate, get_or-replicate}
@@ -130,6 +130,7 @@ module _ (grid : Grid) (mesh : Mesh) (room limit : ℕ) (some : (a : Axis) → 0
     where
       true_of : (t : Bool) → T t → t ≡ true
       true_of true h = refl
+      true_of false h = elim h [ ]
   run_means Normal s h c v =
       let g = run_input grid mesh Normal room limit in
       record {

@@ -99,7 +99,7 @@ flat_long (v ∷ vs) = omega (arith, flat_long vs)
 flat_words : (vs : List Three) → All Words vs → All Word (flat vs)
 unfolding flat All
 flat_words [] a = tt
-flat_words (v ∷ vs) a = (a.0.x_Fits, (a.0.y_fits, (a.0.z_fits, flat_words vs a.1)))
+flat_words (v ∷ vs) a = (a.0.x_fits, (a.0.y_fits, (a.0.z_fits, flat_words vs a.1)))
 
 -- ---- the tidied job
 

@@ -1,0 +1,15 @@
+-- `distance_answer`: by the answer's case. Assumes nothing.
+use Rattle.c_records.specs.C.{distance_for_c}
+use Rattle.c_geo.proofs.distance_answer.Goals as goal
+
+pub returns-in-OutOfBounds : goal.returns-in-OutOfBounds
+unfolding distance_for_c
+returns-in-OutOfBounds c = cc
+
+pub returns-in-NotANumber : goal.returns-in-NotANumber
+unfolding distance_for_c
+returns-in-NotANumber c = cc
+
+pub returns-in-Is : goal.returns-in-Is
+unfolding distance_for_c
+returns-in-Is c = cc
