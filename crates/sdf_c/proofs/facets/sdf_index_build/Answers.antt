@@ -1,0 +1,5 @@
+-- `facets::sdf_index_build`: what the call answers and leaves. Assumes nothing.
+use Rattle.sdf_c.proofs.facets.sdf_index_build.Goals as goal
+
+pub returns : goal.returns
+returns c = c.index_build.ensures

@@ -1,0 +1,5 @@
+-- `facets::sdf_index_update`: what the call answers and leaves. Assumes nothing.
+use Rattle.sdf_c.proofs.facets.sdf_index_update.Goals as goal
+
+pub returns : goal.returns
+returns c = c.index_update.ensures

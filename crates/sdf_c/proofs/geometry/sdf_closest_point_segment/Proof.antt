@@ -1,9 +1,0 @@
--- `geometry::sdf_closest_point_segment`: the calls in turn, from the last. Assumes nothing.
-use Rattle.sdf_c.proofs.geometry.sdf_closest_point_segment.Statement.{statement}
-use Rattle.sdf_c.proofs.geometry.sdf_closest_point_segment.Tie as tie
-
-pub sdf_closest_point_segment_spec : {M : Type 1} → statement M
-sdf_closest_point_segment_spec =
-    tie.close (tie.spec
-    (λ c κs. tt) (λ c κs. tt) (λ c κs. tt) (λ c κs. tt) (λ c κs. tt)
-    (λ c. rw (c.closest-answer.ensures, c.before.closest-point-segment.ensures, c.before.before.point3.ensures, c.before.before.before.point2.ensures, c.before.before.before.before.point.ensures)))
