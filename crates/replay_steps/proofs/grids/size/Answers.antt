@@ -1,0 +1,5 @@
+-- `grids::size`: the calls in turn, from the last. Assumes nothing.
+use Rattle.replay_steps.proofs.grids.size.Goals as goal
+
+pub returns : goal.returns
+returns c = rw (c.is_point.ensures, c.is_word.ensures, c.sdf_grid_size-r.ensures, c.grid.ensures)
