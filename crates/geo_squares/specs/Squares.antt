@@ -21,6 +21,11 @@ pub record Values (value : Point → Float) (xs ys zs out : List Float) : Type 0
   pub long : length out ≡ length xs
   pub each : (i : ℕ) → i < length xs → get_or out i nan ≡ value (point_at xs ys zs i)
 
+-- `out` holds for each what a call of `gives` may give
+pub record GivenBy (gives : Point → Float → Type 0) (xs ys zs out : List Float) : Type 0 where
+  pub long : length out ≡ length xs
+  pub each : (i : ℕ) → i < length xs → gives (point_at xs ys zs i) (get_or out i nan)
+
 -- its squared distance, and that with the sign of the side of f on which it lies
 abbrev pub Squares : Facet → List Float → List Float → List Float → List Float → Type 0
 Squares f = Values (squared_on f)

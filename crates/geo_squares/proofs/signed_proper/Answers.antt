@@ -1,8 +1,0 @@
--- `geo_squares::signed_proper`: the loop over a row of points (`proofs/Loop.antt`). Assumes nothing.
-use Prim.Native.Nat.{◌-◌}
-use Rattle.geo_side.specs.Side.{signed_square_to}
-use Rattle.geo_squares.proofs.Loop.{turn}
-use Rattle.geo_squares.proofs.signed_proper.Goals as goal
-
-pub loop-i-preserved : goal.loop-i-preserved
-loop-i-preserved c = turn _ _ c.loop-i-test.true c.point_at-p.ensures (rw c.nearest_with_side.ensures at c.signed_square_to.ensures) c.loop-i.invariant
