@@ -123,18 +123,9 @@ fn place(g: Regions, f: Facet, d: Dots, q: f32) -> Point
     pick_point(corner, o, i)
 }
 
-// The closest point with no branch. The compiler puts so much into a loop only where nothing else calls it, and what it
-// does not put there it does not take several at a time. So each of the two loops has its own: this one without a side,
+// The closest point with no branch, into whose loop it must be put whole: else the compiler does not take several points at a time.
+#[inline(always)]
 pub fn nearest_to(f: Facet, p: Point) -> Point
-    ensures { result ≡ nearest (dots_of f p) f }
-{
-    let d = geo_closest::dots_of(f, p);
-    let g = regions_of(d);
-    place(g, f, d, ratio(g, d))
-}
-
-// and this one the loop that asks for the side too.
-pub fn nearest_with_side(f: Facet, p: Point) -> Point
     ensures { result ≡ nearest (dots_of f p) f }
 {
     let d = geo_closest::dots_of(f, p);

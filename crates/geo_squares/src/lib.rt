@@ -81,7 +81,7 @@ pub fn signed_squares_on(f: Facet, xs: &[f32], ys: &[f32], zs: &[f32], out: &mut
         );
     } else {
         give_each(
-            |p| geo_side::signed_square_to(n, p, geo_closest_branchless::nearest_with_side(f, p)),
+            |p| geo_side::signed_square_to(n, p, geo_closest_branchless::nearest_to(f, p)),
             xs,
             ys,
             zs,
