@@ -26,11 +26,9 @@ fn squares_point(a: Point, xs: &[f32], ys: &[f32], zs: &[f32], out: &mut [f32])
     requires { Alongside xs.now ys.now zs.now out.old }
     ensures { SquaresTo (λ p. a) xs.now ys.now zs.now out.new }
 {
-    let mut i = 0;
-    while i < xs.len() {
+    for i in 0..xs.len() {
         let p = point_at(xs, ys, zs, i);
         out[i] = geo_distance::square(p, a);
-        i += 1;
     }
 }
 
@@ -40,11 +38,9 @@ fn squares_segment(a: Point, b: Point, xs: &[f32], ys: &[f32], zs: &[f32], out: 
     ensures { SquaresTo (λ p. closest_point_segment p a b) xs.now ys.now zs.now
         out.new }
 {
-    let mut i = 0;
-    while i < xs.len() {
+    for i in 0..xs.len() {
         let p = point_at(xs, ys, zs, i);
         out[i] = geo_distance::square(p, geo_closest::closest_point_segment(p, a, b));
-        i += 1;
     }
 }
 
@@ -54,11 +50,9 @@ fn squares_proper(f: Facet, xs: &[f32], ys: &[f32], zs: &[f32], out: &mut [f32])
     ensures { SquaresTo (λ p. nearest (dots_of f p) f) xs.now ys.now zs.now
         out.new }
 {
-    let mut i = 0;
-    while i < xs.len() {
+    for i in 0..xs.len() {
         let p = point_at(xs, ys, zs, i);
         out[i] = geo_distance::square(p, geo_closest_branchless::nearest_to(f, p));
-        i += 1;
     }
 }
 
@@ -86,11 +80,9 @@ fn signed_proper(n: Point, f: Facet, xs: &[f32], ys: &[f32], zs: &[f32], out: &m
     ensures { SignedSquaresTo n (λ p. nearest (dots_of f p) f) xs.now ys.now zs.now
         out.new }
 {
-    let mut i = 0;
-    while i < xs.len() {
+    for i in 0..xs.len() {
         let p = point_at(xs, ys, zs, i);
         out[i] = geo_side::signed_square_to(n, p, geo_closest_branchless::nearest_with_side(f, p));
-        i += 1;
     }
 }
 
@@ -100,11 +92,9 @@ fn signed_any(n: Point, f: Facet, xs: &[f32], ys: &[f32], zs: &[f32], out: &mut 
     ensures { SignedSquaresTo n (λ p. closest_on f p) xs.now ys.now zs.now
         out.new }
 {
-    let mut i = 0;
-    while i < xs.len() {
+    for i in 0..xs.len() {
         let p = point_at(xs, ys, zs, i);
         out[i] = geo_side::signed_square_to(n, p, geo_closest_branching::closest_on(f, p));
-        i += 1;
     }
 }
 

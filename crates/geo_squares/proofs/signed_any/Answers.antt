@@ -1,7 +1,4 @@
 -- `geo_squares::signed_any`: the loop over a row of points (`proofs/Loop.antt`). Assumes nothing.
-use Prim.Native.Nat.{◌-◌}
-use Rattle.geo_closest.specs.Closest.{closest_on}
-use Rattle.geo_side.specs.Side.{signed_square_to}
 use Rattle.geo_squares.proofs.Loop.{turn}
 use Rattle.geo_squares.proofs.signed_any.Goals as goal
 

@@ -1,6 +1,4 @@
 -- `geo_squares::signed_proper`: the loop over a row of points (`proofs/Loop.antt`). Assumes nothing.
-use Prim.Native.Nat.{◌-◌}
-use Rattle.geo_side.specs.Side.{signed_square_to}
 use Rattle.geo_squares.proofs.Loop.{turn}
 use Rattle.geo_squares.proofs.signed_proper.Goals as goal
 

@@ -1,5 +1,4 @@
 -- `geo_squares::squares_proper`: the loop over a row of points (`proofs/Loop.antt`). Assumes nothing.
-use Prim.Native.Nat.{◌-◌}
 use Rattle.geo_squares.proofs.Loop.{turn}
 use Rattle.geo_squares.proofs.squares_proper.Goals as goal
 

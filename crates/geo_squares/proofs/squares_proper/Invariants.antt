@@ -1,6 +1,4 @@
 -- `geo_squares::squares_proper`: the loop over a row of points (`proofs/Loop.antt`). Assumes nothing.
-use Prim.Native.Nat.{◌-◌}
-use lib.ListN.{length}
 use Rattle.geo_closest.specs.Closest.{nearest, dots_of}
 use Rattle.geo_squares.specs.Squares.{square_to}
 use Rattle.geo_squares.proofs.Loop.{Upto}
@@ -8,6 +6,3 @@ use Rattle.geo_squares.proofs.squares_proper.Given as goal
 
 abbrev pub invariant-loop-i : goal.invariant-loop-i
 invariant-loop-i l = Upto (λ p. square_to p (nearest (dots_of l.f p) l.f)) l.xs l.ys l.zs l.initial.out l.i l.out
-
-abbrev pub decreases-loop-i : goal.decreases-loop-i
-decreases-loop-i l = length l.xs - l.i
