@@ -46,14 +46,12 @@ pub fn in_range(topology: Topology, given: Indices, indices: &[u32], vertices: u
     ensures { result ≡ all_below_count vertices (triangles_of topology given indices.now vertices) }
 {
     let n = mesh_topology::triangle_count(topology, given, indices, vertices);
-    let mut k = 0;
-    while k < n {
+    for k in 0..n {
         let t = mesh_topology::triangle_at(topology, given, indices, vertices, k);
         let ok = below_count(t, vertices);
         if !ok {
             return false;
         }
-        k += 1;
     }
     true
 }

@@ -36,12 +36,10 @@ pub fn list_triangles(
         Put out.old 0 (explicit ts) out.new result }
 {
     let n = mesh_topology::triangle_count(topology, given, indices, vertices);
-    let mut k = 0;
     let mut next = 0;
-    while k < n {
+    for k in 0..n {
         let t = mesh_topology::triangle_at(topology, given, indices, vertices, k);
         next = put_triangle(out, next, t);
-        k += 1;
     }
     next
 }

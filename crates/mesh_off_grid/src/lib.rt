@@ -43,14 +43,12 @@ pub fn all_on_grid(
 {
     let filled = grid::parts::get_bounding_box(grid);
     let n = mesh::triangle_count(vertices, topology, given, indices);
-    let mut k = 0;
-    while k < n {
+    for k in 0..n {
         let t = mesh::corners_at(vertices, topology, given, indices, k);
         let off = off_box(filled, t);
         if off {
             return false;
         }
-        k += 1;
     }
     true
 }

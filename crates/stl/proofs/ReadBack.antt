@@ -1,6 +1,6 @@
 -- What `write_stl` writes, `read_stl` reads: a file that was written passes every check of reading, and its corners are those that were
 -- lent. Assumes nothing.
-use Prim.Native.Nat.{ℕ, zero, suc, ◌+◌, ◌/◌}
+use Prim.Native.Nat.{ℕ, zero, suc, ◌/◌}
 use native.Mathlib.Omega.{arith}
 use mathlib.Core.Path.{◌≡◌, refl, sym, ap, ◌∙◌}
 use mathlib.Core.List.{List, ◌++◌}

@@ -47,10 +47,8 @@ fn nine_words(facet: &[u8]) -> [u32; 9]
     ensures { result ≡ nine_of facet.now }
 {
     let mut words = [0u32; 9];
-    let mut i = 0;
-    while i < 9 {
+    for i in 0..9 {
         words[i] = word(facet, 12 + 4 * i);
-        i += 1;
     }
     words
 }
@@ -62,10 +60,8 @@ pub fn read_facet(facet: &[u8], corners: &mut [f32])
     ensures { corners.new ≡ floats_of (nine_of facet.now) }
 {
     let words = nine_words(facet);
-    let mut i = 0;
-    while i < 9 {
+    for i in 0..9 {
         corners[i] = float_bits::float_of(words[i]);
-        i += 1;
     }
 }
 
@@ -75,10 +71,8 @@ fn nine_bits(corners: &[f32]) -> [u32; 9]
     ensures { result ≡ bits_of corners.now }
 {
     let mut words = [0u32; 9];
-    let mut i = 0;
-    while i < 9 {
+    for i in 0..9 {
         words[i] = float_bits::bits_of(corners[i]);
-        i += 1;
     }
     words
 }
@@ -93,10 +87,8 @@ pub fn write_facet(corners: &[f32], facet: &mut [u8])
     put_word(facet, 0, 0);
     put_word(facet, 4, 0);
     put_word(facet, 8, 0);
-    let mut i = 0;
-    while i < 9 {
+    for i in 0..9 {
         put_word(facet, 12 + 4 * i, words[i]);
-        i += 1;
     }
     facet[48] = 0;
     facet[49] = 0;

@@ -1,8 +1,6 @@
 -- `mesh_checks::in_range`: the loop's invariant is that the corners of each triangle passed are below the vertex count. A triangle
 -- with another corner decides the answer, and so does the end of the row. Assumes nothing.
 use mathlib.Core.Path.{◌≡◌, sym, ◌∙◌}
-use mathlib.Core.Bool.{true}
-use Prim.Native.Nat.{◌-◌}
 use native.Mathlib.Omega.{arith}
 use Rattle.lists.proofs.Every.{every_each, every_not}
 use Rattle.mesh_topology.specs.Topology.{triangles_of, triangle, kth}
@@ -20,4 +18,4 @@ pub returns-then-not-ok : goal.returns-then-not-ok
 returns-then-not-ok c = sym (every_not _ (triangle 0 0 0) _ c.loop-k.k (omega arith) (found c ∙ c.if-not-ok.true))
 
 pub returns : goal.returns
-returns c = sym (every_each _ (triangle 0 0 0) _ (λ k h. c.loop-k.invariant.1 k (omega arith)))
+returns c = sym (every_each _ (triangle 0 0 0) _ (λ k h. c.loop-k.invariant k (omega arith)))

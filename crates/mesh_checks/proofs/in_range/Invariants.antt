@@ -2,14 +2,11 @@
 -- with another corner decides the answer, and so does the end of the row. Assumes nothing.
 use mathlib.Core.Path.{◌≡◌}
 use mathlib.Core.Bool.{true}
-use Prim.Native.Nat.{ℕ, ◌-◌, ◌≤◌, ◌<◌}
+use Prim.Native.Nat.{ℕ, ◌<◌}
 use Rattle.mesh_topology.specs.Topology.{triangles_of, kth}
 use Rattle.mesh_topology.specs.Refusals.{below_count}
 use Rattle.mesh_checks.proofs.in_range.Given as goal
 
 abbrev pub invariant-loop-k : goal.invariant-loop-k
 invariant-loop-k l =
-    (l.k ≤ l.n) × ((j : ℕ) → j < l.k → below_count l.vertices (kth (triangles_of l.topology l.given l.indices l.vertices) j) ≡ true)
-
-abbrev pub decreases-loop-k : goal.decreases-loop-k
-decreases-loop-k l = l.n - l.k
+    (j : ℕ) → j < l.k → below_count l.vertices (kth (triangles_of l.topology l.given l.indices l.vertices) j) ≡ true

@@ -1,5 +1,5 @@
 -- `mesh_explicit::list_triangles`: a piece of three numbers for each triangle, one behind the other. Assumes nothing.
-use Prim.Native.Nat.{ℕ, ◌-◌}
+use Prim.Native.Nat.{ℕ}
 use mathlib.Core.List.{List}
 use Rattle.lists.proofs.Puts.{Pieces}
 use Rattle.mesh_topology.specs.declared.Triangle.{Triangle}
@@ -13,6 +13,3 @@ piece ts k = vertex_numbers (kth ts k)
 abbrev pub invariant-loop-k : goal.invariant-loop-k
 invariant-loop-k l =
     Pieces (piece (triangles_of l.topology l.given l.indices l.vertices)) 3 l.initial.out 0 l.n l.out l.k l.next
-
-abbrev pub decreases-loop-k : goal.decreases-loop-k
-decreases-loop-k l = l.n - l.k

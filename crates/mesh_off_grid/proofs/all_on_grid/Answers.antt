@@ -2,8 +2,7 @@
 -- so does the end of the row. Assumes nothing.
 use borrow.Author.Count.{below_more}
 use mathlib.Core.Path.{◌≡◌, sym, ap, ◌∙◌}
-use mathlib.Core.Bool.{Bool, true, not}
-use Prim.Native.Nat.{◌-◌}
+use mathlib.Core.Bool.{Bool, not}
 use native.Mathlib.Omega.{arith}
 use Rattle.lists.proofs.Every.{every_each, every_not}
 use Rattle.mesh_topology.specs.Topology.{triangle, kth}
@@ -32,9 +31,9 @@ loop-k-preserved c =
     let found : (let s = c.args in
     let m = mesh_of s.vertices.now s.topology s.given s.indices.now in
     off_box c.get_bounding_box-filled.result (corners_of m.vertices (kth (triangles_in m) c.loop-k.k)) ≡ c.off_box-off.result) = sym (rw c.corners_at-t.ensures at c.off_box-off.ensures) in
-    (omega arith, below_more _ _ c.loop-k.invariant.1 (ap not (found ∙ c.if-off.false)))
+    below_more _ _ c.loop-k.invariant (ap not (found ∙ c.if-off.false))
 
 pub returns : goal.returns
 unfolding all_on_grid
 returns c =
-    sym (every_each _ (triangle 0 0 0) _ (λ k h. rw c.get_bounding_box-filled.ensures at (c.loop-k.invariant.1 k (omega arith))))
+    sym (every_each _ (triangle 0 0 0) _ (λ k h. rw c.get_bounding_box-filled.ensures at (c.loop-k.invariant k (omega arith))))

@@ -2,16 +2,13 @@
 -- so does the end of the row. Assumes nothing.
 use mathlib.Core.Path.{◌≡◌}
 use mathlib.Core.Bool.{true, not}
-use Prim.Native.Nat.{ℕ, ◌-◌, ◌≤◌, ◌<◌}
+use Prim.Native.Nat.{ℕ, ◌<◌}
 use Rattle.mesh_topology.specs.Topology.{kth}
 use Rattle.mesh.specs.Mesh.{mesh_of, triangles_in, corners_of}
-use Rattle.mesh_off_grid.specs.OffGrid.{off_box, all_on_grid}
+use Rattle.mesh_off_grid.specs.OffGrid.{off_box}
 use Rattle.mesh_off_grid.proofs.all_on_grid.Given as goal
 
 abbrev pub invariant-loop-k : goal.invariant-loop-k
 invariant-loop-k l =
     let ts = triangles_in (mesh_of l.vertices l.topology l.given l.indices) in
-    (l.k ≤ l.n) × ((j : ℕ) → j < l.k → not (off_box l.filled (corners_of l.vertices (kth ts j))) ≡ true)
-
-abbrev pub decreases-loop-k : goal.decreases-loop-k
-decreases-loop-k l = l.n - l.k
+    (j : ℕ) → j < l.k → not (off_box l.filled (corners_of l.vertices (kth ts j))) ≡ true

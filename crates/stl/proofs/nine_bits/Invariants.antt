@@ -1,5 +1,4 @@
 -- `stl::nine_bits`: after i turns the patterns of the first i numbers stand in the array (`Filled`). Assumes nothing.
-use Prim.Native.Nat.{◌-◌, ◌≤◌}
 use mathlib.Core.Path.{◌≡◌}
 use lib.ListN.{length, get_or}
 use lib.Ieee.{nan, binary32, to_bits}
@@ -7,7 +6,4 @@ use Rattle.lists.specs.Table.{Filled}
 use Rattle.stl.proofs.nine_bits.Given as goal
 
 abbrev pub invariant-loop-i : goal.invariant-loop-i
-invariant-loop-i l = (l.i ≤ 9) × (length l.initial.words ≡ 9) × Filled 0 (λ k. to_bits binary32 (get_or l.corners k nan)) l.initial.words l.i l.words
-
-abbrev pub decreases-loop-i : goal.decreases-loop-i
-decreases-loop-i l = 9 - l.i
+invariant-loop-i l = (length l.initial.words ≡ 9) × Filled 0 (λ k. to_bits binary32 (get_or l.corners k nan)) l.initial.words l.i l.words

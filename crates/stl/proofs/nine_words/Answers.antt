@@ -1,5 +1,4 @@
 -- `stl::nine_words`: after i turns the first i words stand in the array (`Filled`). Assumes nothing.
-use Prim.Native.Nat.{◌-◌}
 use native.Mathlib.Omega.{arith}
 use mathlib.Core.Path.{sym}
 use Rattle.lists.proofs.Table.{filled_all}
@@ -10,4 +9,4 @@ pub returns : goal.returns
 unfolding nine_of
 returns c =
     let l = c.loop-i in
-    filled_all 0 _ _ l.words l.i 9 (sym l.invariant.1) (omega arith) l.invariant.2
+    filled_all 0 _ _ l.words l.i 9 (sym l.invariant.0) (omega arith) l.invariant.1

@@ -1,5 +1,4 @@
 -- `stl::read_facet`: after i turns the first i numbers stand in the corners (`Filled`). Assumes nothing.
-use Prim.Native.Nat.{◌-◌}
 use native.Mathlib.Omega.{arith}
 use mathlib.Core.Path.{sym, ap, ◌∙◌}
 use lib.ListN.{length}
@@ -11,6 +10,6 @@ use Rattle.stl.proofs.read_facet.Goals as goal
 
 pub returns : goal.returns
 returns c =
-    filled_all nan _ c.args.corners.now c.loop-i.corners c.loop-i.i 9 (sym c.requires.corners_len) (omega arith) c.loop-i.invariant.1
+    filled_all nan _ c.args.corners.now c.loop-i.corners c.loop-i.i 9 (sym c.requires.corners_len) (omega arith) c.loop-i.invariant
     ∙ sym (map_is_table (of_bits binary32) 0 c.nine_words-words.result 9 (ap length c.nine_words-words.ensures ∙ corners_long _))
     ∙ ap floats_of c.nine_words-words.ensures
