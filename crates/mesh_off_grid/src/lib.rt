@@ -3,12 +3,12 @@
 #![tactic(auto)]
 
 ghost use Rattle.std.specs.Prelude.{◌≡◌};
-ghost use Rattle.mesh.specs.Mesh.{Sound, mesh_of};
+ghost use Rattle.mesh.specs.Mesh.{Sound};
+ghost use Rattle.mesh.specs.Lent.{mesh_in};
 ghost use Rattle.mesh_off_grid.specs.OffGrid as OffGrid;
 
 use grid::{BoundingBox, Grid};
-use mesh::Corners;
-use mesh_topology::{Indices, Topology};
+use mesh::{Corners, Mesh};
 
 // Whether three coordinates on an axis are all below low, or all above high. One that touches is neither.
 fn beyond(low: f32, high: f32, a: f32, b: f32, c: f32) -> bool
@@ -30,21 +30,15 @@ fn off_box(filled: BoundingBox, t: Corners) -> bool
 }
 
 // Whether no triangle of the mesh lies off the grid. Where one does, refusal 10.
-pub fn all_on_grid(
-    grid: Grid,
-    vertices: &[f32],
-    topology: Topology,
-    given: Indices,
-    indices: &[u32],
-) -> bool
-    requires { Sound (mesh_of vertices.now topology given indices.now) }
-    ensures { let m = mesh_of vertices.now topology given indices.now in
+pub fn all_on_grid(grid: Grid, mesh: Mesh) -> bool
+    requires { Sound (mesh_in mesh) }
+    ensures { let m = mesh_in mesh.entry in
         result ≡ OffGrid.all_on_grid grid m }
 {
     let filled = grid::parts::get_bounding_box(grid);
-    let n = mesh::triangle_count(vertices, topology, given, indices);
+    let n = mesh::triangle_count(mesh);
     for k in 0..n {
-        let t = mesh::corners_at(vertices, topology, given, indices, k);
+        let t = mesh::corners_at(mesh, k);
         let off = off_box(filled, t);
         if off {
             return false;

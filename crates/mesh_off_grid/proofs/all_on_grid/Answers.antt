@@ -10,6 +10,7 @@ use Rattle.grid.specs.declared.BoundingBox.{BoundingBox}
 use Rattle.mesh.specs.declared.Corners.{Corners}
 use Rattle.mesh.specs.Mesh.{mesh_of, triangles_in, corners_of, corners_at}
 use Rattle.mesh_off_grid.specs.OffGrid.{off_box, all_on_grid}
+use Rattle.mesh.specs.Lent.{mesh_in}
 use Rattle.mesh_off_grid.proofs.all_on_grid.Goals as goal
 
 -- the box that was formed is the grid's
@@ -20,7 +21,7 @@ pub returns-then-off : goal.returns-then-off
 unfolding all_on_grid corners_at
 returns-then-off c =
     let found : (let s = c.args in
-    let m = mesh_of s.vertices.now s.topology s.given s.indices.now in
+    let m = mesh_in s.mesh in
     off_box c.get_bounding_box-filled.result (corners_of m.vertices (kth (triangles_in m) c.loop-k.k)) ≡ c.off_box-off.result) = sym (rw c.corners_at-t.ensures at c.off_box-off.ensures) in
     let off = same_box c.get_bounding_box-filled.ensures _ (found ∙ c.if-off.true) in
     sym (every_not _ (triangle 0 0 0) _ c.loop-k.k (omega arith) (ap not off))
@@ -29,7 +30,7 @@ pub loop-k-preserved : goal.loop-k-preserved
 unfolding corners_at
 loop-k-preserved c =
     let found : (let s = c.args in
-    let m = mesh_of s.vertices.now s.topology s.given s.indices.now in
+    let m = mesh_in s.mesh in
     off_box c.get_bounding_box-filled.result (corners_of m.vertices (kth (triangles_in m) c.loop-k.k)) ≡ c.off_box-off.result) = sym (rw c.corners_at-t.ensures at c.off_box-off.ensures) in
     below_more _ _ c.loop-k.invariant (ap not (found ∙ c.if-off.false))
 

@@ -6,9 +6,10 @@ use Prim.Native.Nat.{ℕ, ◌<◌}
 use Rattle.mesh_topology.specs.Topology.{kth}
 use Rattle.mesh.specs.Mesh.{mesh_of, triangles_in, corners_of}
 use Rattle.mesh_off_grid.specs.OffGrid.{off_box}
+use Rattle.mesh.specs.Lent.{mesh_in}
 use Rattle.mesh_off_grid.proofs.all_on_grid.Given as goal
 
 abbrev pub invariant-loop-k : goal.invariant-loop-k
 invariant-loop-k l =
-    let ts = triangles_in (mesh_of l.vertices l.topology l.given l.indices) in
-    (j : ℕ) → j < l.k → not (off_box l.filled (corners_of l.vertices (kth ts j))) ≡ true
+    let ts = triangles_in (mesh_in l.mesh) in
+    (j : ℕ) → j < l.k → not (off_box l.filled (corners_of l.mesh.vertices.now (kth ts j))) ≡ true
