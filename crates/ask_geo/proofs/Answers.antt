@@ -16,20 +16,13 @@ use Rattle.point.specs.declared.Point.{Point}
 use Rattle.point.specs.declared.Axis.{Axis}
 use Rattle.geo_box.specs.Box.{box_margin, least_of3, greatest_of3, padded_box}
 use Rattle.geo_ray.specs.Ray.{weights_x, reach_x, all_below, all_above, hits, grazes, reply, ray_x, ray_aligned}
-use Rattle.ask_geo.specs.Asked.{bound, within, point_nan, box_nan, ray_nan, answered, refused, value}
+use Rattle.ask_geo.specs.Asked.{bound, within, point_nan, box_nan, ray_nan, answered}
+use Rattle.refusals.specs.Numbers as Reply
 use Rattle.geo_ray.specs.declared.RayHit.TheVariants.{Miss, Grazed, Hit}
 
--- ---- the three answers, by the checks that led there
-
-module _ {A : Type 0} {inside : Bool} (bad : A → Bool) (x : A) where
-  pub outside : inside ≡ false → refused 2 ≡ answered inside bad x
-  outside e = rw e
-
-  pub no_number : inside ≡ true → bad x ≡ true → refused 6 ≡ answered inside bad x
-  no_number e h = rw (e, h)
-
-  pub given : inside ≡ true → bad x ≡ false → value x ≡ answered inside bad x
-  given e h = rw (e, h)
+-- what is given within the bounds, where no NaN is
+pub given : {A : Type 0} {inside : Bool} (bad : A → Bool) (x : A) → inside ≡ true → bad x ≡ false → Reply.given x ≡ answered inside bad x
+given bad x e h = rw (e, h)
 
 -- ---- a ray's reply
 

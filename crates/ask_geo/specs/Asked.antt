@@ -1,6 +1,7 @@
 -- "Geometry asked by itself answers 2 for a coordinate not finite or above 2,097,152 in magnitude, then 6 for a NaN in its result"
--- (document 01). Each answer is an enum, and its number and value are given here. Definitions only.
-use Rattle.std.specs.Prelude.{Bool, false, ◌&&◌, ◌||◌, ℕ, Float, if◌then◌else◌}
+-- (document 01). Definitions only.
+use Rattle.std.specs.Prelude.{Bool, false, ◌&&◌, ◌||◌, Float, if◌then◌else◌}
+use Rattle.refusals.specs.Numbers.{Reply, refused, given}
 use Rattle.std.specs.Float.{binary32}
 use Rattle.std.specs.Float.Ieee.{of_bits, is_nan}
 use Rattle.float.specs.Steps.{finite_at_most}
@@ -14,14 +15,6 @@ use Rattle.geo_ray.specs.Ray.{ray_aligned}
 use Rattle.geo_box.specs.declared.TriangleBox.{TriangleBox}
 use Rattle.geo_ray.specs.declared.RayHit.{RayHit}
 use Rattle.geo_ray.specs.declared.RayHit.TheVariants.{Miss, Grazed, Hit}
-use Rattle.ask_geo.specs.declared.asked.BoxAnswer.{BoxAnswer}
-use Rattle.ask_geo.specs.declared.asked.BoxAnswer.TheVariants as Boxes
-use Rattle.ask_geo.specs.declared.asked.PointAnswer.{PointAnswer}
-use Rattle.ask_geo.specs.declared.asked.PointAnswer.TheVariants as Points
-use Rattle.ask_geo.specs.declared.asked.DistanceAnswer.{DistanceAnswer}
-use Rattle.ask_geo.specs.declared.asked.DistanceAnswer.TheVariants as Distances
-use Rattle.ask_geo.specs.declared.asked.RayAnswer.{RayAnswer}
-use Rattle.ask_geo.specs.declared.asked.RayAnswer.TheVariants as Rays
 
 -- ---- the two checks
 
@@ -45,50 +38,26 @@ ray_nan (Hit t) = is_nan t
 
 -- ---- what is answered: a number of the paper, or the value
 
-pub data Answer (A : Type 0) : Type 0 where
-  refused : ℕ → Answer A
-  value : A → Answer A
-
 -- to a question whose coordinates are within the bound or not, and whose result is x: the first check that fails decides
-abbrev pub answered : {A : Type 0} → Bool → (A → Bool) → A → Answer A
-answered inside nan x = if inside then (if nan x then refused 6 else value x) else refused 2
-
--- ---- the cases of each enum. A box and a ray's reply never hold a NaN (proofs/Answers.antt), so their enums have no case for 6
-
-abbrev pub box_answer : BoxAnswer → Answer TriangleBox
-box_answer Boxes.OutOfBounds = refused 2
-box_answer (Boxes.Is b) = value b
-
-abbrev pub point_answer : PointAnswer → Answer Point
-point_answer Points.OutOfBounds = refused 2
-point_answer Points.NotANumber = refused 6
-point_answer (Points.Is p) = value p
-
-abbrev pub distance_answer : DistanceAnswer → Answer Float
-distance_answer Distances.OutOfBounds = refused 2
-distance_answer Distances.NotANumber = refused 6
-distance_answer (Distances.Is d) = value d
-
-abbrev pub ray_answer : RayAnswer → Answer RayHit
-ray_answer Rays.OutOfBounds = refused 2
-ray_answer (Rays.Is h) = value h
+abbrev pub answered : {A : Type 0} → Bool → (A → Bool) → A → Reply A
+answered inside nan x = if inside then (if nan x then refused 6 else given x) else refused 2
 
 -- ---- the questions
 
-abbrev pub asked_box : Point → Point → Point → Answer TriangleBox
+abbrev pub asked_box : Point → Point → Point → Reply TriangleBox
 asked_box a b c = answered (within a && within b && within c) box_nan (padded_box a b c)
 
-abbrev pub asked_segment : Point → Point → Point → Answer Point
+abbrev pub asked_segment : Point → Point → Point → Reply Point
 asked_segment p a b = answered (within p && within a && within b) point_nan (closest_point_segment p a b)
 
-abbrev pub asked_triangle : Point → Point → Point → Point → Answer Point
+abbrev pub asked_triangle : Point → Point → Point → Point → Reply Point
 asked_triangle p a b c = answered (within p && within a && within b && within c) point_nan (closest_point_triangle p a b c)
 
-abbrev pub asked_distance : Point → Point → Point → Point → Answer Float
+abbrev pub asked_distance : Point → Point → Point → Point → Reply Float
 asked_distance p a b c = answered (within p && within a && within b && within c) is_nan (distance p a b c)
 
-abbrev pub asked_signed_distance : Point → Point → Point → Point → Answer Float
+abbrev pub asked_signed_distance : Point → Point → Point → Point → Reply Float
 asked_signed_distance p a b c = answered (within p && within a && within b && within c) is_nan (signed_distance p a b c)
 
-abbrev pub asked_ray : Point → Point → Point → Point → Axis → Answer RayHit
+abbrev pub asked_ray : Point → Point → Point → Point → Axis → Reply RayHit
 asked_ray o v0 v1 v2 axis = answered (within o && within v0 && within v1 && within v2) ray_nan (ray_aligned o v0 v1 v2 axis)

@@ -1,38 +1,13 @@
 // The geometry's questions asked by themselves. None has a `requires`: a coordinate that is not finite or
 // is above 2,097,152 in magnitude is refused by 2, and then a NaN in the result by 6.
 ghost use Rattle.std.specs.Prelude.{◌≡◌};
-ghost use Rattle.std.specs.Float.Ieee.{is_nan};
+ghost use Rattle.refusals.specs.Numbers.{reply_of};
 ghost use Rattle.ask_geo.specs.Asked as Asked;
 
 use geo_box::TriangleBox;
 use geo_ray::RayHit;
 use point::{Axis, Point};
-
-#[derive(Clone, Copy)]
-pub enum BoxAnswer {
-    OutOfBounds,
-    Is(TriangleBox),
-}
-
-#[derive(Clone, Copy)]
-pub enum PointAnswer {
-    OutOfBounds,
-    NotANumber,
-    Is(Point),
-}
-
-#[derive(Clone, Copy)]
-pub enum DistanceAnswer {
-    OutOfBounds,
-    NotANumber,
-    Is(f32),
-}
-
-#[derive(Clone, Copy)]
-pub enum RayAnswer {
-    OutOfBounds,
-    Is(RayHit),
-}
+use refusals::Refusal;
 
 fn within(p: Point) -> bool
     ensures { result ≡ Asked.within p }
@@ -45,74 +20,67 @@ fn within(p: Point) -> bool
 fn point_nan(p: Point) -> bool
     ensures { result ≡ Asked.point_nan p }
 {
-    (p.x != p.x) | (p.y != p.y) | (p.z != p.z)
+    p.x.is_nan() | p.y.is_nan() | p.z.is_nan()
 }
 
-// A point with its checks made, as the answer.
-fn answer_point(inside: bool, p: Point) -> PointAnswer
-    ensures { Asked.point_answer result ≡ Asked.answered inside Asked.point_nan p }
+// The result with both checks made.
+fn answer<T: Copy>(inside: bool, nan: bool, x: T) -> Result<T, Refusal>
+    ensures { reply_of result ≡ Asked.answered inside (λ _. nan) x }
 {
-    if inside {
-        if point_nan(p) {
-            return PointAnswer::NotANumber;
-        }
-        return PointAnswer::Is(p);
+    if !inside {
+        return Err(Refusal::WrongVertices);
     }
-    PointAnswer::OutOfBounds
+    if nan {
+        return Err(Refusal::NotANumber);
+    }
+    Ok(x)
 }
 
-// A distance with its checks made, as the answer.
-fn answer_distance(inside: bool, d: f32) -> DistanceAnswer
-    ensures { Asked.distance_answer result ≡ Asked.answered inside is_nan d }
-{
-    if inside {
-        if d != d {
-            return DistanceAnswer::NotANumber;
-        }
-        return DistanceAnswer::Is(d);
-    }
-    DistanceAnswer::OutOfBounds
-}
-
-pub fn triangle_bounding_box(a: Point, b: Point, c: Point) -> BoxAnswer
-    ensures { Asked.box_answer result ≡ Asked.asked_box a b c }
+pub fn triangle_bounding_box(a: Point, b: Point, c: Point) -> Result<TriangleBox, Refusal>
+    ensures { reply_of result ≡ Asked.asked_box a b c }
 {
     let inside = within(a) & within(b) & within(c);
-    if inside {
-        return BoxAnswer::Is(geo_box::triangle_bounding_box(a, b, c));
+    if !inside {
+        return Err(Refusal::WrongVertices);
     }
-    BoxAnswer::OutOfBounds
+    Ok(geo_box::triangle_bounding_box(a, b, c))
 }
 
-pub fn closest_point_segment(p: Point, a: Point, b: Point) -> PointAnswer
-    ensures { Asked.point_answer result ≡ Asked.asked_segment p a b }
+pub fn closest_point_segment(p: Point, a: Point, b: Point) -> Result<Point, Refusal>
+    ensures { reply_of result ≡ Asked.asked_segment p a b }
 {
     let inside = within(p) & within(a) & within(b);
-    answer_point(inside, geo_closest::closest_point_segment(p, a, b))
+    let closest = geo_closest::closest_point_segment(p, a, b);
+    answer(inside, point_nan(closest), closest)
 }
 
-pub fn closest_point_triangle(p: Point, a: Point, b: Point, c: Point) -> PointAnswer
-    ensures { Asked.point_answer result ≡ Asked.asked_triangle p a b c }
+pub fn closest_point_triangle(p: Point, a: Point, b: Point, c: Point) -> Result<Point, Refusal>
+    ensures { reply_of result ≡ Asked.asked_triangle p a b c }
 {
     let inside = within(p) & within(a) & within(b) & within(c);
-    answer_point(
-        inside,
-        geo_closest_branching::closest_point_triangle(p, a, b, c),
-    )
+    let closest = geo_closest_branching::closest_point_triangle(p, a, b, c);
+    answer(inside, point_nan(closest), closest)
 }
 
-pub fn point_triangle_distance(p: Point, a: Point, b: Point, c: Point) -> DistanceAnswer
-    ensures { Asked.distance_answer result ≡ Asked.asked_distance p a b c }
+pub fn point_triangle_distance(p: Point, a: Point, b: Point, c: Point) -> Result<f32, Refusal>
+    ensures { reply_of result ≡ Asked.asked_distance p a b c }
 {
     let inside = within(p) & within(a) & within(b) & within(c);
-    answer_distance(inside, geo_distance::point_triangle_distance(p, a, b, c))
+    let distance = geo_distance::point_triangle_distance(p, a, b, c);
+    answer(inside, distance.is_nan(), distance)
 }
 
-pub fn point_triangle_signed_distance(p: Point, a: Point, b: Point, c: Point) -> DistanceAnswer
-    ensures { Asked.distance_answer result ≡ Asked.asked_signed_distance p a b c }
+pub fn point_triangle_signed_distance(
+    p: Point,
+    a: Point,
+    b: Point,
+    c: Point,
+) -> Result<f32, Refusal>
+    ensures { reply_of result ≡ Asked.asked_signed_distance p a b c }
 {
     let inside = within(p) & within(a) & within(b) & within(c);
-    answer_distance(inside, geo_side::point_triangle_signed_distance(p, a, b, c))
+    let distance = geo_side::point_triangle_signed_distance(p, a, b, c);
+    answer(inside, distance.is_nan(), distance)
 }
 
 pub fn ray_triangle_intersection_aligned(
@@ -121,12 +89,12 @@ pub fn ray_triangle_intersection_aligned(
     v1: Point,
     v2: Point,
     axis: Axis,
-) -> RayAnswer
-    ensures { Asked.ray_answer result ≡ Asked.asked_ray o v0 v1 v2 axis }
+) -> Result<RayHit, Refusal>
+    ensures { reply_of result ≡ Asked.asked_ray o v0 v1 v2 axis }
 {
     let inside = within(o) & within(v0) & within(v1) & within(v2);
-    if inside {
-        return RayAnswer::Is(geo_ray::ray_triangle_intersection_aligned(o, v0, v1, v2, axis));
+    if !inside {
+        return Err(Refusal::WrongVertices);
     }
-    RayAnswer::OutOfBounds
+    Ok(geo_ray::ray_triangle_intersection_aligned(o, v0, v1, v2, axis))
 }

@@ -1,27 +1,27 @@
-// The answers of the geometry and of the comparison, as C gets them.
+// The answers of the geometry and of the comparison, as C gets them: a function for each record of C. A
+// closest point is answered as a grid's point is, by `c_grid`.
 #![tactic(auto)]
 
 ghost use Rattle.std.specs.Prelude.{◌≡◌};
-ghost use Rattle.ask_geo.specs.Asked as Asked;
+ghost use Rattle.refusals.specs.Numbers.{reply_of};
 ghost use Rattle.c_records.specs.C as C;
 
-use ask_geo::RayHit;
-use ask_geo::asked::{
-    BoxAnswer as TriangleBoxAnswer, DistanceAnswer, PointAnswer as ClosestPointAnswer, RayAnswer,
-};
-use c_records::{SdfBoxAnswer, SdfDistanceAnswer, SdfOrderAnswer, SdfPointAnswer, SdfRayAnswer};
-use float_order::{Comparison, Order};
+use ask_geo::{RayHit, TriangleBox};
+use c_records::{SdfBoxAnswer, SdfDistanceAnswer, SdfOrderAnswer, SdfRayAnswer};
+use refusals::Refusal;
+use std::cmp::Ordering;
 
-pub fn triangle_box_answer(a: TriangleBoxAnswer) -> SdfBoxAnswer
-    ensures { result ≡ C.triangle_box_for_c (Asked.box_answer a) }
+#[tactic(auto, unfolding(c_records::specs::C::triangle_box_for_c))]
+pub fn triangle_box_answer(a: Result<TriangleBox, Refusal>) -> SdfBoxAnswer
+    ensures { result ≡ C.triangle_box_for_c (reply_of a) }
 {
     match a {
-        TriangleBoxAnswer::OutOfBounds => SdfBoxAnswer {
-            number: 2,
+        Err(r) => SdfBoxAnswer {
+            number: r.number(),
             min: c_records::no_point(),
             max: c_records::no_point(),
         },
-        TriangleBoxAnswer::Is(b) => SdfBoxAnswer {
+        Ok(b) => SdfBoxAnswer {
             number: 0,
             min: c_records::point_out(b.low),
             max: c_records::point_out(b.high),
@@ -29,55 +29,34 @@ pub fn triangle_box_answer(a: TriangleBoxAnswer) -> SdfBoxAnswer
     }
 }
 
-pub fn closest_answer(a: ClosestPointAnswer) -> SdfPointAnswer
-    ensures { result ≡ C.closest_for_c (Asked.point_answer a) }
+#[tactic(auto, unfolding(c_records::specs::C::distance_for_c))]
+pub fn distance_answer(a: Result<f32, Refusal>) -> SdfDistanceAnswer
+    ensures { result ≡ C.distance_for_c (reply_of a) }
 {
     match a {
-        ClosestPointAnswer::OutOfBounds => SdfPointAnswer {
-            number: 2,
-            point: c_records::no_point(),
-        },
-        ClosestPointAnswer::NotANumber => SdfPointAnswer {
-            number: 6,
-            point: c_records::no_point(),
-        },
-        ClosestPointAnswer::Is(p) => SdfPointAnswer {
-            number: 0,
-            point: c_records::point_out(p),
-        },
-    }
-}
-
-pub fn distance_answer(a: DistanceAnswer) -> SdfDistanceAnswer
-    ensures { result ≡ C.distance_for_c (Asked.distance_answer a) }
-{
-    match a {
-        DistanceAnswer::OutOfBounds => SdfDistanceAnswer {
-            number: 2,
+        Err(r) => SdfDistanceAnswer {
+            number: r.number(),
             distance: 0.0,
         },
-        DistanceAnswer::NotANumber => SdfDistanceAnswer {
-            number: 6,
-            distance: 0.0,
-        },
-        DistanceAnswer::Is(d) => SdfDistanceAnswer {
+        Ok(d) => SdfDistanceAnswer {
             number: 0,
             distance: d,
         },
     }
 }
 
-pub fn ray_answer(a: RayAnswer) -> SdfRayAnswer
-    ensures { result ≡ C.ray_for_c (Asked.ray_answer a) }
+#[tactic(auto, unfolding(c_records::specs::C::ray_for_c))]
+pub fn ray_answer(a: Result<RayHit, Refusal>) -> SdfRayAnswer
+    ensures { result ≡ C.ray_for_c (reply_of a) }
 {
     match a {
-        RayAnswer::OutOfBounds => SdfRayAnswer {
-            number: 2,
+        Err(r) => SdfRayAnswer {
+            number: r.number(),
             hit: 0,
             grazed: 0,
             t: 0.0,
         },
-        RayAnswer::Is(h) => match h {
+        Ok(h) => match h {
             RayHit::Miss => SdfRayAnswer {
                 number: 0,
                 hit: 0,
@@ -102,24 +81,25 @@ pub fn ray_answer(a: RayAnswer) -> SdfRayAnswer
 
 // ---- the answer of the comparison
 
-pub fn order_answer(c: Comparison) -> SdfOrderAnswer
-    ensures { result ≡ C.comparison c }
+#[tactic(auto, unfolding(c_records::specs::C::comparison))]
+pub fn order_answer(a: Result<Ordering, Refusal>) -> SdfOrderAnswer
+    ensures { result ≡ C.comparison a }
 {
-    match c {
-        Comparison::NotANumber => SdfOrderAnswer {
-            number: 6,
+    match a {
+        Err(r) => SdfOrderAnswer {
+            number: r.number(),
             order: 0,
         },
-        Comparison::Is(o) => match o {
-            Order::Less => SdfOrderAnswer {
+        Ok(o) => match o {
+            Ordering::Less => SdfOrderAnswer {
                 number: 0,
                 order: -1,
             },
-            Order::Equal => SdfOrderAnswer {
+            Ordering::Equal => SdfOrderAnswer {
                 number: 0,
                 order: 0,
             },
-            Order::Greater => SdfOrderAnswer {
+            Ordering::Greater => SdfOrderAnswer {
                 number: 0,
                 order: 1,
             },

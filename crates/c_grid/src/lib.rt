@@ -1,58 +1,60 @@
-// The answers of the grid's questions, as C gets them.
+// The answers of the grid's questions, as C gets them: a function for each kind, since C's layout gives each kind its record.
 #![tactic(auto)]
 
 ghost use Rattle.std.specs.Prelude.{◌≡◌};
-ghost use Rattle.grid.specs.Reply as Reply;
+ghost use Rattle.refusals.specs.Numbers.{reply_of};
 ghost use Rattle.c_records.specs.C as C;
 
 use c_records::{
     SdfBoxAnswer, SdfCell, SdfCellAnswer, SdfGridAnswer, SdfNumberAnswer, SdfPointAnswer,
     SdfSnapAnswer,
 };
-use grid::{
-    BoxAnswer as GridBoxAnswer, CellAnswer, CountsAnswer, GridAnswer, NumberAnswer,
-    PointAnswer as GridPointAnswer, SnapAnswer, SnapResult,
-};
+use grid::{BoundingBox, Cell, Counts, Grid, Snap, SnapResult};
+use point::Point;
+use refusals::Refusal;
 
-pub fn number_answer(a: NumberAnswer) -> SdfNumberAnswer
-    ensures { result ≡ C.number_for_c (Reply.number_reply a) }
+#[tactic(auto, unfolding(c_records::specs::C::number_for_c))]
+pub fn number_answer(a: Result<u32, Refusal>) -> SdfNumberAnswer
+    ensures { result ≡ C.number_for_c (reply_of a) }
 {
     match a {
-        NumberAnswer::Refused(n) => SdfNumberAnswer {
-            number: n,
+        Err(r) => SdfNumberAnswer {
+            number: r.number(),
             value: 0,
         },
-        NumberAnswer::Number(i) => SdfNumberAnswer {
+        Ok(i) => SdfNumberAnswer {
             number: 0,
             value: i,
         },
     }
 }
 
-pub fn cell_answer(a: CellAnswer) -> SdfCellAnswer
-    ensures { result ≡ C.cell_for_c (Reply.cell_reply a) }
+#[tactic(auto, unfolding(c_records::specs::C::cell_for_c))]
+pub fn cell_answer(a: Result<Cell, Refusal>) -> SdfCellAnswer
+    ensures { result ≡ C.cell_for_c (reply_of a) }
 {
     match a {
-        CellAnswer::Refused(n) => SdfCellAnswer {
-            number: n,
+        Err(r) => SdfCellAnswer {
+            number: r.number(),
             cell: c_records::no_cell(),
         },
-        CellAnswer::At(c) => SdfCellAnswer {
+        Ok(c) => SdfCellAnswer {
             number: 0,
             cell: c_records::cell_out(c),
         },
     }
 }
 
-pub fn counts_answer(a: CountsAnswer) -> SdfCellAnswer
-    ensures { result ≡ C.counts_for_c (Reply.counts_reply a) }
+#[tactic(auto, unfolding(c_records::specs::C::counts_for_c))]
+pub fn counts_answer(a: Result<Counts, Refusal>) -> SdfCellAnswer
+    ensures { result ≡ C.counts_for_c (reply_of a) }
 {
     match a {
-        CountsAnswer::Refused(n) => SdfCellAnswer {
-            number: n,
+        Err(r) => SdfCellAnswer {
+            number: r.number(),
             cell: c_records::no_cell(),
         },
-        CountsAnswer::Are(c) => SdfCellAnswer {
+        Ok(c) => SdfCellAnswer {
             number: 0,
             cell: SdfCell {
                 x: c.x,
@@ -63,31 +65,33 @@ pub fn counts_answer(a: CountsAnswer) -> SdfCellAnswer
     }
 }
 
-pub fn point_answer(a: GridPointAnswer) -> SdfPointAnswer
-    ensures { result ≡ C.point_for_c (Reply.point_reply a) }
+#[tactic(auto, unfolding(c_records::specs::C::point_for_c))]
+pub fn point_answer(a: Result<Point, Refusal>) -> SdfPointAnswer
+    ensures { result ≡ C.point_for_c (reply_of a) }
 {
     match a {
-        GridPointAnswer::Refused(n) => SdfPointAnswer {
-            number: n,
+        Err(r) => SdfPointAnswer {
+            number: r.number(),
             point: c_records::no_point(),
         },
-        GridPointAnswer::At(p) => SdfPointAnswer {
+        Ok(p) => SdfPointAnswer {
             number: 0,
             point: c_records::point_out(p),
         },
     }
 }
 
-pub fn box_answer(a: GridBoxAnswer) -> SdfBoxAnswer
-    ensures { result ≡ C.box_for_c (Reply.box_reply a) }
+#[tactic(auto, unfolding(c_records::specs::C::box_for_c))]
+pub fn box_answer(a: Result<BoundingBox, Refusal>) -> SdfBoxAnswer
+    ensures { result ≡ C.box_for_c (reply_of a) }
 {
     match a {
-        GridBoxAnswer::Refused(n) => SdfBoxAnswer {
-            number: n,
+        Err(r) => SdfBoxAnswer {
+            number: r.number(),
             min: c_records::no_point(),
             max: c_records::no_point(),
         },
-        GridBoxAnswer::Is(b) => SdfBoxAnswer {
+        Ok(b) => SdfBoxAnswer {
             number: 0,
             min: c_records::point_out(b.min),
             max: c_records::point_out(b.max),
@@ -104,35 +108,34 @@ fn inside(res: SnapResult) -> u32
     }
 }
 
-pub fn snap_answer(a: SnapAnswer) -> SdfSnapAnswer
-    ensures { result ≡ C.snap_for_c (Reply.snap_reply a) }
+#[tactic(auto, unfolding(c_records::specs::C::snap_for_c))]
+pub fn snap_answer(a: Result<Snap, Refusal>) -> SdfSnapAnswer
+    ensures { result ≡ C.snap_for_c (reply_of a) }
 {
     match a {
-        SnapAnswer::Refused(n) => SdfSnapAnswer {
-            number: n,
+        Err(r) => SdfSnapAnswer {
+            number: r.number(),
             inside: 0,
             cell: c_records::no_cell(),
         },
-        SnapAnswer::Snapped(s) => {
-            let result = s.result;
-            SdfSnapAnswer {
-                number: 0,
-                inside: inside(result),
-                cell: c_records::cell_out(s.cell),
-            }
-        }
+        Ok(s) => SdfSnapAnswer {
+            number: 0,
+            inside: inside(s.result),
+            cell: c_records::cell_out(s.cell),
+        },
     }
 }
 
-pub fn grid_answer(a: GridAnswer) -> SdfGridAnswer
-    ensures { result ≡ C.grid_for_c (Reply.grid_reply a) }
+#[tactic(auto, unfolding(c_records::specs::C::grid_for_c))]
+pub fn grid_answer(a: Result<Grid, Refusal>) -> SdfGridAnswer
+    ensures { result ≡ C.grid_for_c (reply_of a) }
 {
     match a {
-        GridAnswer::Refused(n) => SdfGridAnswer {
-            number: n,
+        Err(r) => SdfGridAnswer {
+            number: r.number(),
             grid: c_records::no_grid(),
         },
-        GridAnswer::Made(g) => SdfGridAnswer {
+        Ok(g) => SdfGridAnswer {
             number: 0,
             grid: c_records::grid_out(g),
         },

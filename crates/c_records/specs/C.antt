@@ -1,15 +1,16 @@
 -- How a question reaches C and its answer comes back: as records with C's layout. An answer has document 01's number, 0 where
 -- a value is given, and the value, all zero where it is refused. Definitions only.
-use Rattle.std.specs.Prelude.{◌||◌, ℕ, eqb, ℤ, pos, negsuc, Float, if◌then◌else◌}
+use Rattle.std.specs.Prelude.{◌||◌, ℕ, eqb, ℤ, pos, negsuc, Float, Result, Ok, Err, if◌then◌else◌}
+use Rattle.std.specs.declared.cmp.Ordering.{Ordering}
+use Rattle.std.specs.declared.cmp.Ordering.TheVariants.{Less, Equal, Greater}
 use Rattle.std.specs.Float.Ieee.{is_nan}
+use Rattle.refusals.specs.Numbers.{number_of, Reply, refused, given}
+use Rattle.refusals.specs.declared.Refusal.{Refusal}
+use Rattle.refusals.specs.declared.Refusal.TheVariants.{NotANumber}
 use Rattle.float.specs.Arith.{f0}
 use Rattle.point.specs.declared.Point.{Point}
 use Rattle.point.specs.Point.{vec}
 use Rattle.float_order.specs.Compare.{order}
-use Rattle.float_order.specs.declared.Order.{Order}
-use Rattle.float_order.specs.declared.Order.TheVariants.{Less, Equal, Greater}
-use Rattle.float_order.specs.declared.Comparison.{Comparison}
-use Rattle.float_order.specs.declared.Comparison.TheVariants.{Is, NotANumber}
 use Rattle.grid.specs.declared.Grid.{Grid}
 use Rattle.grid.specs.declared.Cell.{Cell}
 use Rattle.grid.specs.declared.Counts.{Counts}
@@ -17,7 +18,6 @@ use Rattle.grid.specs.declared.BoundingBox.{BoundingBox}
 use Rattle.grid.specs.declared.Snap.{Snap}
 use Rattle.grid.specs.declared.SnapResult.{SnapResult}
 use Rattle.grid.specs.declared.SnapResult.TheVariants.{Inside, Outside}
-use Rattle.grid.specs.Reply.{Reply, refused, given}
 use Rattle.terms.specs.declared.Pass.{Pass}
 use Rattle.terms.specs.declared.Pass.TheVariants.{Plain, Quick}
 use Rattle.terms.specs.declared.SignMethod.{SignMethod}
@@ -26,8 +26,6 @@ use Rattle.terms.specs.declared.Terms.{Terms}
 use Rattle.geo_box.specs.declared.TriangleBox.{TriangleBox}
 use Rattle.geo_ray.specs.declared.RayHit.{RayHit}
 use Rattle.geo_ray.specs.declared.RayHit.TheVariants.{Miss, Grazed, Hit}
-use Rattle.ask_geo.specs.Asked as Asked
-use Rattle.ask_geo.specs.Asked.{Answer, value}
 use Rattle.c_records.specs.declared.SdfPoint.{SdfPoint}
 use Rattle.c_records.specs.declared.SdfCell.{SdfCell}
 use Rattle.c_records.specs.declared.SdfGrid.{SdfGrid}
@@ -139,37 +137,36 @@ grid_for_c (given g) = record { number = 0; grid = grid_out g }
 
 -- ---- the answers of the geometry
 
-unfoldable pub triangle_box_for_c : Answer TriangleBox → SdfBoxAnswer
-triangle_box_for_c (Asked.refused n) = record { number = n; min = no_point; max = no_point }
-triangle_box_for_c (value b) = record { number = 0; min = point_out b.low; max = point_out b.high }
+unfoldable pub triangle_box_for_c : Reply TriangleBox → SdfBoxAnswer
+triangle_box_for_c (refused n) = record { number = n; min = no_point; max = no_point }
+triangle_box_for_c (given b) = record { number = 0; min = point_out b.low; max = point_out b.high }
 
-unfoldable pub closest_for_c : Answer Point → SdfPointAnswer
-closest_for_c (Asked.refused n) = record { number = n; point = no_point }
-closest_for_c (value p) = record { number = 0; point = point_out p }
+abbrev pub closest_for_c : Reply Point → SdfPointAnswer
+closest_for_c = point_for_c
 
-unfoldable pub distance_for_c : Answer Float → SdfDistanceAnswer
-distance_for_c (Asked.refused n) = record { number = n; distance = f0 }
-distance_for_c (value d) = record { number = 0; distance = d }
+unfoldable pub distance_for_c : Reply Float → SdfDistanceAnswer
+distance_for_c (refused n) = record { number = n; distance = f0 }
+distance_for_c (given d) = record { number = 0; distance = d }
 
 -- hit is 1 with its t, grazed is 1 where the ray grazed, and both are 0 for a miss
-unfoldable pub ray_for_c : Answer RayHit → SdfRayAnswer
-ray_for_c (Asked.refused n) = record { number = n; hit = 0; grazed = 0; t = f0 }
-ray_for_c (value Miss) = record { number = 0; hit = 0; grazed = 0; t = f0 }
-ray_for_c (value Grazed) = record { number = 0; hit = 0; grazed = 1; t = f0 }
-ray_for_c (value (Hit t)) = record { number = 0; hit = 1; grazed = 0; t = t }
+unfoldable pub ray_for_c : Reply RayHit → SdfRayAnswer
+ray_for_c (refused n) = record { number = n; hit = 0; grazed = 0; t = f0 }
+ray_for_c (given Miss) = record { number = 0; hit = 0; grazed = 0; t = f0 }
+ray_for_c (given Grazed) = record { number = 0; hit = 0; grazed = 1; t = f0 }
+ray_for_c (given (Hit t)) = record { number = 0; hit = 1; grazed = 0; t = t }
 
 -- ---- the answer of the comparison
 
 -- -1, 0 and 1
-abbrev pub sign : Order → ℤ
+abbrev pub sign : Ordering → ℤ
 sign Less = negsuc 0
 sign Equal = pos 0
 sign Greater = pos 1
 
-unfoldable pub comparison : Comparison → SdfOrderAnswer
-comparison NotANumber = record { number = 6; order = pos 0 }
-comparison (Is o) = record { number = 0; order = sign o }
+unfoldable pub comparison : Result Ordering Refusal → SdfOrderAnswer
+comparison (Err r) = record { number = number_of r; order = pos 0 }
+comparison (Ok o) = record { number = 0; order = sign o }
 
 -- to a question of a and b
 abbrev pub compared_for_c : Float → Float → SdfOrderAnswer
-compared_for_c a b = comparison (if is_nan a || is_nan b then NotANumber else Is (order a b))
+compared_for_c a b = comparison (if is_nan a || is_nan b then Err NotANumber else Ok (order a b))

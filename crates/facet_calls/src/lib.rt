@@ -3,24 +3,29 @@
 // face `sdf`, which users call.
 #![tactic(auto)]
 
+ghost use Rattle.refusals.specs.Numbers.{refusal_number};
 ghost use Rattle.facet_index.specs.Index.{index_of};
 ghost use Rattle.facet_index.specs.Refusals.{Builds, Updates};
 ghost use Rattle.facet_index.specs.Asked.{Answers};
 
-// The index of the names of a field's cells, by 0. `starts` has a start for each triangle and one end, `list` is as long as
+use refusals::Refusal;
+
+// The index of the names of a field's cells. `starts` has a start for each triangle and one end, `list` is as long as
 // the names: the cells that name triangle k stand from place starts[k] to before starts[k + 1], ascending, and behind the
 // last of them stands none, 4,294,967,295. On a refusal, by 3, 15 or 4, nothing is changed.
-pub fn index_build(triangles: u32, names: &[u32], starts: &mut [u32], list: &mut [u32]) -> u32
+pub fn index_build(
+    triangles: u32,
+    names: &[u32],
+    starts: &mut [u32],
+    list: &mut [u32],
+) -> Result<(), Refusal>
     ensures { let lent = index_of starts.old list.old in
         let left = index_of starts.new list.new in
-        Builds triangles names.now lent result left }
+        Builds triangles names.now lent (refusal_number result) left }
 {
-    let refusal = facet_checks::build_refusal(triangles, names, starts, list);
-    if refusal != 0 {
-        return refusal;
-    }
+    facet_checks::build_refusal(triangles, names, starts, list)?;
     facet_build::index_names(triangles, names, starts, list);
-    0
+    Ok(())
 }
 
 // The index of the old names becomes that of the new ones: what a fresh build from these gives. On a refusal, by 3, 15, 4 or
@@ -32,20 +37,17 @@ pub fn index_update(
     names: &[u32],
     starts: &mut [u32],
     list: &mut [u32],
-) -> u32
+) -> Result<(), Refusal>
     ensures { let lent = index_of starts.old list.old in
         let left = index_of starts.new list.new in
-        Updates triangles old.now names.now lent result left }
+        Updates triangles old.now names.now lent (refusal_number result) left }
 {
-    let refusal = facet_checks::update_refusal(triangles, old, names, starts, list);
-    if refusal != 0 {
-        return refusal;
-    }
+    facet_checks::update_refusal(triangles, old, names, starts, list)?;
     if !facet_stale::is_index(triangles, old, starts, list) {
-        return 18;
+        return Err(Refusal::StaleIndex);
     }
     facet_build::index_names(triangles, names, starts, list);
-    0
+    Ok(())
 }
 
 // The cells that name a facet, ascending: a part of the lent list. Where the starts have no such facet, or the list no such

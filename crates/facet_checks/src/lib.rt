@@ -4,8 +4,11 @@
 
 ghost use Rattle.std.specs.Prelude.{◌≡◌};
 ghost use Rattle.lists.specs.Checks.{first_that_applies};
+ghost use Rattle.refusals.specs.Numbers.{refusal_number};
 ghost use Rattle.facet_index.specs.Index.{index_of};
 ghost use Rattle.facet_index.specs.Refusals.{known, wrong_lengths, unknown_name, in_order, build_checks, early_checks};
+
+use refusals::Refusal;
 
 // Whether a name is that of a triangle, or none.
 fn is_known(triangles: u32, name: u32) -> bool
@@ -19,10 +22,8 @@ fn unknown_name(triangles: u32, names: &[u32]) -> bool
     ensures { result ≡ unknown_name triangles names.now }
 {
     let mut unknown = false;
-    let mut c = 0;
-    while c < names.len() {
-        unknown = unknown | !is_known(triangles, names[c]);
-        c += 1;
+    for name in names {
+        unknown |= !is_known(triangles, *name);
     }
     unknown
 }
@@ -34,26 +35,31 @@ fn wrong_lengths(triangles: u32, names: usize, starts: usize, list: usize) -> bo
     (starts != triangles as usize + 1) | (1_048_576 < names) | (list != names)
 }
 
-// The first of 3, 15 and 4 that applies, and 0 where none does; whether a length is wrong and a name unknown is told.
-fn first_refusal(triangles: u32, lengths: bool, name: bool) -> u32
-    ensures { result ≡ first_that_applies (in_order triangles lengths name) }
+// The first of 3, 15 and 4 that applies; whether a length is wrong and a name unknown is told.
+fn first_refusal(triangles: u32, lengths: bool, name: bool) -> Result<(), Refusal>
+    ensures { refusal_number result ≡ first_that_applies (in_order triangles lengths name) }
 {
     if 131_072 < triangles {
-        return 3;
+        return Err(Refusal::TooManyTriangles);
     }
     if lengths {
-        return 15;
+        return Err(Refusal::WrongIndexLength);
     }
     if name {
-        return 4;
+        return Err(Refusal::NoSuchIndex);
     }
-    0
+    Ok(())
 }
 
 // Of a build.
-pub fn build_refusal(triangles: u32, names: &[u32], starts: &[u32], list: &[u32]) -> u32
+pub fn build_refusal(
+    triangles: u32,
+    names: &[u32],
+    starts: &[u32],
+    list: &[u32],
+) -> Result<(), Refusal>
     ensures { let lent = index_of starts.now list.now in
-        result ≡ first_that_applies (build_checks triangles names.now lent) }
+        refusal_number result ≡ first_that_applies (build_checks triangles names.now lent) }
 {
     let lengths = wrong_lengths(triangles, names.len(), starts.len(), list.len());
     let name = unknown_name(triangles, names);
@@ -67,9 +73,9 @@ pub fn update_refusal(
     names: &[u32],
     starts: &[u32],
     list: &[u32],
-) -> u32
+) -> Result<(), Refusal>
     ensures { let lent = index_of starts.now list.now in
-        result ≡ first_that_applies (early_checks triangles old.now names.now lent) }
+        refusal_number result ≡ first_that_applies (early_checks triangles old.now names.now lent) }
 {
     let lengths = wrong_lengths(triangles, names.len(), starts.len(), list.len());
     let others = old.len() != names.len();

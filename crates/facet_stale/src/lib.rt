@@ -19,8 +19,7 @@ fn is_row(facet: u32, names: &[u32], list: &[u32], from: usize, to: usize) -> bo
 {
     // the cells that have come are below this
     let mut least: usize = 0;
-    let mut p = from;
-    while p < to {
+    for p in from..to {
         let cell = list[p] as usize;
         if cell < least {
             return false;
@@ -32,7 +31,6 @@ fn is_row(facet: u32, names: &[u32], list: &[u32], from: usize, to: usize) -> bo
             return false;
         }
         least = cell + 1;
-        p += 1;
     }
     true
 }
@@ -43,8 +41,7 @@ fn all_orderly(triangles: u32, names: &[u32], starts: &[u32], list: &[u32]) -> b
     ensures { let i = index_of starts.now list.now in
         Tells result ((k : ℕ) → k < triangles → Orderly names.now i k) }
 {
-    let mut facet: u32 = 0;
-    while facet < triangles {
+    for facet in 0..triangles {
         let k = facet as usize;
         let from = starts[k] as usize;
         let to = starts[k + 1] as usize;
@@ -57,7 +54,6 @@ fn all_orderly(triangles: u32, names: &[u32], starts: &[u32], list: &[u32]) -> b
         if !is_row(facet, names, list, from, to) {
             return false;
         }
-        facet += 1;
     }
     true
 }
@@ -67,11 +63,8 @@ fn count_named(triangles: u32, names: &[u32]) -> usize
     ensures { result ≡ before names.now triangles }
 {
     let mut n: usize = 0;
-    let mut c = 0;
-    while c < names.len() {
-        let name = names[c];
-        c += 1;
-        if name < triangles {
+    for name in names {
+        if *name < triangles {
             n += 1;
         }
     }
@@ -82,12 +75,10 @@ fn count_named(triangles: u32, names: &[u32]) -> usize
 fn is_tail(list: &[u32], end: usize) -> bool
     ensures { Tells result ((p : ℕ) → end ≤ p → p < length list.now → get_or list.now p 0 ≡ none) }
 {
-    let mut p = end;
-    while p < list.len() {
+    for p in end..list.len() {
         if list[p] != 4_294_967_295 {
             return false;
         }
-        p += 1;
     }
     true
 }

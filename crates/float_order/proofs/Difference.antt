@@ -15,7 +15,7 @@ use lib.Ieee.Order.{round_mono}
 use lib.Ieee.Scale.{round_same}
 use borrow.Author.Tests.{lt-ltb, le-ltb}
 use Rattle.float.specs.Arith.{◌⊖◌, ◌≦◌}
-use Rattle.float.specs.Distance.{Distance, unsigned}
+use Rattle.float.specs.Distance.{Distance}
 use Rattle.float.proofs.Order.{unsigned_distance, distance_le}
 use Rattle.float.proofs.NoSign.{round_unsigned}
 use Rattle.float.specs.Steps.{abs_of}

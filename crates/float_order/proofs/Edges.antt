@@ -5,8 +5,8 @@ use mathlib.Core.List.{[], ◌∷◌}
 use Prim.Native.Nat.{ℕ}
 use lib.Ieee.{binary32, eq, le, lt, sub, of_bits, to_bits, round}
 use Rattle.float.specs.Steps.{abs_of}
-use Rattle.float_order.specs.declared.Order.{Order}
-use Rattle.float_order.specs.declared.Order.TheVariants.{Less, Greater}
+use Rattle.std.specs.declared.cmp.Ordering.{Ordering}
+use Rattle.std.specs.declared.cmp.Ordering.TheVariants.{Less, Greater}
 use Rattle.float_order.specs.Compare.{alike_margin, alike, order}
 
 -- the margin is the binary32 nearest to 1 / 1,000,000
@@ -15,7 +15,7 @@ unfolding of_bits round
 margin_nearest = refl
 
 -- the values with two patterns, compared
-abbrev at : ℕ → ℕ → Order
+abbrev at : ℕ → ℕ → Ordering
 at p q = order (of_bits binary32 p) (of_bits binary32 q)
 
 -- a positive value against a negative one: of magnitude 0, of the margin and just above it against 0, of 2^23 with 2 and with 3 patterns more, of

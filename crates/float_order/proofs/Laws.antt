@@ -8,21 +8,23 @@ use native.Mathlib.Omega.{arith}
 use native.Mathlib.Decide.{dec_lt}
 use mathlib.Core.Path.{◌≡◌, refl, sym, ap, ◌∙◌}
 use mathlib.Core.Logic.{◌↔◌}
-use mathlib.Core.Bool.{Bool, true, false}
+use mathlib.Core.Bool.{Bool, true, false, ◌||◌}
 use mathlib.Core.Option.{none, some}
 use lib.Dec.{ltb}
-use lib.Ieee.{Float, binary32, to_bits}
+use lib.Ieee.{Float, binary32, to_bits, is_nan}
 use borrow.Author.Tests.{lt-ltb, le-ltb, eqb-true, eq-eqb}
 use Rattle.float.specs.Arith.{◌≺◌, ◌≐◌}
 use Rattle.float.specs.Distance.{Distance}
 use Rattle.float.proofs.Order.{same_bits, distance_no_nan, distance_eq}
-use Rattle.float_order.specs.declared.Order.{Order}
-use Rattle.float_order.specs.declared.Order.TheVariants.{Less, Equal, Greater}
-use Rattle.float_order.specs.declared.Comparison.{Comparison}
-use Rattle.float_order.specs.declared.Comparison.TheVariants.{Is, NotANumber}
+use Rattle.std.specs.declared.cmp.Ordering.{Ordering}
+use Rattle.std.specs.declared.cmp.Ordering.TheVariants.{Less, Equal, Greater}
+use Rattle.std.specs.Prelude.{Result, Ok, Err}
+use Rattle.refusals.specs.Numbers.{number_of}
+use Rattle.refusals.specs.declared.Refusal.{Refusal}
+use Rattle.refusals.specs.declared.Refusal.TheVariants as Is
 use Rattle.float.specs.Steps.{sign_bit}
 use Rattle.float_order.specs.Compare.{order, of_numbers}
-use Rattle.float_order.specs.Asked.{Compared}
+use Rattle.float_order.specs.Asked.{compared_number, compared_order, Compared}
 use Rattle.float_order.specs.Total.{Value, not_greater, opposite}
 use Rattle.float.proofs.Magnitude.{distance_sign}
 use Rattle.float_order.proofs.Farther.{beyond_at}
@@ -39,7 +41,7 @@ numbers_swapped m n = go (dec_lt m n) (dec_lt n m)
     go (no h) (yes k) = rw (le-ltb m n (le_of_lt k), lt-ltb n m k)
     go (no h) (no k) = rw (le-ltb m n (omega arith), le-ltb n m (omega arith))
 
-opposite_if : (t : Bool) (o p : Order) → (if t then opposite o else opposite p) ≡ opposite (if t then o else p)
+opposite_if : (t : Bool) (o p : Ordering) → (if t then opposite o else opposite p) ≡ opposite (if t then o else p)
 opposite_if true o p = refl
 opposite_if false o p = refl
 
@@ -61,7 +63,7 @@ less_greater x y = (λ h. order_swapped x y ∙ ap opposite h, λ h. order_swapp
 
 -- ---- Equal for one pattern alone
 
-own_opposite : (o : Order) → o ≡ opposite o → o ≡ Equal
+own_opposite : (o : Ordering) → o ≡ opposite o → o ≡ Equal
 own_opposite Less e = cc
 own_opposite Equal e = refl
 own_opposite Greater e = cc
@@ -105,8 +107,34 @@ module _ (a b : Float) (p : Distance a) (q : Distance b) where
 
 -- ---- an answer asked by itself is determined
 
-pub one_answer : (a b : Float) (r s : Comparison) → Compared a b r → Compared a b s → r ≡ s
-one_answer a b (Is o) (Is p) h k = let e : some o ≡ some p = h.value ∙ sym k.value in cc
-one_answer a b (Is o) NotANumber h k = let e : some o ≡ none = h.value ∙ sym k.value in cc
-one_answer a b NotANumber (Is p) h k = let e : none ≡ some p = h.value ∙ sym k.value in cc
-one_answer a b NotANumber NotANumber h k = refl
+-- 6 is the number of one refusal alone
+not_a_number : (r : Refusal) → number_of r ≡ 6 → r ≡ Is.NotANumber
+not_a_number Is.OutOfBounds e = cc
+not_a_number Is.WrongVertices e = cc
+not_a_number Is.TooManyTriangles e = cc
+not_a_number Is.NoSuchIndex e = cc
+not_a_number Is.WrongLength e = cc
+not_a_number Is.NotANumber e = refl
+not_a_number Is.QueueFull e = cc
+not_a_number Is.PopsSpent e = cc
+not_a_number Is.Unreadable e = cc
+not_a_number Is.OffGrid e = cc
+not_a_number Is.WrongFile e = cc
+not_a_number Is.TooManyFacets e = cc
+not_a_number Is.Strip e = cc
+not_a_number Is.NoSuchEdition e = cc
+not_a_number Is.WrongIndexLength e = cc
+not_a_number Is.StaleIndex e = cc
+
+-- the number and the order that an answer gives say which answer it is
+decided : (r : Result Ordering Refusal) (t : Bool) (o : Ordering) → compared_number r ≡ (if t then 6 else 0) → compared_order r ≡ (if t then none else some o) → r ≡ (if t then Err Is.NotANumber else Ok o)
+decided (Ok p) true o n e = cc
+decided (Ok p) false o n e = cc
+decided (Err r) true o n e = ap Err (not_a_number r n)
+decided (Err r) false o n e = cc
+
+pub answered : (a b : Float) (r : Result Ordering Refusal) → Compared a b r → r ≡ (if is_nan a || is_nan b then Err Is.NotANumber else Ok (order a b))
+answered a b r h = decided r (is_nan a || is_nan b) (order a b) h.number h.value
+
+pub one_answer : (a b : Float) (r s : Result Ordering Refusal) → Compared a b r → Compared a b s → r ≡ s
+one_answer a b r s h k = answered a b r h ∙ sym (answered a b s k)

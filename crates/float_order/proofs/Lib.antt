@@ -7,7 +7,6 @@ pub mod Patterns
 pub mod Total
 pub mod Laws
 pub mod Edges
-pub mod Tested
 pub mod Nearer
 pub mod Height
 pub mod Keys

@@ -16,8 +16,8 @@ use Rattle.float.specs.Arith.{◌≺◌, f_max}
 use Rattle.float.specs.Distance.{Distance}
 use Rattle.float.specs.Steps.{abs_of, sign_bit}
 use Rattle.float.proofs.Magnitude.{abs_distance}
-use Rattle.float_order.specs.declared.Order.{Order}
-use Rattle.float_order.specs.declared.Order.TheVariants.{Less, Equal, Greater}
+use Rattle.std.specs.declared.cmp.Ordering.{Ordering}
+use Rattle.std.specs.declared.cmp.Ordering.TheVariants.{Less, Equal, Greater}
 use Rattle.float_order.specs.Compare.{apart, alike, order}
 use Rattle.float_order.specs.Total.{Value, not_greater, not_after, opposite}
 use Rattle.float_order.specs.Nearer.{is_less, nearer}
@@ -86,9 +86,9 @@ nearer_number (fin s m e) b f h = tt
 
 pub nearer_after : (x y : Value) → nearer x.float y.float ≡ not (not_after y x)
 unfolding nearer
-nearer_after x y = go (order x.float y.float) ∙ ap (λ (o : Order). not (not_greater o)) (sym (order_swapped x y))
+nearer_after x y = go (order x.float y.float) ∙ ap (λ (o : Ordering). not (not_greater o)) (sym (order_swapped x y))
   where
-    go : (o : Order) → is_less o ≡ not (not_greater (opposite o))
+    go : (o : Ordering) → is_less o ≡ not (not_greater (opposite o))
     go Less = refl
     go Equal = refl
     go Greater = refl

@@ -9,7 +9,7 @@ use mathlib.Core.Bool.{Bool, true, false, cond}
 use lib.Dec.{ltb}
 use lib.Ieee.{binary32, to_bits}
 use borrow.Author.Tests.{lt-ltb, le-ltb}
-use Rattle.float_order.specs.declared.Order.TheVariants.{Less, Equal, Greater}
+use Rattle.std.specs.declared.cmp.Ordering.TheVariants.{Less, Equal, Greater}
 use Rattle.float.specs.Steps.{sign_bit}
 use Rattle.float_order.specs.Compare.{order, of_numbers}
 use Rattle.float_order.specs.Total.{Value}

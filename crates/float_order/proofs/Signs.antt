@@ -13,7 +13,7 @@ use borrow.Author.Tests.{le-ltb, ltb-true, ltb-false}
 use Rattle.float.specs.Arith.{◌≺◌}
 use Rattle.float.specs.Distance.{Distance}
 use Rattle.float.proofs.Order.{distance_lt}
-use Rattle.float_order.specs.declared.Order.TheVariants.{Less, Equal, Greater}
+use Rattle.std.specs.declared.cmp.Ordering.TheVariants.{Less, Equal, Greater}
 use Rattle.float.specs.Steps.{sign_bit, abs_of}
 use Rattle.float_order.specs.Compare.{alike, by_magnitude, order, beyond, of_numbers}
 use Rattle.float_order.specs.Total.{Value}

@@ -11,7 +11,7 @@ use mathlib.Core.Bool.{Bool, true, false, not, true≢false}
 use lib.Dec.{T, T_prop, leb, ltb}
 use lib.Ieee.{Float, binary32, fits, is_nan}
 use borrow.Author.Tests.{lt-ltb, le-ltb, lt-leb, le-leb, leb-true, leb-false, not-true, not-false}
-use Rattle.float_order.specs.declared.Order.TheVariants.{Less, Equal, Greater}
+use Rattle.std.specs.declared.cmp.Ordering.TheVariants.{Less, Equal, Greater}
 use Rattle.lists.specs.Total.{Total}
 use Rattle.float.specs.Steps.{sign_bit}
 use Rattle.float_order.specs.Compare.{of_numbers}

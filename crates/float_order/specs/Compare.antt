@@ -5,8 +5,8 @@ use Rattle.std.specs.Float.{binary32}
 use Rattle.std.specs.Float.Ieee.{of_bits, to_bits, unlike}
 use Rattle.float.specs.Arith.{◌⊖◌, ◌≺◌, ◌≦◌, ◌≐◌}
 use Rattle.float.specs.Steps.{abs_of, sign_bit}
-use Rattle.float_order.specs.declared.Order.{Order}
-use Rattle.float_order.specs.declared.Order.TheVariants.{Less, Equal, Greater}
+use Rattle.std.specs.declared.cmp.Ordering.{Ordering}
+use Rattle.std.specs.declared.cmp.Ordering.TheVariants.{Less, Equal, Greater}
 
 -- 1e-6, as the nearest binary32
 abbrev pub alike_margin : Float
@@ -21,18 +21,18 @@ unfoldable pub alike : Float → Float → Bool
 alike x y = (x ≐ y) || (abs_of (x ⊖ y) ≦ alike_margin) || leb (apart (to_bits binary32 x) (to_bits binary32 y)) 2
 
 -- "the magnitudes decide"
-abbrev pub by_magnitude : Float → Float → Order
+abbrev pub by_magnitude : Float → Float → Ordering
 by_magnitude a b =
     if abs_of a ≺ abs_of b then Less
     else (if abs_of b ≺ abs_of a then Greater
     else Equal)
 
 -- "the positive one is smaller", of two with opposite sign bits
-abbrev pub positive_first : Float → Order
+abbrev pub positive_first : Float → Ordering
 positive_first a = if sign_bit a then Greater else Less
 
 -- a compared with b
-unfoldable pub order : Float → Float → Order
+unfoldable pub order : Float → Float → Ordering
 order a b =
     if alike (abs_of a) (abs_of b) && unlike (sign_bit a) (sign_bit b) then positive_first a
     else by_magnitude a b
@@ -44,7 +44,7 @@ abbrev pub beyond : Float → Float → Bool
 beyond x y = (y ≺ x) && not (alike x y)
 
 -- two whole numbers
-abbrev pub of_numbers : ℕ → ℕ → Order
+abbrev pub of_numbers : ℕ → ℕ → Ordering
 of_numbers m n =
     if ltb m n then Less
     else (if ltb n m then Greater

@@ -6,10 +6,10 @@ use Rattle.std.specs.Float.Ieee.{of_bits, to_bits}
 use Rattle.float.specs.Steps.{abs_of, sign_bit}
 use Rattle.lists.specs.Range.{count_below}
 use Rattle.float_order.specs.Compare.{order}
-use Rattle.float_order.specs.declared.Order.{Order}
-use Rattle.float_order.specs.declared.Order.TheVariants.{Less, Equal, Greater}
+use Rattle.std.specs.declared.cmp.Ordering.{Ordering}
+use Rattle.std.specs.declared.cmp.Ordering.TheVariants.{Less, Equal, Greater}
 
-abbrev pub is_less : Order → Bool
+abbrev pub is_less : Ordering → Bool
 is_less Less = true
 is_less Equal = false
 is_less Greater = false

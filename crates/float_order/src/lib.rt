@@ -13,22 +13,12 @@ ghost use Rattle.float_order.specs.Compare as Compare;
 ghost use Rattle.float_order.specs.Nearer as Nearer;
 ghost use Rattle.float_order.specs.Asked.{Compared};
 
+use refusals::Refusal;
+use std::cmp::Ordering;
+use std::cmp::Ordering::{Greater, Less};
+
 // The sign bit of a pattern.
 const SIGN: u32 = 0x8000_0000;
-
-#[derive(Clone, Copy)]
-pub enum Order {
-    Less,
-    Equal,
-    Greater,
-}
-
-// The answer of the comparison asked by itself.
-#[derive(Clone, Copy)]
-pub enum Comparison {
-    Is(Order),
-    NotANumber,
-}
 
 // Whether the magnitude x is larger than y and not alike: their patterns differ by more than 2 and
 // their rounded difference is above 1e-6. Of two infinities the difference is a NaN, above nothing.
@@ -40,23 +30,10 @@ fn beyond(x: u32, y: u32) -> bool
     (x > y + 2) & (f32::from_bits(x) - f32::from_bits(y) > 1e-6)
 }
 
-// The order of two whole numbers.
-fn order_of(m: u32, n: u32) -> Order
-    ensures { result ≡ Compare.of_numbers m n }
-{
-    if m < n {
-        Order::Less
-    } else if n < m {
-        Order::Greater
-    } else {
-        Order::Equal
-    }
-}
-
 // The order of two distances that are no NaN. With one sign bit the magnitudes decide, and patterns
 // with one sign bit are ordered as their magnitudes. With two the positive one, whose pattern is the
 // smaller, comes first, unless it lies beyond the other.
-pub fn compare_distances(a: f32, b: f32) -> Order
+pub fn compare_distances(a: f32, b: f32) -> Ordering
     requires t { T (not (is_nan a)) }
     requires t_2 { T (not (is_nan b)) }
     ensures { result ≡ Compare.order a b }
@@ -64,28 +41,24 @@ pub fn compare_distances(a: f32, b: f32) -> Order
     let p = f32::to_bits(a);
     let q = f32::to_bits(b);
     if p / SIGN == q / SIGN {
-        return order_of(p, q);
+        return p.cmp(&q);
     }
     if p < q {
         let far = beyond(p, q - SIGN);
-        return if far { Order::Greater } else { Order::Less };
+        return if far { Greater } else { Less };
     }
     let far = beyond(q, p - SIGN);
-    if far { Order::Less } else { Order::Greater }
+    if far { Less } else { Greater }
 }
 
 // Whether a is nearer than b. A NaN is nearer than nothing, and nothing than a NaN.
 pub fn is_nearer(a: f32, b: f32) -> bool
     ensures { result ≡ Nearer.nearer a b }
 {
-    if (b != b) | (a != a) {
+    if b.is_nan() | a.is_nan() {
         return false;
     }
-    match compare_distances(a, b) {
-        Order::Less => true,
-        Order::Equal => false,
-        Order::Greater => false,
-    }
+    compare_distances(a, b).is_lt()
 }
 
 // The key of a distance, by which the queue orders: its magnitude's bit pattern, and behind it the sign bit.
@@ -98,11 +71,11 @@ pub fn key_of(d: f32) -> u32
 }
 
 // The comparison asked by itself: it refuses a NaN, where the Rust panics or goes by the NaN's bits.
-pub fn compare(a: f32, b: f32) -> Comparison
+pub fn compare(a: f32, b: f32) -> Result<Ordering, Refusal>
     ensures { Compared a b result }
 {
-    if (a != a) | (b != b) {
-        return Comparison::NotANumber;
+    if a.is_nan() | b.is_nan() {
+        return Err(Refusal::NotANumber);
     }
-    Comparison::Is(compare_distances(a, b))
+    Ok(compare_distances(a, b))
 }

@@ -1,11 +1,11 @@
 -- What the tests of a grid and of a cell say of their numbers. Assumes nothing.
-use mathlib.Core.Path.{◌≡◌, refl, sym, ap, ◌∙◌}
-use mathlib.Core.Bool.{Bool, true, false, not, ◌&&◌, true≢false}
+use mathlib.Core.Path.{◌≡◌, refl, sym, ap}
+use mathlib.Core.Bool.{Bool, true, false, ◌&&◌, true≢false}
 use Prim.Native.Nat.{ℕ, ◌*◌, ◌/◌, ◌%◌, ◌^◌, ◌≤◌, ◌<◌}
 use native.Mathlib.Nat.{div-one, mod-eq_of_lt, mul-pos, le_trans, lt_of_lt_of_le}
 use lib.Dec.{leb, ltb, lit≤, lit<}
 use lib.Ieee.{Float}
-use borrow.Author.Tests.{leb-true, ltb-true, lt-ltb, not-true, not-false}
+use borrow.Author.Tests.{leb-true, ltb-true, lt-ltb}
 use Rattle.point.specs.declared.Axis.{Axis}
 use Rattle.point.specs.declared.Axis.TheVariants.{X, Y, Z}
 use Rattle.grid.specs.declared.Grid.{Grid}
@@ -21,13 +21,6 @@ use Rattle.grid.proofs.Laws.{index_below, cell_within, put_within}
 pub both : (a b : Bool) → (a && b) ≡ true → (a ≡ true) × (b ≡ true)
 both true b h = (refl, h)
 both false b h = absurd (true≢false (sym h))
-
--- what a call found, when it is turned round and tested: the definition's test is false, or true
-pub fails : {found test : Bool} → found ≡ test → not found ≡ true → test ≡ false
-fails e h = sym e ∙ not-true _ h
-
-pub passes : {found test : Bool} → found ≡ test → not found ≡ false → test ≡ true
-passes e h = sym e ∙ not-false _ h
 
 -- a test that holds on every axis holds on each
 pub each : (t : Axis → Bool) → on_every t ≡ true → (a : Axis) → t a ≡ true

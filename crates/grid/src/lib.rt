@@ -1,21 +1,24 @@
 // The grid of cells that a field is worked out on, after `grid.rs` (document 01, "Grid"). Its questions are methods
-// that take the grid by value, and none has a `requires`: each answers 1 for a grid out of bounds, then 4 for a
-// cell or an index outside the counts, then what was asked for (document 01, "Reply numbers"). The Rust panics
-// or runs on there. The port's own code, which has asked for the bounds once, calls the functions of `parts`;
-// what is alike on the three axes is in `grid_axis`, index and product of the counts in `grid_index`. Users find
-// `Grid` and its answers in `sdf`, and no `parts`.
+// that take the grid by value, and none has a `requires`: each is refused by 1 for a grid out of bounds, then by 4
+// for a cell or an index outside the counts, else it gives what was asked for (document 01, "Reply numbers"). The
+// Rust panics or runs on there. The port's own code, which has asked for the bounds once, calls the functions of
+// `parts`; what is alike on the three axes is in `grid_axis`, index and product of the counts in `grid_index`. Users
+// find `Grid` in `sdf`, and no `parts`.
 #![tactic(auto)]
 
 pub mod parts;
 
-ghost use Rattle.std.specs.Prelude.{◌≡◌};
+ghost use Rattle.std.specs.Prelude.{◌≡◌, true, false, IfOk, MatchResult};
+ghost use Rattle.refusals.specs.Numbers.{reply_of};
+ghost use Rattle.refusals.specs.declared.Refusal.TheVariants.{OutOfBounds, NoSuchIndex};
 ghost use Rattle.grid.specs.Axes as Axes;
-ghost use Rattle.grid.specs.Index.{index_of, cell_at, total};
+ghost use Rattle.grid.specs.Index.{is_cell, is_index, index_of, cell_at, total};
 ghost use Rattle.grid.specs.Place as Place;
 ghost use Rattle.grid.specs.Bounds.{in_bounds};
 ghost use Rattle.grid.specs.Reply as Reply;
 
 use point::{Axis, Point};
+use refusals::Refusal;
 
 // A cell by its number along each axis.
 #[derive(Clone, Copy)]
@@ -67,50 +70,6 @@ pub struct BoundingBox {
     pub max: Point,
 }
 
-// ---- the answers: the number of a refusal, or what was asked for
-
-#[derive(Clone, Copy)]
-pub enum NumberAnswer {
-    Refused(u32),
-    Number(u32),
-}
-
-#[derive(Clone, Copy)]
-pub enum CellAnswer {
-    Refused(u32),
-    At(Cell),
-}
-
-#[derive(Clone, Copy)]
-pub enum PointAnswer {
-    Refused(u32),
-    At(Point),
-}
-
-#[derive(Clone, Copy)]
-pub enum CountsAnswer {
-    Refused(u32),
-    Are(Counts),
-}
-
-#[derive(Clone, Copy)]
-pub enum BoxAnswer {
-    Refused(u32),
-    Is(BoundingBox),
-}
-
-#[derive(Clone, Copy)]
-pub enum SnapAnswer {
-    Refused(u32),
-    Snapped(Snap),
-}
-
-#[derive(Clone, Copy)]
-pub enum GridAnswer {
-    Refused(u32),
-    Made(Grid),
-}
-
 // ---- the questions
 
 impl Cell {
@@ -141,125 +100,93 @@ impl Grid {
         grid_index::total_in_bounds(self.count_x, self.count_y, self.count_z)
     }
 
-    pub fn get_first_cell(self) -> PointAnswer
-        ensures { Reply.point_reply result ≡ Reply.of_grid self self.first_cell }
+    pub fn get_first_cell(self) -> Result<Point, Refusal>
+        ensures { reply_of result ≡ Reply.of_grid self self.first_cell }
     {
-        if !self.in_bounds() {
-            return PointAnswer::Refused(1);
-        }
-        let first = self.first_cell;
-        PointAnswer::At(first)
+        self.in_bounds_or_refused()?;
+        Ok(self.first_cell)
     }
 
     // The source's comment says the centre of the last cell; what it gives is one cell further.
-    pub fn get_last_cell(self) -> PointAnswer
-        ensures { Reply.point_reply result ≡ Reply.of_grid self (Place.last_cell self) }
+    pub fn get_last_cell(self) -> Result<Point, Refusal>
+        ensures { reply_of result ≡ Reply.of_grid self (Place.last_cell self) }
     {
-        if !self.in_bounds() {
-            return PointAnswer::Refused(1);
-        }
+        self.in_bounds_or_refused()?;
         let first = self.first_cell;
         let size = self.cell_size;
-        let last = Point {
+        Ok(Point {
             x: grid_axis::end_on(first.x, size.x, self.count_x),
             y: grid_axis::end_on(first.y, size.y, self.count_y),
             z: grid_axis::end_on(first.z, size.z, self.count_z),
-        };
-        PointAnswer::At(last)
+        })
     }
 
-    pub fn get_cell_size(self) -> PointAnswer
-        ensures { Reply.point_reply result ≡ Reply.of_grid self self.cell_size }
+    pub fn get_cell_size(self) -> Result<Point, Refusal>
+        ensures { reply_of result ≡ Reply.of_grid self self.cell_size }
     {
-        if !self.in_bounds() {
-            return PointAnswer::Refused(1);
-        }
-        let size = self.cell_size;
-        PointAnswer::At(size)
+        self.in_bounds_or_refused()?;
+        Ok(self.cell_size)
     }
 
-    pub fn get_cell_count(self) -> CountsAnswer
-        ensures { Reply.counts_reply result ≡ Reply.of_grid self (Axes.counts_of self) }
+    pub fn get_cell_count(self) -> Result<Counts, Refusal>
+        ensures { reply_of result ≡ Reply.of_grid self (Axes.counts_of self) }
     {
-        if !self.in_bounds() {
-            return CountsAnswer::Refused(1);
-        }
-        let counts = Counts {
+        self.in_bounds_or_refused()?;
+        Ok(Counts {
             x: self.count_x,
             y: self.count_y,
             z: self.count_z,
-        };
-        CountsAnswer::Are(counts)
+        })
     }
 
-    pub fn get_total_cell_count(self) -> NumberAnswer
-        ensures { Reply.number_reply result ≡ Reply.of_grid self (total self) }
+    pub fn get_total_cell_count(self) -> Result<u32, Refusal>
+        ensures { reply_of result ≡ Reply.of_grid self (total self) }
     {
-        if !self.in_bounds() {
-            return NumberAnswer::Refused(1);
-        }
-        NumberAnswer::Number(parts::get_total_cell_count(self))
+        self.in_bounds_or_refused()?;
+        Ok(parts::get_total_cell_count(self))
     }
 
     // The corners of the box that the cells fill.
-    pub fn get_bounding_box(self) -> BoxAnswer
-        ensures { Reply.box_reply result ≡ Reply.of_grid self (Place.grid_box self) }
+    pub fn get_bounding_box(self) -> Result<BoundingBox, Refusal>
+        ensures { reply_of result ≡ Reply.of_grid self (Place.grid_box self) }
     {
-        if !self.in_bounds() {
-            return BoxAnswer::Refused(1);
-        }
-        BoxAnswer::Is(parts::get_bounding_box(self))
+        self.in_bounds_or_refused()?;
+        Ok(parts::get_bounding_box(self))
     }
 
-    pub fn get_cell_idx(self, cell: Cell) -> NumberAnswer
-        ensures { Reply.number_reply result ≡ Reply.of_cell self cell (index_of self cell) }
+    pub fn get_cell_idx(self, cell: Cell) -> Result<u32, Refusal>
+        ensures { reply_of result ≡ Reply.of_cell self cell (index_of self cell) }
     {
-        if !self.in_bounds() {
-            return NumberAnswer::Refused(1);
-        }
-        if !parts::is_cell(self, cell) {
-            return NumberAnswer::Refused(4);
-        }
-        NumberAnswer::Number(parts::get_cell_idx(self, cell))
+        Ok(parts::get_cell_idx(self, self.cell_or_refused(cell)?))
     }
 
-    pub fn get_cell_integer_coordinates(self, cell_idx: u32) -> CellAnswer
-        ensures { Reply.cell_reply result ≡ Reply.of_index self cell_idx (cell_at self cell_idx) }
+    pub fn get_cell_integer_coordinates(self, cell_idx: u32) -> Result<Cell, Refusal>
+        ensures { reply_of result ≡ Reply.of_index self cell_idx (cell_at self cell_idx) }
     {
-        if !self.in_bounds() {
-            return CellAnswer::Refused(1);
-        }
-        if !grid_index::is_index(cell_idx, self.count_x, self.count_y, self.count_z) {
-            return CellAnswer::Refused(4);
-        }
-        CellAnswer::At(parts::get_cell_integer_coordinates(self, cell_idx))
+        Ok(parts::get_cell_integer_coordinates(self, self.index_or_refused(cell_idx)?))
     }
 
-    pub fn get_cell_center(self, cell: Cell) -> PointAnswer
-        ensures { Reply.point_reply result ≡ Reply.of_cell self cell (Place.centre_of self cell) }
+    pub fn get_cell_center(self, cell: Cell) -> Result<Point, Refusal>
+        ensures { reply_of result ≡ Reply.of_cell self cell (Place.centre_of self cell) }
     {
-        if !self.in_bounds() {
-            return PointAnswer::Refused(1);
-        }
-        if !parts::is_cell(self, cell) {
-            return PointAnswer::Refused(4);
-        }
-        PointAnswer::At(parts::get_cell_center(self, cell))
+        Ok(parts::get_cell_center(self, self.cell_or_refused(cell)?))
     }
 
     // Any point may be asked for, a NaN among its coordinates too.
-    pub fn snap_point_to_grid(self, point: Point) -> SnapAnswer
-        ensures { Reply.snap_reply result ≡ Reply.of_grid self (Place.snap self point) }
+    pub fn snap_point_to_grid(self, point: Point) -> Result<Snap, Refusal>
+        ensures { reply_of result ≡ Reply.of_grid self (Place.snap self point) }
     {
-        if !self.in_bounds() {
-            return SnapAnswer::Refused(1);
-        }
-        SnapAnswer::Snapped(parts::snap_point_to_grid(self, point))
+        self.in_bounds_or_refused()?;
+        Ok(parts::snap_point_to_grid(self, point))
     }
 
     // The grid that fills a box, where it and its counts are within the bounds. It stands on z.
-    pub fn from_bounding_box(bbox_min: Point, bbox_max: Point, cell_count: Counts) -> GridAnswer
-        ensures { Reply.grid_reply result ≡ Reply.made (Place.from_box bbox_min bbox_max cell_count) }
+    pub fn from_bounding_box(
+        bbox_min: Point,
+        bbox_max: Point,
+        cell_count: Counts,
+    ) -> Result<Grid, Refusal>
+        ensures { reply_of result ≡ Reply.made (Place.from_box bbox_min bbox_max cell_count) }
     {
         let x = grid_axis::size_between(bbox_min.x, bbox_max.x, cell_count.x);
         let y = grid_axis::size_between(bbox_min.y, bbox_max.y, cell_count.y);
@@ -276,9 +203,45 @@ impl Grid {
             count_z: cell_count.z,
             upright: 2,
         };
-        if !grid.in_bounds() {
-            return GridAnswer::Refused(1);
+        grid.in_bounds_or_refused()?;
+        Ok(grid)
+    }
+
+    // ---- what the questions refuse, in this order
+
+    fn in_bounds_or_refused(self) -> Result<(), Refusal>
+        ensures { MatchResult result (λ _. in_bounds self ≡ true) (λ r. (r ≡ OutOfBounds) × (in_bounds self ≡ false)) }
+    {
+        if self.in_bounds() {
+            Ok(())
+        } else {
+            Err(Refusal::OutOfBounds)
         }
-        GridAnswer::Made(grid)
+    }
+
+    // The cell, of a grid that has it.
+    fn cell_or_refused(self, cell: Cell) -> Result<Cell, Refusal>
+        ensures is { reply_of result ≡ Reply.of_cell self cell cell }
+        ensures ok { IfOk result (λ c. (c ≡ cell) × (in_bounds self ≡ true) × (is_cell self cell ≡ true)) }
+    {
+        self.in_bounds_or_refused()?;
+        if parts::is_cell(self, cell) {
+            Ok(cell)
+        } else {
+            Err(Refusal::NoSuchIndex)
+        }
+    }
+
+    // The index, of a grid that has a cell by it.
+    fn index_or_refused(self, cell_idx: u32) -> Result<u32, Refusal>
+        ensures is { reply_of result ≡ Reply.of_index self cell_idx cell_idx }
+        ensures ok { IfOk result (λ i. (i ≡ cell_idx) × (in_bounds self ≡ true) × (is_index self cell_idx ≡ true)) }
+    {
+        self.in_bounds_or_refused()?;
+        if grid_index::is_index(cell_idx, self.count_x, self.count_y, self.count_z) {
+            Ok(cell_idx)
+        } else {
+            Err(Refusal::NoSuchIndex)
+        }
     }
 }

@@ -2,3 +2,4 @@
 pub mod MeshPassed
 pub mod Accepted
 mod Groups
+pub mod HandedUp

@@ -1,5 +1,6 @@
 // The refusals that are checked before the run, in their order: 1, 14, 2, 13, 3, 4, 10 and 5 (document 01, "Reply numbers",
-// and document 02, §6, §7 and §11). A part of the port: users call `sdf`.
+// and document 02, §6, §7 and §11). Each check answers `Ok` or its refusal, and the first that refuses ends them. A part of the port:
+// users call `sdf`.
 #![tactic(auto)]
 
 ghost use Rattle.std.specs.Prelude.{◌≡◌, true, ◌+◌, ◌*◌, ◌%◌, ◌<◌};
@@ -7,11 +8,13 @@ ghost use Rattle.grid_axis.specs.AxisBounds.{is_coordinate};
 ghost use Rattle.grid.specs.Bounds.{in_bounds};
 ghost use Rattle.mesh.specs.Mesh.{Sound, mesh_of};
 ghost use Rattle.lists.specs.Checks.{first_that_applies};
+ghost use Rattle.refusals.specs.Numbers.{refusal_number};
 ghost use Rattle.job_checks.specs.Refusals.{all_coordinates, wrong_vertices, wrong_lengths};
 ghost use Rattle.job_checks.specs.Refusals.{grid_checks, edition_checks, mesh_checks, place_checks, length_checks, refusal_by};
 
 use grid::Grid;
 use mesh_topology::{Indices, Topology};
+use refusals::Refusal;
 
 // How long the lent buffers are.
 #[derive(Clone, Copy)]
@@ -36,15 +39,7 @@ fn is_coordinate(x: f32) -> bool
 fn all_coordinates(vertices: &[f32]) -> bool
     ensures { result ≡ all_coordinates vertices.now }
 {
-    let mut i = 0;
-    while i < vertices.len() {
-        let ok = is_coordinate(vertices[i]);
-        if !ok {
-            return false;
-        }
-        i += 1;
-    }
-    true
+    vertices.iter().all(|x| is_coordinate(*x))
 }
 
 // 2: not a multiple of three, too many, or a coordinate out of bounds.
@@ -73,83 +68,89 @@ fn wrong_lengths(grid: Grid, l: Lengths) -> bool
         | (l.triangles != kept)
 }
 
-// 1 where the grid is out of bounds, and 0 where it is not.
-fn grid_refusal(grid: Grid) -> u32
-    ensures { result ≡ first_that_applies (grid_checks grid) }
+// 1: the grid is out of bounds.
+fn grid_refusal(grid: Grid) -> Result<(), Refusal>
+    ensures { refusal_number result ≡ first_that_applies (grid_checks grid) }
 {
     let bounded = grid.in_bounds();
     if !bounded {
-        return 1;
+        return Err(Refusal::OutOfBounds);
     }
-    0
+    Ok(())
 }
 
-// 14 where the edition of the layer table is neither 1 nor 2, and 0 where it is one of them.
-fn edition_refusal(edition: u32) -> u32
-    ensures { result ≡ first_that_applies (edition_checks edition) }
+// 14: the edition of the layer table is neither 1 nor 2.
+fn edition_refusal(edition: u32) -> Result<(), Refusal>
+    ensures { refusal_number result ≡ first_that_applies (edition_checks edition) }
 {
     if (edition == 1) | (edition == 2) {
-        return 0;
+        return Ok(());
     }
-    14
+    Err(Refusal::NoSuchEdition)
 }
 
-// The first of 2, 13, 3 and 4 that applies to the mesh, and 0 where none does.
-pub fn mesh_refusal(vertices: &[f32], topology: Topology, given: Indices, indices: &[u32]) -> u32
-    ensures { result ≡ first_that_applies (mesh_checks (mesh_of vertices.now topology given indices.now)) }
+// The first of 2, 13, 3 and 4 that applies to the mesh.
+pub fn mesh_refusal(
+    vertices: &[f32],
+    topology: Topology,
+    given: Indices,
+    indices: &[u32],
+) -> Result<(), Refusal>
+    ensures { let m = mesh_of vertices.now topology given indices.now in
+        refusal_number result ≡ first_that_applies (mesh_checks m) }
 {
     let wrong = wrong_vertices(vertices);
     if wrong {
-        return 2;
+        return Err(Refusal::WrongVertices);
     }
     let strip = mesh_checks::is_strip(topology);
     if strip {
-        return 13;
+        return Err(Refusal::Strip);
     }
     let count = vertices.len() / 3;
     let many = mesh_checks::too_many_triangles(topology, given, indices, count);
     if many {
-        return 3;
+        return Err(Refusal::TooManyTriangles);
     }
     let known = mesh_checks::in_range(topology, given, indices, count);
     if !known {
-        return 4;
+        return Err(Refusal::NoSuchIndex);
     }
-    0
+    Ok(())
 }
 
-// 10 where a triangle lies off the grid, and 0 where none does.
+// 10: a triangle lies off the grid.
 fn place_refusal(
     grid: Grid,
     vertices: &[f32],
     topology: Topology,
     given: Indices,
     indices: &[u32],
-) -> u32
+) -> Result<(), Refusal>
     requires { Sound (mesh_of vertices.now topology given indices.now) }
     ensures { let m = mesh_of vertices.now topology given indices.now in
-        result ≡ first_that_applies (place_checks grid m) }
+        refusal_number result ≡ first_that_applies (place_checks grid m) }
 {
     let on_grid = mesh_off_grid::all_on_grid(grid, vertices, topology, given, indices);
     if !on_grid {
-        return 10;
+        return Err(Refusal::OffGrid);
     }
-    0
+    Ok(())
 }
 
-// 5 where a lent buffer has a wrong length, and 0 where none has.
-fn length_refusal(grid: Grid, l: Lengths) -> u32
+// 5: a lent buffer has a wrong length.
+fn length_refusal(grid: Grid, l: Lengths) -> Result<(), Refusal>
     requires { in_bounds grid ≡ true }
-    ensures { result ≡ first_that_applies (length_checks grid l) }
+    ensures { refusal_number result ≡ first_that_applies (length_checks grid l) }
 {
     let wrong = wrong_lengths(grid, l);
     if wrong {
-        return 5;
+        return Err(Refusal::WrongLength);
     }
-    0
+    Ok(())
 }
 
-// The first number that applies before the run, and 0 where none does.
+// The first refusal that applies before the run.
 pub fn first_refusal(
     grid: Grid,
     edition: u32,
@@ -158,24 +159,13 @@ pub fn first_refusal(
     given: Indices,
     indices: &[u32],
     l: Lengths,
-) -> u32
-    ensures { result ≡ refusal_by grid edition (mesh_of vertices.now topology given indices.now) l }
+) -> Result<(), Refusal>
+    ensures { let m = mesh_of vertices.now topology given indices.now in
+        refusal_number result ≡ refusal_by grid edition m l }
 {
-    let by_grid = grid_refusal(grid);
-    if by_grid != 0 {
-        return by_grid;
-    }
-    let by_edition = edition_refusal(edition);
-    if by_edition != 0 {
-        return by_edition;
-    }
-    let by_mesh = mesh_refusal(vertices, topology, given, indices);
-    if by_mesh != 0 {
-        return by_mesh;
-    }
-    let by_place = place_refusal(grid, vertices, topology, given, indices);
-    if by_place != 0 {
-        return by_place;
-    }
+    grid_refusal(grid)?;
+    edition_refusal(edition)?;
+    mesh_refusal(vertices, topology, given, indices)?;
+    place_refusal(grid, vertices, topology, given, indices)?;
     length_refusal(grid, l)
 }

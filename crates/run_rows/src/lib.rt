@@ -50,10 +50,8 @@ fn add_column(edition: u32, field: &[f32], start: usize, rows: &mut [u32])
     requires room { Room 2 rows.old }
     ensures { BlockAdded (row_weight edition) field.now start 1 rows.old rows.new }
 {
-    let mut n = 0;
-    while n < rows.len() {
+    for n in 0..rows.len() {
         rows[n] += weight(edition, field[start + n]);
-        n += 1;
     }
 }
 
@@ -63,10 +61,8 @@ fn count_run(edition: u32, field: &[f32], at: usize, count: usize) -> u32
     ensures { result ≡ run_weight (row_weight edition) field.now at count }
 {
     let mut sum = 0;
-    let mut j = 0;
-    while j < count {
+    for j in 0..count {
         sum += weight(edition, field[at + j]);
-        j += 1;
     }
     sum
 }
@@ -77,10 +73,8 @@ fn add_runs(edition: u32, field: &[f32], start: usize, step: usize, rows: &mut [
     requires room { Room (2 * step) rows.old }
     ensures { BlockAdded (row_weight edition) field.now start step rows.old rows.new }
 {
-    let mut n = 0;
-    while n < rows.len() {
+    for n in 0..rows.len() {
         rows[n] += count_run(edition, field, start + n * step, step);
-        n += 1;
     }
 }
 
@@ -104,13 +98,11 @@ pub fn count_rows(edition: u32, grid: Grid, field: &[f32], rows: &mut [u32])
     requires rows_len { length rows.old ≡ layers grid }
     ensures { rows.new ≡ Signs.rows edition grid field.now }
 {
-    slices::fill_numbers(rows, 0);
+    rows.fill(0);
     let upright = grid::parts::upright_axis(grid);
     let step = grid::parts::stride_on(grid, upright) as usize;
     let block = rows.len() * step;
-    let mut start = 0;
-    while start < field.len() {
+    for start in (0..field.len()).step_by(block) {
         add_block(edition, field, start, step, rows);
-        start += block;
     }
 }

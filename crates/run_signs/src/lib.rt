@@ -41,10 +41,8 @@ pub fn sign(crossings: &[u32], field: &mut [f32])
     requires { length crossings.now ≡ 3 * length field.old }
     ensures { field.new ≡ signed_by crossings.now field.old }
 {
-    let mut i = 0;
-    while i < field.len() {
+    for i in 0..field.len() {
         let inside = inside_at(crossings, i);
         field[i] = negated_if(inside, field[i]);
-        i += 1;
     }
 }

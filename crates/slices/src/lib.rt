@@ -40,10 +40,7 @@ pub fn add_each(s: &mut [u32], start: usize, step: usize, count: usize)
     requires room { Room 1 s.old }
     ensures { Stepped start step count s.old s.new }
 {
-    let mut i = 0;
-    while i < count {
-        let at = start + i * step;
-        s[at] += 1;
-        i += 1;
+    for i in 0..count {
+        s[start + i * step] += 1;
     }
 }

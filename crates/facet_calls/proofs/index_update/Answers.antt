@@ -1,66 +1,35 @@
--- `facet_calls::index_update`: 3, 15 and 4 as they are told, 18 where the lent index is another, and else the index of the new names. Whether it is
--- another the check of it tells; where that is not made, the law that it can be told (`index_told`). Assumes nothing.
-use borrow.Author.Tests.{not-true, not-false}
-use native.Mathlib.Omega.{arith}
-use mathlib.Core.Path.{◌≡◌, refl, sym, ◌∙◌}
-use lib.ListN.{length}
+-- `facet_calls::index_update`: where a check of numbers and names refuses, it is not looked whether the lent index is another; what would have been
+-- told is by the law that it can be told (`index_told`). Assumes nothing.
+use Prim.Native.Nat.{ℕ}
+use mathlib.Core.Path.{◌≡◌, refl, sym, ap, ◌∙◌}
+use mathlib.Core.List.{List}
+use borrow.Author.Rules.{rules}
+use Rattle.std.specs.Prelude.{Result, Err}
 use Rattle.lists.specs.Checks.{first_that_applies}
-use Rattle.facet_index.specs.Index.{Index, index_of}
-use Rattle.facet_index.specs.Refusals.{early_checks, Lengths}
-use Rattle.facet_index.proofs.Accepted.{update_accepted, refused_early, refused_stale, not_refused}
+use Rattle.refusals.specs.declared.Refusal.{Refusal}
+use Rattle.refusals.specs.Numbers.{number_of, refusal_number}
+use Rattle.facet_index.specs.Index.{Index}
+use Rattle.facet_index.specs.Refusals.{early_checks, Updates}
+use Rattle.facet_index.proofs.Accepted.{refused_early}
 use Rattle.facet_index.proofs.Sight.{index_told}
-use mathlib.Core.Path.{ap}
-use mathlib.Core.Bool.{not}
 use Rattle.facet_calls.proofs.index_update.Goals as goal
 
-pub returns-then-refusal-ne0 : goal.returns-then-refusal-ne0
-returns-then-refusal-ne0 c =
-    let lent : Index = index_of c.args.starts.now c.args.list.now in
-    let e = c.update_refusal-refusal.ensures in
-    let x = index_told c.args.triangles c.args.old.now (lent) in
+-- no refusal has the number 0
+not_zero : (r : Refusal) → number_of r ≡ 0 → ⊥
+not_zero r e = search rules
+
+-- a refusal by one of the early checks is that of the update
+refused : {A : Type 0} {t : ℕ} {old names : List ℕ} {lent : Index} (answer : Result A Refusal) (r : Refusal) → answer ≡ Err r
+    → number_of r ≡ first_that_applies (early_checks t old names lent) → Updates t old names lent (refusal_number answer) lent
+refused {t = t} {old} {names} {lent} answer r e h =
+    let x = index_told t old lent in
+    let n : refusal_number answer ≡ number_of r = ap refusal_number e in
     record {
       current = x.0;
       told = x.1;
-      numbered = e ∙ sym (refused_early c.args.triangles c.args.old.now c.args.names.now (lent) x.0 (λ z. c.if-refusal-ne0.true (e ∙ z)));
-      leaves = record { made = λ z. absurd (c.if-refusal-ne0.true z); unchanged = λ _. refl };
+      numbered = n ∙ h ∙ sym (refused_early t old names lent x.0 (λ z. not_zero r (h ∙ z)));
+      leaves = record { made = λ z. absurd (not_zero r (sym n ∙ z)); unchanged = λ _. refl };
     }
 
-pub is_index-requires : goal.is_index-requires
-is_index-requires c =
-    let lent : Index = index_of c.args.starts.now c.args.list.now in
-    let accepted : first_that_applies (early_checks c.args.triangles c.args.old.now c.args.names.now (lent)) ≡ 0 = sym c.update_refusal-refusal.ensures ∙ c.if-refusal-ne0.false in
-    let lengths : (let a = c.args in
-    Lengths a.triangles (length a.names.now) (length a.starts.now) (length a.list.now) × (length a.old.now ≡ length a.names.now)) = update_accepted c.args.triangles c.args.old.now c.args.names.now (lent) (accepted) in
-    let x = lengths in record { starts_len = x.0.starts_long; list_len = omega (arith, x.0.list_long, x.1) }
-
-pub returns-then-not-is_index : goal.returns-then-not-is_index
-returns-then-not-is_index c =
-    let lent : Index = index_of c.args.starts.now c.args.list.now in
-    let accepted : first_that_applies (early_checks c.args.triangles c.args.old.now c.args.names.now (lent)) ≡ 0 = sym c.update_refusal-refusal.ensures ∙ c.if-refusal-ne0.false in
-    let current = c.is_index.result in
-    record {
-      current = current;
-      told = c.is_index.ensures;
-      numbered = sym (refused_stale c.args.triangles c.args.old.now c.args.names.now (lent) current (accepted) (not-true current (ap not c.if-not-is_index.true)));
-      leaves = record { made = λ z. absurd (omega (arith, z)); unchanged = λ _. refl };
-    }
-
-pub index_names-requires : goal.index_names-requires
-index_names-requires c =
-    let lent : Index = index_of c.args.starts.now c.args.list.now in
-    let accepted : first_that_applies (early_checks c.args.triangles c.args.old.now c.args.names.now (lent)) ≡ 0 = sym c.update_refusal-refusal.ensures ∙ c.if-refusal-ne0.false in
-    let lengths : (let a = c.args in
-    Lengths a.triangles (length a.names.now) (length a.starts.now) (length a.list.now) × (length a.old.now ≡ length a.names.now)) = update_accepted c.args.triangles c.args.old.now c.args.names.now (lent) (accepted) in
-    (lengths).0
-
-pub returns : goal.returns
-returns c =
-    let lent : Index = index_of c.args.starts.now c.args.list.now in
-    let accepted : first_that_applies (early_checks c.args.triangles c.args.old.now c.args.names.now (lent)) ≡ 0 = sym c.update_refusal-refusal.ensures ∙ c.if-refusal-ne0.false in
-    let current = c.is_index.result in
-    record {
-      current = current;
-      told = c.is_index.ensures;
-      numbered = sym (not_refused c.args.triangles c.args.old.now c.args.names.now (lent) current (accepted) (not-false current (ap not c.if-not-is_index.false)));
-      leaves = record { made = λ _. c.index_names.ensures; unchanged = λ h. absurd (h refl) };
-    }
+pub returns-in_err-update_refusal : goal.returns-in_err-update_refusal
+returns-in_err-update_refusal c = refused _ c.in_err-update_refusal.field-0.0 (search rules) c.in_err-update_refusal.ensures

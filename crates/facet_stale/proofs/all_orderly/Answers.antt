@@ -1,6 +1,6 @@
 -- `facet_stale::all_orderly`: the cells under each triangle passed are a row, and one where they are not decides the answer. Assumes nothing.
 use borrow.Author.Count.{below_more}
-use Prim.Native.Nat.{◌-◌, ◌+◌}
+use Prim.Native.Nat.{◌+◌}
 use native.Mathlib.Omega.{arith}
 use Rattle.facet_index.proofs.Told.{told_yes, told_no, tells_yes, tells_no}
 use Rattle.facet_stale.proofs.all_orderly.Goals as goal

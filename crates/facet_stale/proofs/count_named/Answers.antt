@@ -1,5 +1,5 @@
--- `facet_stale::count_named`: n of the cells below c name a triangle. Assumes nothing.
-use Prim.Native.Nat.{ℕ, ◌-◌}
+-- `facet_stale::count_named`: n of the cells before this one name a triangle. Assumes nothing.
+use Prim.Native.Nat.{ℕ}
 use native.Mathlib.Omega.{arith}
 use mathlib.Core.Path.{◌≡◌, sym, ap, ◌∙◌}
 use mathlib.Core.Bool.{Bool}
@@ -9,32 +9,27 @@ use Rattle.lists.specs.Range.{count_below}
 use Rattle.lists.proofs.Range.{count_none, count_passed, count_failed, count_le}
 use Rattle.facet_stale.proofs.count_named.Invariants.{names_one}
 use Rattle.facet_stale.proofs.count_named.Goals as goal
+use Rattle.facet_stale.proofs.count_named.Goals.{then-name-triangles, else-name-triangles}
 
-pub loop-c-init : goal.loop-c-init
-loop-c-init c = (omega arith, sym (count_none (names_one c.args.triangles c.args.names.now)))
+pub loop-name-init : goal.loop-name-init
+loop-name-init c = sym (count_none (names_one c.args.triangles c.args.names.now))
 
 pub overflow_add-n : goal.overflow_add-n
 overflow_add-n c =
-    let test : ℕ → Bool = names_one c.args.triangles c.args.names.now in
-    let l = c.loop-c in
-    omega (arith, l.invariant.1, count_le (test) l.c)
+    omega (arith, c.loop-name.invariant, count_le (names_one c.args.triangles c.args.names.now) c.loop-name.name-index)
 
-pub loop-c-preserved-then-name-triangles : goal.loop-c-preserved-then-name-triangles
-loop-c-preserved-then-name-triangles c =
+pub loop-name-preserved : goal.loop-name-preserved
+loop-name-preserved c =
     let test : ℕ → Bool = names_one c.args.triangles c.args.names.now in
-    let l = c.loop-c in
-    let a = c.args in
-    (omega arith, omega (arith, l.invariant.1, count_passed (test) l.c (lt-ltb (get_or a.names.now l.c 0) a.triangles (omega arith))))
-
-pub loop-c-preserved : goal.loop-c-preserved
-loop-c-preserved c =
-    let test : ℕ → Bool = names_one c.args.triangles c.args.names.now in
-    let l = c.loop-c in
-    let a = c.args in
-    (omega arith, omega (arith, l.invariant.1, count_failed (test) l.c (le-ltb (get_or a.names.now l.c 0) a.triangles (omega arith))))
+    let l = c.loop-name in
+    let name = get_or c.args.names.now l.name-index 0 in
+    elim c.if-name-triangles.branch [
+      | then-name-triangles w ↦ omega (arith, l.invariant, count_passed test l.name-index (lt-ltb name c.args.triangles (omega arith)))
+      | else-name-triangles w ↦ omega (arith, l.invariant, count_failed test l.name-index (le-ltb name c.args.triangles (omega arith)))
+    ]
 
 pub returns : goal.returns
 returns c =
-    let l = c.loop-c in
-    let e : l.c ≡ length c.args.names.now = omega arith in
-    l.invariant.1 ∙ ap (count_below (names_one c.args.triangles c.args.names.now)) e
+    let l = c.loop-name in
+    let e : l.name-index ≡ length c.args.names.now = omega arith in
+    l.invariant ∙ ap (count_below (names_one c.args.triangles c.args.names.now)) e

@@ -1,5 +1,4 @@
 -- `facet_stale::is_row`: the places before p were read (`proofs/Rows.antt`). Assumes nothing.
-use Prim.Native.Nat.{◌-◌}
 use native.Mathlib.Omega.{arith}
 use Rattle.facet_index.proofs.Told.{tells_yes, tells_no}
 use Rattle.facet_stale.proofs.Rows.{nothing_read, read_more, not_passed, not_cell, not_its_own, all_read}

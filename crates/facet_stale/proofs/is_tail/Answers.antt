@@ -1,5 +1,4 @@
 -- `facet_stale::is_tail`: what was passed is none, and what is not decides the answer. Assumes nothing.
-use Prim.Native.Nat.{◌-◌}
 use native.Mathlib.Omega.{arith}
 use borrow.Author.Count.{below_more}
 use Rattle.facet_index.proofs.Told.{tells_yes, tells_no}

@@ -1,11 +1,13 @@
--- `float_order::is_nearer`: by what the comparison answers; a NaN, which alone differs from itself, is nearer than nothing. Assumes nothing.
-use mathlib.Core.Path.{◌≡◌, sym, ap, ◌∙◌, subst}
+-- `float_order::is_nearer`: by what the comparison answers; a NaN is nearer than nothing, and nothing than a NaN. Assumes nothing.
+use mathlib.Core.Path.{◌≡◌, refl, sym, ap, ◌∙◌, subst}
 use mathlib.Core.Bool.{true, false, ◌||◌, true≢false}
 use lib.Dec.{T}
 use lib.Ieee.{Float, nan, inf, fin, binary32, fits, is_nan}
+use Rattle.std.specs.Ordering.{is_lt}
+use Rattle.std.specs.declared.cmp.Ordering.{Ordering}
+use Rattle.std.specs.declared.cmp.Ordering.TheVariants.{Less, Equal, Greater}
 use Rattle.float_order.specs.Nearer.{is_less, nearer}
 use Rattle.float_order.proofs.Nearer.{nan_nearer, nearer_nan}
-use Rattle.float_order.proofs.Tested.{tested, neither}
 use Rattle.float_order.proofs.is_nearer.Goals as goal
 
 -- of a NaN and another value either way round
@@ -19,21 +21,17 @@ no_number (fin s m e) nan f h = sym (nearer_nan (fin s m e))
 no_number (fin s m e) (inf t) f h = absurd (true≢false (sym h))
 no_number (fin s m e) (fin t n d) f h = absurd (true≢false (sym h))
 
-pub returns-then-b-a : goal.returns-then-b-a
-returns-then-b-a c = no_number c.args.a c.args.b (subst T (sym c.well_formed.1.0.1) tt) (tested c.args.b c.args.a true c.if-b-a.true)
+-- the library's word for less
+lt_is_less : (o : Ordering) → is_lt o ≡ is_less o
+lt_is_less Less = refl
+lt_is_less Equal = refl
+lt_is_less Greater = refl
 
-pub compare_distances-requires : goal.compare_distances-requires
-compare_distances-requires c =
-    let n = neither (is_nan c.args.b) (is_nan c.args.a) (tested c.args.b c.args.a false c.if-b-a.false) in record { t = n.1; t_2 = n.0 }
+pub returns-then-is_nan : goal.returns-then-is_nan
+returns-then-is_nan c =
+    no_number c.args.a c.args.b (subst T (sym c.well_formed.1.0.1) tt)
+    (rw (c.is_nan.ensures.value, c.is_nan-2.ensures.value) at c.if-is_nan.true)
 
-pub returns-in-Less : goal.returns-in-Less
+pub returns : goal.returns
 unfolding nearer
-returns-in-Less c = ap is_less (sym c.in-Less.is ∙ c.compare_distances.ensures)
-
-pub returns-in-Equal : goal.returns-in-Equal
-unfolding nearer
-returns-in-Equal c = ap is_less (sym c.in-Equal.is ∙ c.compare_distances.ensures)
-
-pub returns-in-Greater : goal.returns-in-Greater
-unfolding nearer
-returns-in-Greater c = ap is_less (sym c.in-Greater.is ∙ c.compare_distances.ensures)
+returns c = c.is_lt.ensures ∙ lt_is_less _ ∙ ap is_less c.compare_distances.ensures

@@ -1,24 +1,21 @@
--- `job_checks::all_coordinates`: each coordinate passed so far is in bounds; one that is not decides. Assumes nothing.
-use borrow.Author.Count.{below_more}
-use mathlib.Core.Path.{sym, ◌∙◌}
-use mathlib.Core.Bool.{true}
-use Prim.Native.Nat.{◌-◌}
-use native.Mathlib.Omega.{arith}
-use lib.Ieee.{nan}
-use Rattle.lists.proofs.Every.{every_each, every_not}
+-- `job_checks::all_coordinates`: what `all` answers by its test is what the definition asks of each element. Assumes nothing.
+use mathlib.Core.Path.{◌≡◌, refl, ap, ◌∙◌}
+use mathlib.Core.Bool.{Bool, ◌&&◌}
+use mathlib.Core.List.{List, [], ◌∷◌}
+use Rattle.std.proofs.Common.{rules, tests}
+use Rattle.std.specs.List.{list_all}
+use Rattle.std.proofs.lemmas.Iterator.{YieldsList-from_slice}
+use Rattle.std.proofs.lemmas.Iterator.Search.{all_from_yields_List}
+use Rattle.lists.specs.Every.{every}
 use Rattle.grid_axis.specs.AxisBounds.{is_coordinate}
 use Rattle.job_checks.proofs.all_coordinates.Goals as goal
 
-pub loop-i-init : goal.loop-i-init
-loop-i-init c = (omega arith, λ k h. absurd (omega arith))
-
-pub returns-then-not-ok : goal.returns-then-not-ok
-returns-then-not-ok c =
-    sym (every_not is_coordinate nan _ c.loop-i.i c.loop-i-test.true (sym c.is_coordinate-ok.ensures ∙ c.if-not-ok.true))
-
-pub loop-i-preserved : goal.loop-i-preserved
-loop-i-preserved c =
-    (omega arith, below_more _ _ c.loop-i.invariant.1 (sym c.is_coordinate-ok.ensures ∙ c.if-not-ok.false))
+every_is_all : {A : Type 0} (p : A → Bool) (xs : List A) → list_all p xs ≡ every p xs
+unfolding every
+every_is_all p [] = refl
+every_is_all p (x ∷ xs) = ap (λ (rest : Bool). p x && rest) (every_is_all p xs)
 
 pub returns : goal.returns
-returns c = sym (every_each is_coordinate nan _ (λ k h. c.loop-i.invariant.1 k (omega arith)))
+returns c =
+    all_from_yields_List is_coordinate _ _ _ c.all.ensures.ran (YieldsList-from_slice c.args.vertices.now cc) (λ x b q k. search (rules, tests))
+    ∙ every_is_all is_coordinate c.args.vertices.now

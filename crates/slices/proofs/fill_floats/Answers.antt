@@ -1,6 +1,5 @@
 -- `slices::fill_floats`: the slice is filled up to i. Assumes nothing.
 use mathlib.Core.Path.{refl}
-use Prim.Native.Nat.{◌-◌}
 use native.Mathlib.Omega.{arith}
 use Rattle.lists.proofs.Table.{filled_alike}
 use Rattle.slices.proofs.fill_floats.Goals as goal

@@ -6,11 +6,9 @@ use Rattle.point.specs.Point.{vec}
 use Rattle.grid.specs.declared.Grid.{Grid}
 use Rattle.grid.specs.declared.Counts.{Counts}
 use Rattle.grid.specs.Place.{from_box}
-use Rattle.grid.proofs.Facts.{fails, passes}
-use mathlib.Core.Path.{ap}
-use mathlib.Core.Bool.{not}
+use Rattle.std.proofs.lemmas.Result.{err_from_is_err_and}
 use Rattle.grid.proofs.Grid.from_bounding_box.Goals as goal
-use Rattle.grid.proofs.Grid.from_bounding_box.Goals.{After-in_bounds}
+use Rattle.grid.proofs.Grid.from_bounding_box.Goals.{After-in_bounds_or_refused}
 
 abbrev grid : Point → Point → Counts → Grid
 grid first size n = record {
@@ -23,7 +21,7 @@ grid first size n = record {
 }
 
 -- the grid that is made is the definition's
-made : (c : After-in_bounds) →
+made : (c : After-in_bounds_or_refused) →
     let a = c.args in
     grid
     (vec c.first_from.result c.first_from-2.result c.first_from-3.result)
@@ -40,8 +38,11 @@ made c =
       c.size_between-z.ensures,
     )
 
-pub returns-then-not-in_bounds : goal.returns-then-not-in_bounds
-returns-then-not-in_bounds c = rw (← made (search), fails c.in_bounds.ensures (ap not c.if-not-in_bounds.true))
+pub returns-in_err-in_bounds_or_refused : goal.returns-in_err-in_bounds_or_refused
+returns-in_err-in_bounds_or_refused c =
+    let p = err_from_is_err_and c.from_residual.result c.from_residual.ensures.1 in
+    let refused = c.in_err-in_bounds_or_refused.ensures in
+    rw (p.1, p.2, refused.0, ← made (search), refused.1)
 
 pub returns : goal.returns
-returns c = rw (← made (search), passes c.in_bounds.ensures (ap not c.if-not-in_bounds.false))
+returns c = rw (← made (search), c.in_ok-in_bounds_or_refused.ensures)
