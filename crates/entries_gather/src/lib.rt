@@ -4,14 +4,15 @@
 
 ghost use Rattle.std.specs.Prelude.{◌≡◌, ◌<◌, length};
 ghost use Rattle.grid.specs.Index.{total};
-ghost use Rattle.mesh.specs.Mesh.{mesh_of, triangles_in};
+ghost use Rattle.mesh.specs.Mesh.{triangles_in};
+ghost use Rattle.mesh.specs.Lent.{mesh_in};
 ghost use Rattle.run_state.specs.Told.{Ready, Known};
 ghost use Rattle.run_around.specs.Around.{PlacesFit};
 ghost use Rattle.entries_gather.specs.Gathered.{counted_by, BatchGathered, PopOffered};
 
 use entries_batch::Batch;
 use grid::Grid;
-use mesh_topology::{Indices, Topology};
+use mesh::Mesh;
 use queue::Entry;
 use terms::Terms;
 
@@ -62,36 +63,22 @@ fn gather(field: &mut [f32], names: &mut [u32], k: u32, to: &[u32], squares: &[f
 // The triangle of e is offered to the cells around.
 pub fn offers(
     grid: Grid,
-    vertices: &[f32],
-    topology: Topology,
-    given: Indices,
-    indices: &[u32],
+    mesh: Mesh,
     field: &mut [f32],
     names: &mut [u32],
     e: Entry,
     terms: Terms,
 ) -> Batch
-    requires { let m = mesh_of vertices.now topology given indices.now in
+    requires { let m = mesh_in mesh in
         Ready grid m × Known (total grid) (length (triangles_in m)) e × (length field.old ≡ total grid) ×
         (length names.old ≡ total grid) }
-    ensures { let m = mesh_of vertices.now topology given indices.now in
+    ensures { let m = mesh_in mesh.entry in
         PopOffered grid m terms.sign e field.old names.old field.new names.new result }
 {
     let steps = run_around::STEPS;
     let mut to = [0u32; 27];
     let mut squares = [0.0f32; 27];
     let sign = terms.sign;
-    run_around::look_around(
-        grid,
-        vertices,
-        topology,
-        given,
-        indices,
-        sign,
-        &steps,
-        e,
-        &mut to,
-        &mut squares,
-    );
+    run_around::look_around(grid, mesh, sign, &steps, e, &mut to, &mut squares);
     gather(field, names, e.triangle, &to, &squares)
 }

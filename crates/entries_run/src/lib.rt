@@ -3,7 +3,7 @@
 #![tactic(auto)]
 
 ghost use Rattle.std.specs.Prelude.{◌≡◌, length};
-ghost use Rattle.mesh.specs.Mesh.{mesh_of};
+ghost use Rattle.mesh.specs.Lent.{mesh_in};
 ghost use Rattle.run.specs.Run.{run};
 ghost use Rattle.run.specs.Input.{run_input};
 ghost use Rattle.run_state.specs.Told.{Fit};
@@ -12,7 +12,7 @@ ghost use Rattle.run_field.specs.Running.{Leaves};
 ghost use Rattle.entries_run.specs.Seeded.{begun_by, Seeded};
 
 use grid::Grid;
-use mesh_topology::{Indices, Topology};
+use mesh::Mesh;
 use queue::Entry;
 use run_state::Progress;
 use terms::Terms;
@@ -33,19 +33,16 @@ fn begun(number: u32) -> Progress
 // came to.
 pub fn run_row(
     grid: Grid,
-    vertices: &[f32],
-    topology: Topology,
-    given: Indices,
-    indices: &[u32],
+    mesh: Mesh,
     field: &mut [f32],
     names: &mut [u32],
     row: &mut [Entry],
     number: u32,
     terms: Terms,
 ) -> Progress
-    requires { let m = mesh_of vertices.now topology given indices.now in
+    requires { let m = mesh_in mesh in
         Fit grid m × Seeded grid m terms.sign number field.old names.old row.old }
-    ensures { let m = mesh_of vertices.now topology given indices.now in
+    ensures { let m = mesh_in mesh.entry in
         let left = row.new in
         Leaves grid m (λ any. run (run_input grid m terms.sign (length row.old) terms.limit))
         field.new names.new (row_distances left) (row_cells left) (row_triangles left) result }
@@ -58,7 +55,5 @@ pub fn run_row(
     if queued.number != 0 {
         return queued;
     }
-    entries_spread::spread(
-        grid, vertices, topology, given, indices, field, names, row, queued, terms,
-    )
+    entries_spread::spread(grid, mesh, field, names, row, queued, terms)
 }

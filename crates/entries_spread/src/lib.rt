@@ -2,13 +2,13 @@
 #![tactic(auto)]
 
 ghost use Rattle.std.specs.Prelude.{◌≡◌};
-ghost use Rattle.mesh.specs.Mesh.{mesh_of};
+ghost use Rattle.mesh.specs.Lent.{mesh_in};
 ghost use Rattle.run.specs.Run.{spreading};
 ghost use Rattle.run_state.specs.Told.{Fit};
 ghost use Rattle.entries_state.specs.Records.{HoldsRow, GoodRow, ToldRow};
 
 use grid::Grid;
-use mesh_topology::{Indices, Topology};
+use mesh::Mesh;
 use queue::Entry;
 use run_state::Progress;
 use terms::Terms;
@@ -16,24 +16,21 @@ use terms::Terms;
 // Step 3 of the run: spreads what waits, until nothing does, with at most as many pops as the limit.
 pub fn spread(
     grid: Grid,
-    vertices: &[f32],
-    topology: Topology,
-    given: Indices,
-    indices: &[u32],
+    mesh: Mesh,
     field: &mut [f32],
     names: &mut [u32],
     row: &mut [Entry],
     at: Progress,
     terms: Terms,
 ) -> Progress
-    requires { let m = mesh_of vertices.now topology given indices.now in
+    requires { let m = mesh_in mesh in
         Fit grid m × HoldsRow grid field.old names.old row.old at.waiting ×
         GoodRow grid m terms.sign field.old names.old row.old at × (at.number ≡ 0) × (at.pops ≡ 0) }
-    ensures { let m = mesh_of vertices.now topology given indices.now in
+    ensures { let m = mesh_in mesh.entry in
         ToldRow grid m terms.sign (λ g. spreading g terms.limit) field.old names.old row.old at
         field.new names.new row.new result }
 {
-    let count = vertices.len() / 3;
+    let count = mesh.vertices.len() / 3;
     let mut run = at;
     while 0 < run.waiting {
         let n = run.waiting;
@@ -41,10 +38,8 @@ pub fn spread(
         if run.number != 0 {
             break;
         }
-        let e = entries_take::take(row, n, topology, given, indices, count);
-        let b = entries_gather::offers(
-            grid, vertices, topology, given, indices, field, names, e, terms,
-        );
+        let e = entries_take::take(row, n, mesh.topology, mesh.given, mesh.indices, count);
+        let b = entries_gather::offers(grid, mesh, field, names, e, terms);
         run = entries_push_all::push_all(row, run, b);
         if run.number != 0 {
             break;

@@ -5,13 +5,14 @@
 ghost use Rattle.std.specs.Prelude.{◌≡◌, true, ◌<◌, length};
 ghost use Rattle.grid.specs.Bounds.{in_bounds};
 ghost use Rattle.grid.specs.Index.{Inside, total};
-ghost use Rattle.mesh.specs.Mesh.{mesh_of, triangles_in};
+ghost use Rattle.mesh.specs.Mesh.{triangles_in};
+ghost use Rattle.mesh.specs.Lent.{mesh_in};
 ghost use Rattle.run.specs.Steps as Steps;
 ghost use Rattle.run_around.specs.Around.{shift_of, codes, step_of, spot_of, Gathered, Around};
 ghost use Rattle.run_state.specs.Told.{Ready, Known};
 
 use grid::{Cell, Grid};
-use mesh_topology::{Indices, Topology};
+use mesh::Mesh;
 use queue::Entry;
 use terms::SignMethod;
 
@@ -119,23 +120,20 @@ fn gather(
 // Where each step leads from the cell of e, and the signed square there of the triangle of e.
 pub fn look_around(
     grid: Grid,
-    vertices: &[f32],
-    topology: Topology,
-    given: Indices,
-    indices: &[u32],
+    mesh: Mesh,
     sign: SignMethod,
     steps: &[u16],
     e: Entry,
     to: &mut [u32],
     squares: &mut [f32],
 )
-    requires ready { Ready grid (mesh_of vertices.now topology given indices.now) }
-    requires known { Known (total grid) (length (triangles_in (mesh_of vertices.now topology given indices.now))) e }
+    requires ready { Ready grid (mesh_in mesh) }
+    requires known { Known (total grid) (length (triangles_in (mesh_in mesh))) e }
     requires steps_value { (steps.now ≡ codes Steps.steps) × (length to.old ≡ 27) × (length squares.old ≡ 27) }
-    ensures { let m = mesh_of vertices.now topology given indices.now in
+    ensures { let m = mesh_in mesh.entry in
         Around grid m sign e to.new squares.new }
 {
-    let t = mesh::corners_at(vertices, topology, given, indices, e.triangle as usize);
+    let t = mesh::corners_at(mesh, e.triangle as usize);
     let facet = geo_closest::facet_of(t.a, t.b, t.c);
     let mut xs = [0.0f32; 27];
     let mut ys = [0.0f32; 27];

@@ -9,15 +9,15 @@
 ghost use Rattle.std.specs.Prelude.{◌≡◌, true, ◌*◌, ◌≤◌, length, replicate};
 ghost use Rattle.grid.specs.Index.{total};
 ghost use Rattle.grid.specs.Bounds.{in_bounds};
-ghost use Rattle.mesh.specs.Mesh.{mesh_of, triangles_in, Sound};
+ghost use Rattle.mesh.specs.Mesh.{triangles_in, Sound};
+ghost use Rattle.mesh.specs.Lent.{mesh_in};
 ghost use Rattle.run.specs.Signs.{all_crossings};
 ghost use Rattle.run.specs.Grazed.{grazed_on, grazed};
 ghost use Rattle.slices.specs.Counts.{Room};
 ghost use Rattle.run_cross_lines.specs.Pass.{Grown, axis_crossed, hit_on, crossed_by, Counted, grazed_by};
 
 use grid::Grid;
-use mesh::Corners;
-use mesh_topology::{Indices, Topology};
+use mesh::{Corners, Mesh};
 use point::Axis;
 use terms::Pass;
 
@@ -74,10 +74,7 @@ fn cross_triangle(
 // All triangles, one after the other.
 fn cross_all(
     grid: Grid,
-    vertices: &[f32],
-    topology: Topology,
-    given: Indices,
-    indices: &[u32],
+    mesh: Mesh,
     z0: &mut [f32],
     z1: &mut [f32],
     z2: &mut [f32],
@@ -86,20 +83,20 @@ fn cross_all(
     pass: Pass,
 ) -> u64
     requires grid_value { in_bounds grid ≡ true }
-    requires sound { Sound (mesh_of vertices.now topology given indices.now) }
-    requires indices_len_bound { length (triangles_in (mesh_of vertices.now topology given indices.now)) ≤ 131072 }
+    requires sound { Sound (mesh_in mesh) }
+    requires indices_len_bound { length (triangles_in (mesh_in mesh)) ≤ 131072 }
     requires in_bounds { (1024 ≤ length z0.old) × (1024 ≤ length z1.old) × (1024 ≤ length z2.old) ×
         (1024 ≤ length flags.old) }
     requires crossings_value { crossings.old ≡ replicate (3 * total grid) 0 }
-    ensures fact { let m = mesh_of vertices.now topology given indices.now in
+    ensures fact { let m = mesh_in mesh.entry in
         Counted pass grid m (length (triangles_in m)) crossings.new }
-    ensures value { result ≡ grazed grid (mesh_of vertices.now topology given indices.now) }
+    ensures value { result ≡ grazed grid (mesh_in mesh.entry) }
 {
-    let n = mesh::triangle_count(vertices, topology, given, indices);
+    let n = mesh::triangle_count(mesh);
     let mut k = 0;
     let mut total: u64 = 0;
     while k < n {
-        let t = mesh::corners_at(vertices, topology, given, indices, k);
+        let t = mesh::corners_at(mesh, k);
         total += cross_triangle(grid, t, z0, z1, z2, flags, crossings, pass);
         k += 1;
     }
@@ -109,22 +106,14 @@ fn cross_all(
 // The whole pass, plain or quick: what it leaves and what it tells does not depend on which. Tells how many rays graze a
 // triangle, over all. The crossings may hold anything before. The room for a row of lines is made here, once, and lent
 // down.
-pub fn cross(
-    grid: Grid,
-    vertices: &[f32],
-    topology: Topology,
-    given: Indices,
-    indices: &[u32],
-    crossings: &mut [u32],
-    pass: Pass,
-) -> u64
+pub fn cross(grid: Grid, mesh: Mesh, crossings: &mut [u32], pass: Pass) -> u64
     requires grid_value { in_bounds grid ≡ true }
-    requires sound { Sound (mesh_of vertices.now topology given indices.now) }
-    requires indices_len_bound { length (triangles_in (mesh_of vertices.now topology given indices.now)) ≤ 131072 }
+    requires sound { Sound (mesh_in mesh) }
+    requires indices_len_bound { length (triangles_in (mesh_in mesh)) ≤ 131072 }
     requires crossings_len { length crossings.old ≡ 3 * total grid }
-    ensures crossings_after { let m = mesh_of vertices.now topology given indices.now in
+    ensures crossings_after { let m = mesh_in mesh.entry in
         crossings.new ≡ all_crossings grid m }
-    ensures value { result ≡ grazed grid (mesh_of vertices.now topology given indices.now) }
+    ensures value { result ≡ grazed grid (mesh_in mesh.entry) }
 {
     slices::fill_numbers(crossings, 0);
     let mut z0 = [0.0f32; 1024];
@@ -132,8 +121,7 @@ pub fn cross(
     let mut z2 = [0.0f32; 1024];
     let mut flags = [false; 1024];
     let grazed = cross_all(
-        grid, vertices, topology, given, indices, &mut z0, &mut z1, &mut z2, &mut flags, crossings,
-        pass,
+        grid, mesh, &mut z0, &mut z1, &mut z2, &mut flags, crossings, pass,
     );
     match pass {
         Pass::Plain => {}

@@ -4,24 +4,21 @@
 
 ghost use Rattle.std.specs.Prelude.{length};
 ghost use Rattle.lists.specs.Turns.{and_then};
-ghost use Rattle.mesh.specs.Mesh.{mesh_of};
+ghost use Rattle.mesh.specs.Lent.{mesh_in};
 ghost use Rattle.run.specs.Run.{queueing, spreading, run};
 ghost use Rattle.run.specs.Input.{run_input};
 ghost use Rattle.run_state.specs.Told.{Fit, Holds, GoodIn};
 ghost use Rattle.run_field.specs.Running.{Leaves, Fresh, before, seeded};
 
 use grid::Grid;
-use mesh_topology::{Indices, Topology};
+use mesh::Mesh;
 use run_state::Progress;
 use terms::Terms;
 
 // Steps 2 and 3, over a field that is seeded and an empty queue.
 fn spread_seeds(
     grid: Grid,
-    vertices: &[f32],
-    topology: Topology,
-    given: Indices,
-    indices: &[u32],
+    mesh: Mesh,
     field: &mut [f32],
     names: &mut [u32],
     distances: &mut [u32],
@@ -29,11 +26,11 @@ fn spread_seeds(
     triangles: &mut [u32],
     terms: Terms,
 ) -> Progress
-    requires fit { Fit grid (mesh_of vertices.now topology given indices.now) }
+    requires fit { Fit grid (mesh_in mesh) }
     requires holds { Holds grid field.old names.old distances.old cells.old triangles.old 0 }
-    requires fact { let m = mesh_of vertices.now topology given indices.now in
+    requires fact { let m = mesh_in mesh in
         GoodIn grid m terms.sign field.old names.old distances.old cells.old triangles.old before }
-    ensures { let m = mesh_of vertices.now topology given indices.now in
+    ensures { let m = mesh_in mesh.entry in
         let input = run_input grid m terms.sign (length distances.old) in
         let s = seeded m field.old names.old distances.old cells.old triangles.old in
         Leaves grid m (λ any. and_then (queueing (input any) s) (spreading (input any) terms.limit))
@@ -50,18 +47,14 @@ fn spread_seeds(
         return queued;
     }
     run_spread::spread(
-        grid, vertices, topology, given, indices, field, names, distances, cells, triangles,
-        queued, terms,
+        grid, mesh, field, names, distances, cells, triangles, queued, terms,
     )
 }
 
 // The whole run. On a refusal the number alone says what it came to.
 pub fn run_field(
     grid: Grid,
-    vertices: &[f32],
-    topology: Topology,
-    given: Indices,
-    indices: &[u32],
+    mesh: Mesh,
     field: &mut [f32],
     names: &mut [u32],
     distances: &mut [u32],
@@ -69,14 +62,14 @@ pub fn run_field(
     triangles: &mut [u32],
     terms: Terms,
 ) -> Progress
-    requires fit { Fit grid (mesh_of vertices.now topology given indices.now) }
+    requires fit { Fit grid (mesh_in mesh) }
     requires fresh { Fresh grid field.old names.old distances.old cells.old triangles.old }
-    ensures { let m = mesh_of vertices.now topology given indices.now in
+    ensures { let m = mesh_in mesh.entry in
         Leaves grid m (λ any. run (run_input grid m terms.sign (length distances.old) terms.limit))
         field.new names.new distances.new cells.new triangles.new result }
 {
     let sign = terms.sign;
-    let number = run_seed::seed(field, names, grid, vertices, topology, given, indices, sign);
+    let number = run_seed::seed(field, names, grid, mesh, sign);
     if number != 0 {
         return Progress {
             number: number,
@@ -85,7 +78,5 @@ pub fn run_field(
             peak: 0,
         };
     }
-    spread_seeds(
-        grid, vertices, topology, given, indices, field, names, distances, cells, triangles, terms,
-    )
+    spread_seeds(grid, mesh, field, names, distances, cells, triangles, terms)
 }

@@ -9,13 +9,13 @@ ghost use Rattle.point.specs.declared.Axis.TheVariants.{X};
 ghost use Rattle.grid.specs.Axes.{count_on};
 ghost use Rattle.grid.specs.Index.{Inside, total};
 ghost use Rattle.grid.specs.Bounds.{in_bounds};
-ghost use Rattle.mesh.specs.Mesh.{Sound, mesh_of, triangles_in};
+ghost use Rattle.mesh.specs.Mesh.{Sound, triangles_in};
+ghost use Rattle.mesh.specs.Lent.{mesh_in};
 ghost use Rattle.run_seed_cells.specs.Parts.{seed_state, along_plane, along_box, over_box, over_triangle};
 
 use geo_closest::Facet;
 use grid::{Cell, Grid};
-use mesh::Corners;
-use mesh_topology::{Indices, Topology};
+use mesh::{Corners, Mesh};
 use refusals::Refusal;
 use terms::SignMethod;
 
@@ -93,24 +93,21 @@ pub fn seed(
     field: &mut [f32],
     names: &mut [u32],
     grid: Grid,
-    vertices: &[f32],
-    topology: Topology,
-    given: Indices,
-    indices: &[u32],
+    mesh: Mesh,
     sign: SignMethod,
 ) -> Result<(), Refusal>
     requires grid_value { in_bounds grid ≡ true }
     requires field_len { (length field.old ≡ total grid) × (length names.old ≡ total grid) }
-    requires sound { Sound (mesh_of vertices.now topology given indices.now) }
-    requires indices_len_bound { length (triangles_in (mesh_of vertices.now topology given indices.now)) < 2 ^ 32 }
-    ensures { let m = mesh_of vertices.now topology given indices.now in
+    requires sound { Sound (mesh_in mesh) }
+    requires indices_len_bound { length (triangles_in (mesh_in mesh)) < 2 ^ 32 }
+    ensures { let m = mesh_in mesh.entry in
         let s = seed_state field.old names.old in
         let t = seed_state field.new names.new in
         turns (over_triangle grid m sign) (length (triangles_in m)) s ≡ told (refusal_number result) t }
 {
-    let n = mesh::triangle_count(vertices, topology, given, indices);
+    let n = mesh::triangle_count(mesh);
     for k in 0..n {
-        let corners = mesh::corners_at(vertices, topology, given, indices, k);
+        let corners = mesh::corners_at(mesh, k);
         seed_triangle(field, names, grid, sign, corners, k as u32)?;
     }
     Ok(())

@@ -3,22 +3,19 @@
 #![tactic(auto)]
 
 ghost use Rattle.std.specs.Prelude.{◌≡◌};
-ghost use Rattle.mesh.specs.Mesh.{mesh_of};
+ghost use Rattle.mesh.specs.Lent.{mesh_in};
 ghost use Rattle.run.specs.Run.{spreading};
 ghost use Rattle.run_state.specs.Told.{Fit, Holds, GoodIn, Told};
 
 use grid::Grid;
-use mesh_topology::{Indices, Topology};
+use mesh::Mesh;
 use run_state::Progress;
 use terms::Terms;
 
 // Step 3 of the run: spreads what waits, until nothing does, with at most as many pops as the limit.
 pub fn spread(
     grid: Grid,
-    vertices: &[f32],
-    topology: Topology,
-    given: Indices,
-    indices: &[u32],
+    mesh: Mesh,
     field: &mut [f32],
     names: &mut [u32],
     distances: &mut [u32],
@@ -27,12 +24,12 @@ pub fn spread(
     at: Progress,
     terms: Terms,
 ) -> Progress
-    requires fit { Fit grid (mesh_of vertices.now topology given indices.now) }
+    requires fit { Fit grid (mesh_in mesh) }
     requires holds { Holds grid field.old names.old distances.old cells.old triangles.old at.waiting }
-    requires fact { let m = mesh_of vertices.now topology given indices.now in
+    requires fact { let m = mesh_in mesh in
         GoodIn grid m terms.sign field.old names.old distances.old cells.old triangles.old at }
     requires number_value { (at.number ≡ 0) × (at.pops ≡ 0) }
-    ensures { let m = mesh_of vertices.now topology given indices.now in
+    ensures { let m = mesh_in mesh.entry in
         Told grid m terms.sign (λ g. spreading g terms.limit)
         field.old names.old distances.old cells.old triangles.old at
         field.new names.new distances.new cells.new triangles.new result }
@@ -44,8 +41,7 @@ pub fn spread(
             return run.refused(8);
         }
         run = run_pop::pop(
-            grid, vertices, topology, given, indices, &steps, field, names, distances, cells,
-            triangles, run, terms,
+            grid, mesh, &steps, field, names, distances, cells, triangles, run, terms,
         );
         if run.number != 0 {
             return run;

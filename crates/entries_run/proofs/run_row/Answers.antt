@@ -8,12 +8,13 @@ use Rattle.run_state.specs.declared.Progress.{Progress}
 use Rattle.entries.specs.Row.{HeldRow}
 use Rattle.entries_state.specs.Records.{QueuedCellsRow}
 use Rattle.entries_run.proofs.Rows.{LeavesRow, cells_few, seeding_refused, queueing_refused, queueing_holds, queueing_good, none_taken, spreading_ends}
+use Rattle.mesh.specs.Lent.{mesh_in}
 use Rattle.entries_run.proofs.run_row.Goals as goal
 
 pub returns-then-at-ne0 : goal.returns-then-at-ne0
 returns-then-at-ne0 c =
     let a = c.args in
-    subst (λ (r : Progress). LeavesRow a.grid (mesh_of a.vertices.now a.topology a.given a.indices.now) a.terms.sign (length a.row.now) a.terms.limit a.field.now a.names.now a.row.now r)
+    subst (λ (r : Progress). LeavesRow a.grid (mesh_in a.mesh) a.terms.sign (length a.row.now) a.terms.limit a.field.now a.names.now a.row.now r)
     (sym c.begun-at.ensures)
     (seeding_refused c.requires.0 c.requires.1 a.terms.limit (λ z. c.if-at-ne0.true (ap (λ (r : Progress). r.number) c.begun-at.ensures ∙ z)))
 

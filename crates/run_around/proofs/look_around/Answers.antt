@@ -6,11 +6,12 @@ use Rattle.geo_closest.specs.Closest.{facet_of}
 use Rattle.mesh.specs.declared.Corners.{Corners}
 use Rattle.mesh.specs.Mesh.{Mesh, mesh_of}
 use Rattle.run_around.proofs.Steps.{gathered_long, looked}
+use Rattle.mesh.specs.Lent.{mesh_in}
 use Rattle.run_around.proofs.look_around.Goals as goal
 use Rattle.run_around.proofs.look_around.Goals.{After-slice_known-4-1, After-zs-1}
 
 abbrev mesh : After-slice_known-4-1 → Mesh
-mesh s = mesh_of s.args.vertices.now s.args.topology s.args.given s.args.indices.now
+mesh s = mesh_in s.args.mesh
 
 inside : (l : After-zs-1) → Inside l.args.grid l.get_cell_integer_coordinates-cell.result
 inside l = rw l.get_cell_integer_coordinates-cell.ensures (cell_within l.requires.known.cell_below)

@@ -10,6 +10,7 @@ use Rattle.mesh.specs.Mesh.{Mesh, mesh_of, triangles_in}
 use Rattle.run_cross_lines.specs.Pass.{Counted}
 use Rattle.run_cross_lines.proofs.Hits.{counted_plain}
 use Rattle.run_cross_back.proofs.Back.{marks_fit, back_crossings}
+use Rattle.mesh.specs.Lent.{mesh_in}
 use Rattle.run_cross.proofs.cross.Goals as goal
 
 pub cross_all-grazed-requires : goal.cross_all-grazed-requires
@@ -17,7 +18,7 @@ cross_all-grazed-requires c = record { grid_value = c.requires.grid_value; sound
 
 pub sum_back-requires : goal.sum_back-requires
 sum_back-requires c =
-    let mesh : Mesh = let a = c.args in mesh_of a.vertices.now a.topology a.given a.indices.now in
+    let mesh : Mesh = let a = c.args in mesh_in a.mesh in
     let counted : (pass : Pass) → c.args.pass ≡ pass
     → Counted pass c.args.grid (mesh) (length (triangles_in (mesh))) c.cross_all-grazed.new.crossings = λ pass e.
     subst (λ (p : Pass). Counted p c.args.grid (mesh) (length (triangles_in (mesh))) c.cross_all-grazed.new.crossings) e
@@ -26,7 +27,7 @@ sum_back-requires c =
 
 pub returns-in-Plain : goal.returns-in-Plain
 returns-in-Plain c =
-    let mesh : Mesh = let a = c.args in mesh_of a.vertices.now a.topology a.given a.indices.now in
+    let mesh : Mesh = let a = c.args in mesh_in a.mesh in
     let counted : (pass : Pass) → c.args.pass ≡ pass
     → Counted pass c.args.grid (mesh) (length (triangles_in (mesh))) c.cross_all-grazed.new.crossings = λ pass e.
     subst (λ (p : Pass). Counted p c.args.grid (mesh) (length (triangles_in (mesh))) c.cross_all-grazed.new.crossings) e
@@ -35,7 +36,7 @@ returns-in-Plain c =
 
 pub returns-in-Quick : goal.returns-in-Quick
 returns-in-Quick c =
-    let mesh : Mesh = let a = c.args in mesh_of a.vertices.now a.topology a.given a.indices.now in
+    let mesh : Mesh = let a = c.args in mesh_in a.mesh in
     let counted : (pass : Pass) → c.args.pass ≡ pass
     → Counted pass c.args.grid (mesh) (length (triangles_in (mesh))) c.cross_all-grazed.new.crossings = λ pass e.
     subst (λ (p : Pass). Counted p c.args.grid (mesh) (length (triangles_in (mesh))) c.cross_all-grazed.new.crossings) e

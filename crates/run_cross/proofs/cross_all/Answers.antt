@@ -10,16 +10,17 @@ use Rattle.mesh.specs.Mesh.{Mesh, mesh_of, triangles_in}
 use Rattle.run_cross_lines.specs.Pass.{Grown, crossed_by, Counted, grazed_by}
 use Rattle.run_cross_lines.proofs.Hits.{counted_none, counted_room, counted_more}
 use Rattle.run_cross_lines.proofs.Grazing.{grazed_before, triangles_grazed_first, triangles_grazed_more, triangles_grazed_le, grazed_all}
+use Rattle.mesh.specs.Lent.{mesh_in}
 use Rattle.run_cross.proofs.cross_all.Goals as goal
 
 pub loop-k-init : goal.loop-k-init
 loop-k-init c =
-    let mesh : Mesh = let a = c.args in mesh_of a.vertices.now a.topology a.given a.indices.now in
+    let mesh : Mesh = let a = c.args in mesh_in a.mesh in
     (omega arith, triangles_grazed_first c.args.grid (mesh), refl, refl, refl, refl, counted_none c.args.pass c.args.grid (mesh) c.args.crossings.now c.requires.crossings_value)
 
 pub corners_at-t-requires : goal.corners_at-t-requires
 corners_at-t-requires c =
-    let mesh : Mesh = let a = c.args in mesh_of a.vertices.now a.topology a.given a.indices.now in
+    let mesh : Mesh = let a = c.args in mesh_in a.mesh in
     let known : (c.loop-k.k < length (triangles_in (mesh))) × (c.loop-k.k < 131072) =
     let n = c.triangle_count-n.ensures in
     let few = c.requires.indices_len_bound in
@@ -28,7 +29,7 @@ corners_at-t-requires c =
 
 pub cross_triangle-total-requires : goal.cross_triangle-total-requires
 cross_triangle-total-requires c =
-    let mesh : Mesh = let a = c.args in mesh_of a.vertices.now a.topology a.given a.indices.now in
+    let mesh : Mesh = let a = c.args in mesh_in a.mesh in
     let known : (c.loop-k.k < length (triangles_in (mesh))) × (c.loop-k.k < 131072) =
     let n = c.triangle_count-n.ensures in
     let few = c.requires.indices_len_bound in
@@ -38,7 +39,7 @@ cross_triangle-total-requires c =
 
 pub overflow_add-total : goal.overflow_add-total
 overflow_add-total c =
-    let mesh : Mesh = let a = c.args in mesh_of a.vertices.now a.topology a.given a.indices.now in
+    let mesh : Mesh = let a = c.args in mesh_in a.mesh in
     let known : (c.loop-k.k < length (triangles_in (mesh))) × (c.loop-k.k < 131072) =
     let n = c.triangle_count-n.ensures in
     let few = c.requires.indices_len_bound in
@@ -51,7 +52,7 @@ overflow_add-total c =
 
 pub overflow_add-k : goal.overflow_add-k
 overflow_add-k c =
-    let mesh : Mesh = let a = c.args in mesh_of a.vertices.now a.topology a.given a.indices.now in
+    let mesh : Mesh = let a = c.args in mesh_in a.mesh in
     let known : (c.loop-k.k < length (triangles_in (mesh))) × (c.loop-k.k < 131072) =
     let n = c.triangle_count-n.ensures in
     let few = c.requires.indices_len_bound in
@@ -63,7 +64,7 @@ loop-k-smaller c = omega arith
 
 pub loop-k-preserved : goal.loop-k-preserved
 loop-k-preserved c =
-    let mesh : Mesh = let a = c.args in mesh_of a.vertices.now a.topology a.given a.indices.now in
+    let mesh : Mesh = let a = c.args in mesh_in a.mesh in
     let crossed : Counted c.args.pass c.args.grid (mesh) (c.loop-k.k + 1) c.cross_triangle-total.new.crossings =
     let g = c.args.grid in
     let pass = c.args.pass in
@@ -103,7 +104,7 @@ shape_of-crossings c =
 
 pub returns : goal.returns
 returns c =
-    let mesh : Mesh = let a = c.args in mesh_of a.vertices.now a.topology a.given a.indices.now in
+    let mesh : Mesh = let a = c.args in mesh_in a.mesh in
     let l = c.loop-k in
     let g = c.args.grid in
     let all : l.k ≡ length (triangles_in (mesh)) = omega (arith, c.triangle_count-n.ensures, c.loop-k-test.false, l.invariant.0) in record { fact = subst (λ (k : ℕ). Counted c.args.pass g (mesh) k l.crossings) all l.invariant.6; value = l.invariant.1 ∙ ap (grazed_before g (mesh)) all ∙ grazed_all g (mesh) }

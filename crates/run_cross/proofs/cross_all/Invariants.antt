@@ -7,17 +7,18 @@ use Rattle.grid.specs.Index.{total}
 use Rattle.mesh.specs.Mesh.{mesh_of}
 use Rattle.run_cross_lines.specs.Pass.{Counted}
 use Rattle.run_cross_lines.proofs.Grazing.{grazed_before}
+use Rattle.mesh.specs.Lent.{mesh_in}
 use Rattle.run_cross.proofs.cross_all.Given as goal
 
 abbrev pub invariant-loop-k : goal.invariant-loop-k
 invariant-loop-k l =
     (l.k ≤ l.n)
-    × (l.total ≡ grazed_before l.grid (mesh_of l.vertices l.topology l.given l.indices) l.k)
+    × (l.total ≡ grazed_before l.grid (mesh_in l.mesh) l.k)
     × (length l.z0 ≡ length l.initial.z0)
     × (length l.z1 ≡ length l.initial.z1)
     × (length l.z2 ≡ length l.initial.z2)
     × (length l.flags ≡ length l.initial.flags)
-    × Counted l.pass l.grid (mesh_of l.vertices l.topology l.given l.indices) l.k l.crossings
+    × Counted l.pass l.grid (mesh_in l.mesh) l.k l.crossings
 
 abbrev pub decreases-loop-k : goal.decreases-loop-k
 decreases-loop-k l = l.n - l.k

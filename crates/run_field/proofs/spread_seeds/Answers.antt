@@ -10,6 +10,7 @@ use Rattle.run.specs.Run.{State, queueing}
 use Rattle.run.specs.Input.{run_input}
 use Rattle.run_field.specs.Running.{Leaves, seeded}
 use Rattle.run_field.proofs.Runs.{as_left, cells_told, queueing_states, rest_stops, rest_begins, rest_goes_on}
+use Rattle.mesh.specs.Lent.{mesh_in}
 use Rattle.run_field.proofs.spread_seeds.Goals as goal
 
 pub queue_cells-queued-requires : goal.queue_cells-queued-requires
@@ -18,7 +19,7 @@ queue_cells-queued-requires c =
 
 pub returns-then-queued-ne0 : goal.returns-then-queued-ne0
 returns-then-queued-ne0 c =
-    let mesh : Mesh = let a = c.args in mesh_of a.vertices.now a.topology a.given a.indices.now in
+    let mesh : Mesh = let a = c.args in mesh_in a.mesh in
     let seeds : State =
     let a = c.args in
     seeded (mesh)
@@ -33,7 +34,7 @@ returns-then-queued-ne0 c =
 
 pub spread-requires : goal.spread-requires
 spread-requires c =
-    let mesh : Mesh = let a = c.args in mesh_of a.vertices.now a.topology a.given a.indices.now in
+    let mesh : Mesh = let a = c.args in mesh_in a.mesh in
     let seeds : State =
     let a = c.args in
     seeded (mesh)
@@ -49,7 +50,7 @@ spread-requires c =
 
 pub returns : goal.returns
 returns c =
-    let mesh : Mesh = let a = c.args in mesh_of a.vertices.now a.topology a.given a.indices.now in
+    let mesh : Mesh = let a = c.args in mesh_in a.mesh in
     let seeds : State =
     let a = c.args in
     seeded (mesh)
