@@ -96,12 +96,10 @@ fn cross_all(
     ensures value { result ≡ grazed grid (mesh_of vertices.now topology given indices.now) }
 {
     let n = mesh::triangle_count(vertices, topology, given, indices);
-    let mut k = 0;
     let mut total: u64 = 0;
-    while k < n {
+    for k in 0..n {
         let t = mesh::corners_at(vertices, topology, given, indices, k);
         total += cross_triangle(grid, t, z0, z1, z2, flags, crossings, pass);
-        k += 1;
     }
     total
 }
@@ -126,7 +124,7 @@ pub fn cross(
         crossings.new ≡ all_crossings grid m }
     ensures value { result ≡ grazed grid (mesh_of vertices.now topology given indices.now) }
 {
-    slices::fill_numbers(crossings, 0);
+    crossings.fill(0);
     let mut z0 = [0.0f32; 1024];
     let mut z1 = [0.0f32; 1024];
     let mut z2 = [0.0f32; 1024];
