@@ -87,13 +87,12 @@ pub fn dots_of(f: Facet, p: Point) -> Dots
 }
 
 // A triangle of which two corners are equal is a segment or a point.
+#[tactic(auto, unfolding(crate::specs::Closest::closest_point_equal))]
 pub fn closest_point_equal(p: Point, a: Point, b: Point, c: Point) -> Point
     ensures { result ≡ Closest.closest_point_equal p a b c }
 {
-    let ab = (a.x == b.x) & (a.y == b.y) & (a.z == b.z);
-    let bc = (b.x == c.x) & (b.y == c.y) & (b.z == c.z);
-    let ac = (a.x == c.x) & (a.y == c.y) & (a.z == c.z);
-    if ab & bc & ac {
+    let ab = a.same(b);
+    if ab & b.same(c) & a.same(c) {
         return a;
     }
     if ab {
