@@ -43,6 +43,7 @@ pub fn step(o: Point, e: Point, t: f32) -> Point
     }
 }
 
+#[tactic(auto, unfolding(crate::specs::Closest::closest_point_segment))]
 pub fn closest_point_segment(p: Point, a: Point, b: Point) -> Point
     ensures { result ≡ Closest.closest_point_segment p a b }
 {
@@ -52,6 +53,7 @@ pub fn closest_point_segment(p: Point, a: Point, b: Point) -> Point
     step(a, ab, s12)
 }
 
+#[tactic(auto, unfolding(crate::specs::Closest::facet_of))]
 pub fn facet_of(a: Point, b: Point, c: Point) -> Facet
     ensures { result ≡ Closest.facet_of a b c }
 {
@@ -70,6 +72,7 @@ pub fn facet_of(a: Point, b: Point, c: Point) -> Facet
     }
 }
 
+#[tactic(auto, unfolding(crate::specs::Closest::dots_of))]
 pub fn dots_of(f: Facet, p: Point) -> Dots
     ensures { result ≡ Closest.dots_of f p }
 {
