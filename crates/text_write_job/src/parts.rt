@@ -77,16 +77,14 @@ fn put_vertex_lines(out: &mut [u8], at: usize, vertices: &[u32], n: usize) -> us
     ensures put { Put out.old at (lines vertex_line (threes_in n vertices.now)) out.new result }
     ensures upper_bound { result ≤ at + 29 * n }
 {
-    let mut i = 0;
     let mut next = at;
-    while i < n {
+    for i in 0..n {
         let v = Three {
             x: vertices[3 * i],
             y: vertices[3 * i + 1],
             z: vertices[3 * i + 2],
         };
         next = put_three(out, next, b"v=", v, Form::Hex8);
-        i += 1;
     }
     next
 }
@@ -103,19 +101,16 @@ pub fn put_vertices(out: &mut [u8], at: usize, vertices: &[u32], n: usize) -> us
     put_vertex_lines(out, next, vertices, n)
 }
 
-// A line for each of the first n indices.
-fn put_index_lines(out: &mut [u8], at: usize, indices: &[u32], n: usize) -> usize
-    requires n_le_index_room { n ≤ index_room }
-    requires n_in_bounds { n ≤ length indices.now }
-    requires n_in_bounds_2 { at + 13 * n ≤ length out.old }
-    ensures put { Put out.old at (lines index_line (take n indices.now)) out.new result }
-    ensures upper_bound { result ≤ at + 13 * n }
+// A line for each index.
+fn put_index_lines(out: &mut [u8], at: usize, indices: &[u32]) -> usize
+    requires few { length indices.now ≤ index_room }
+    requires room { at + 13 * length indices.now ≤ length out.old }
+    ensures put { Put out.old at (lines index_line indices.now) out.new result }
+    ensures upper_bound { result ≤ at + 13 * length indices.now }
 {
-    let mut i = 0;
     let mut next = at;
-    while i < n {
-        next = put_number(out, next, b"i=", indices[i]);
-        i += 1;
+    for index in indices {
+        next = put_number(out, next, b"i=", *index);
     }
     next
 }
@@ -131,7 +126,7 @@ pub fn put_indices(out: &mut [u8], at: usize, given: Indices, indices: &[u32], n
     match given {
         Indices::Given => {
             let next = put_number(out, at, b"indices=", n as u32);
-            put_index_lines(out, next, indices, n)
+            put_index_lines(out, next, &indices[..n])
         }
         Indices::None => put_all(out, at, b"indices=none\n"),
     }
