@@ -9,8 +9,9 @@ ghost use Rattle.text_read_words.specs.Told.{got};
 ghost use Rattle.text_read_lines.specs.Told.{got_always};
 
 use mesh_topology::Topology;
+use point::Axis;
 use terms::SignMethod;
-use text::{Form, MOST_CELLS, Table, Three, Upright};
+use text::{Form, MOST_CELLS, Three};
 use text_read_words::Read;
 
 // Three numbers to the end of the line.
@@ -77,29 +78,30 @@ pub fn count_line(text: &[u8], at: usize) -> Option<Read<Three>>
 }
 
 // The line of the upright axis, which may be left out: then the place behind it is that where it would stand.
-pub fn upright_line(text: &[u8], at: usize) -> Read<Upright>
+pub fn upright_line(text: &[u8], at: usize) -> Read<Option<Axis>>
     ensures { got_always text.now result ≡ upright_at (drop at text.now) }
 {
     if let Some(next) = text_read_words::after(text, at, b"upright=x\n") {
         return Read {
-            value: Upright::X,
+            value: Some(Axis::X),
             next,
         };
     }
     if let Some(next) = text_read_words::after(text, at, b"upright=y\n") {
         return Read {
-            value: Upright::Y,
+            value: Some(Axis::Y),
             next,
         };
     }
     if let Some(next) = text_read_words::after(text, at, b"upright=z\n") {
         return Read {
-            value: Upright::Z,
+            value: Some(Axis::Z),
             next,
         };
     }
+    let said = None;
     Read {
-        value: Upright::Unsaid,
+        value: said,
         next: at,
     }
 }
@@ -138,17 +140,17 @@ pub fn sign_line(text: &[u8], at: usize) -> Read<SignMethod>
 }
 
 // The line of the table's edition, which may be left out. Any number is taken.
-pub fn table_line(text: &[u8], at: usize) -> Read<Table>
+pub fn table_line(text: &[u8], at: usize) -> Read<Option<u32>>
     ensures { got_always text.now result ≡ table_at (drop at text.now) }
 {
     if let Some(Read { value, next }) = number_line(text, at, b"table=", 4294967295) {
         return Read {
-            value: Table::Said(value),
+            value: Some(value),
             next,
         };
     }
     Read {
-        value: Table::Unsaid,
+        value: None,
         next: at,
     }
 }

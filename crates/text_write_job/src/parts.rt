@@ -1,5 +1,5 @@
 // The parts of the text, in its order: the lines before the vertices, the vertices, the indices, the tail.
-ghost use Rattle.std.specs.Prelude.{◌+◌, ◌*◌, ◌≤◌, length, take};
+ghost use Rattle.std.specs.Prelude.{◌+◌, ◌*◌, ◌≤◌, length, take, Some};
 ghost use Rattle.text.specs.Words.{line, lines};
 ghost use Rattle.text.specs.Limits.{most_vertices, index_room};
 ghost use Rattle.text.specs.TextJob.{upright_text, topology_text, sign_text, head_text, table_text, tail_text};
@@ -8,21 +8,32 @@ ghost use Rattle.text_read_parts.specs.Told.{threes_in, listed_as};
 ghost use Rattle.lists.specs.Put.{Put};
 
 use mesh_topology::{Indices, Topology};
+use point::Axis;
 use terms::SignMethod;
-use text::{Form, Head, Table, Tail, Three, Upright};
+use text::{Form, Head, Tail, Three};
 use text_write::{put_all, put_number, put_three};
 
 // The line of the upright axis, where it was said.
-fn put_upright(out: &mut [u8], at: usize, upright: Upright) -> usize
+fn put_upright(out: &mut [u8], at: usize, upright: Option<Axis>) -> usize
     requires { at + 10 ≤ length out.old }
     ensures put { Put out.old at (upright_text upright) out.new result }
     ensures upper_bound { result ≤ at + 10 }
 {
     match upright {
-        Upright::Unsaid => at,
-        Upright::X => put_all(out, at, b"upright=x\n"),
-        Upright::Y => put_all(out, at, b"upright=y\n"),
-        Upright::Z => put_all(out, at, b"upright=z\n"),
+        Some(axis) => put_axis(out, at, axis),
+        None => at,
+    }
+}
+
+fn put_axis(out: &mut [u8], at: usize, axis: Axis) -> usize
+    requires { at + 10 ≤ length out.old }
+    ensures put { Put out.old at (upright_text (Some axis)) out.new result }
+    ensures upper_bound { result ≤ at + 10 }
+{
+    match axis {
+        Axis::X => put_all(out, at, b"upright=x\n"),
+        Axis::Y => put_all(out, at, b"upright=y\n"),
+        Axis::Z => put_all(out, at, b"upright=z\n"),
     }
 }
 
@@ -133,13 +144,13 @@ pub fn put_indices(out: &mut [u8], at: usize, given: Indices, indices: &[u32], n
 }
 
 // The line of the table's edition, where it was said.
-fn put_table(out: &mut [u8], at: usize, table: Table) -> usize
+fn put_table(out: &mut [u8], at: usize, table: Option<u32>) -> usize
     requires { at + 17 ≤ length out.old }
     ensures { Put out.old at (table_text table) out.new result }
 {
     match table {
-        Table::Unsaid => at,
-        Table::Said(edition) => put_number(out, at, b"table=", edition),
+        None => at,
+        Some(edition) => put_number(out, at, b"table=", edition),
     }
 }
 
