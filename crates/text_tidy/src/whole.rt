@@ -14,7 +14,7 @@ use crate::lines::put_went;
 use crate::{TIDY_ROOM, Went};
 use listing::{coordinate_floats, fill};
 use text::{INDEX_ROOM, MOST_VERTICES};
-use text_read_job::{Asked, Reading, coordinate_words, index_words, read_job};
+use text_read_job::{Asked, coordinate_words, index_words, read_job};
 use text_write::put_number;
 use tidy_mesh::{Kept, TidyAnswer, tidy_mesh};
 
@@ -132,10 +132,9 @@ pub fn tidy_text(text: &[u8], out: &mut [u8]) -> usize
     }
     let mut bits = coordinate_words();
     let mut indices = index_words();
-    let read = read_job(text, &mut bits, &mut indices);
-    match read {
-        Reading::Unreadable => put_number(out, 0, b"answer=", 9),
-        Reading::Job(asked) => {
+    match read_job(text, &mut bits, &mut indices) {
+        Err(refusal) => put_number(out, 0, b"answer=", refusal.number()),
+        Ok(asked) => {
             let n = 3 * asked.vertices;
             let k = asked.indices;
             tidy_asked(asked, &bits[..n], &indices[..k], out)
