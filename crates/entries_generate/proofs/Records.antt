@@ -12,6 +12,7 @@ use Rattle.mesh.specs.Mesh.{Mesh}
 use Rattle.queue.specs.declared.Entry.{Entry}
 use Rattle.queue.specs.Keys.{by_keys}
 use Rattle.queue.proofs.Uses as Queue
+use Rattle.refusals.specs.Numbers.{refusal_number}
 use Rattle.run.specs.Run.{run}
 use Rattle.run.specs.Input.{run_input}
 use Rattle.lists.specs.Turns.{told}
@@ -78,7 +79,7 @@ module _ (g : Grid) (m : Mesh) (sign : SignMethod) (limit edition : ℕ) (field 
       is_long = record { crossings_long = taken.long.crossings; rows_long = taken.long.rows }
 
       module _ (l-field : length field₁ ≡ length field) (l-names : length names₁ ≡ length names) (queue₁ : List Entry) (l-queue : length queue₁ ≡ length queue) (clear : ClearedRow queue queue₁) where
-        pub seeds : Seeded g m sign begun.number field₁ names₁ queue₁
+        pub seeds : Seeded g m sign (refusal_number begun.seeded) field₁ names₁ queue₁
         seeds = record {
           seeds = s.seeded z;
           field_long = l-field ∙ taken.long.field;

@@ -68,7 +68,7 @@ pub fn generate_grid_sdf_records(
         field,
         names,
         queue,
-        begun.number,
+        begun.seeded,
         terms,
     );
     let answer = job_close::close(

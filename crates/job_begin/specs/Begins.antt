@@ -6,6 +6,7 @@ use Rattle.terms.specs.declared.SignMethod.{SignMethod}
 use Rattle.grid.specs.declared.Grid.{Grid}
 use Rattle.grid.specs.Index.{total}
 use Rattle.mesh.specs.Mesh.{Mesh, triangles_in}
+use Rattle.refusals.specs.Numbers.{refusal_number}
 use Rattle.run.specs.Run.{none}
 use Rattle.run_seed_cells.specs.Parts.{seed_state, over_triangle}
 use Rattle.job_checks.specs.declared.Lengths.{Lengths}
@@ -29,6 +30,6 @@ lengths_with field names crossings rows room =
 pub record Begins (g : Grid) (m : Mesh) (sign : SignMethod) (edition crossings rows room : ℕ) (field : List Float) (names : List ℕ) (field' : List Float) (names' : List ℕ) (r : Begun) : Type 0 where
   pub refused_is : r.refused ≡ refusal_by g edition m (lengths_with field names crossings rows room)
   pub unchanged : (r.refused ≡ 0 → ⊥) → (field' ≡ field) × (names' ≡ names)
-  pub unseeded : (r.refused ≡ 0 → ⊥) → r.number ≡ 0
+  pub unseeded : (r.refused ≡ 0 → ⊥) → refusal_number r.seeded ≡ 0
   pub seeded : r.refused ≡ 0
-      → turns (over_triangle g m sign) (length (triangles_in m)) (seed_state (replicate (total g) f_max) (replicate (total g) none)) ≡ told r.number (seed_state field' names')
+      → turns (over_triangle g m sign) (length (triangles_in m)) (seed_state (replicate (total g) f_max) (replicate (total g) none)) ≡ told (refusal_number r.seeded) (seed_state field' names')

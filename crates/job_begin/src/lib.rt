@@ -8,13 +8,14 @@ ghost use Rattle.job_begin.specs.Begins.{Begins};
 use grid::Grid;
 use job_checks::Lengths;
 use mesh_topology::{Indices, Topology};
+use refusals::Refusal;
 use terms::Terms;
 
-// What it came to: the refusal before anything was changed, or 0, and then what seeding told, 0 or 6.
+// What it came to: the refusal before anything was changed, or 0, and then what seeding told.
 #[derive(Clone, Copy)]
 pub struct Begun {
     pub refused: u32,
-    pub number: u32,
+    pub seeded: Result<(), Refusal>,
 }
 
 // Of a queue whose buffers are all `room` long; `crossings` and `rows` are the lengths of those buffers.
@@ -51,15 +52,15 @@ pub fn begin(
     if refused != 0 {
         return Begun {
             refused: refused,
-            number: 0,
+            seeded: Ok(()),
         };
     }
     job_clear::fill_field(field);
     slices::fill_numbers(names, 4_294_967_295);
     let sign = terms.sign;
-    let number = run_seed::seed(field, names, grid, vertices, topology, given, indices, sign);
+    let seeded = run_seed::seed(field, names, grid, vertices, topology, given, indices, sign);
     Begun {
         refused: 0,
-        number: number,
+        seeded: seeded,
     }
 }

@@ -76,16 +76,16 @@ pub fn run_field(
         field.new names.new distances.new cells.new triangles.new result }
 {
     let sign = terms.sign;
-    let number = run_seed::seed(field, names, grid, vertices, topology, given, indices, sign);
-    if number != 0 {
-        return Progress {
-            number: number,
+    match run_seed::seed(field, names, grid, vertices, topology, given, indices, sign) {
+        Ok(()) => spread_seeds(
+            grid, vertices, topology, given, indices, field, names, distances, cells, triangles,
+            terms,
+        ),
+        Err(refusal) => Progress {
+            number: refusal.number(),
             waiting: 0,
             pops: 0,
             peak: 0,
-        };
+        },
     }
-    spread_seeds(
-        grid, vertices, topology, given, indices, field, names, distances, cells, triangles, terms,
-    )
 }

@@ -4,6 +4,7 @@
 
 ghost use Rattle.std.specs.Prelude.{◌≡◌, true, ◌^◌, ◌<◌, length};
 ghost use Rattle.lists.specs.Turns.{told, turns};
+ghost use Rattle.refusals.specs.Numbers.{refusal_number};
 ghost use Rattle.point.specs.declared.Axis.TheVariants.{X};
 ghost use Rattle.grid.specs.Axes.{count_on};
 ghost use Rattle.grid.specs.Index.{Inside, total};
@@ -15,6 +16,7 @@ use geo_closest::Facet;
 use grid::{Cell, Grid};
 use mesh::Corners;
 use mesh_topology::{Indices, Topology};
+use refusals::Refusal;
 use terms::SignMethod;
 
 // To the cells of a box that have one x.
@@ -28,25 +30,17 @@ fn seed_plane(
     x: u32,
     low: Cell,
     high: Cell,
-) -> u32
+) -> Result<(), Refusal>
     requires grid_value { (in_bounds grid ≡ true) × Inside grid high × (x < count_on X grid) }
     requires field_len { (length field.old ≡ total grid) × (length names.old ≡ total grid) }
     ensures { let s = seed_state field.old names.old in
         let t = seed_state field.new names.new in
-        along_plane grid sign f k x low high s ≡ told result t }
+        along_plane grid sign f k x low high s ≡ told (refusal_number result) t }
 {
-    let lo = low.z;
-    let hi = high.z;
-    let last = high.y;
-    let mut y = low.y;
-    while y <= last {
-        let r = run_seed_line::seed_line(field, names, grid, sign, f, k, x, y, lo, hi);
-        if r != 0 {
-            return r;
-        }
-        y += 1;
+    for y in low.y..=high.y {
+        run_seed_line::seed_line(field, names, grid, sign, f, k, x, y, low.z, high.z)?;
     }
-    0
+    Ok(())
 }
 
 // To all the cells of a box.
@@ -59,23 +53,17 @@ fn seed_box(
     k: u32,
     low: Cell,
     high: Cell,
-) -> u32
+) -> Result<(), Refusal>
     requires grid_value { (in_bounds grid ≡ true) × Inside grid high }
     requires field_len { (length field.old ≡ total grid) × (length names.old ≡ total grid) }
     ensures { let s = seed_state field.old names.old in
         let t = seed_state field.new names.new in
-        along_box grid sign f k low high s ≡ told result t }
+        along_box grid sign f k low high s ≡ told (refusal_number result) t }
 {
-    let last = high.x;
-    let mut x = low.x;
-    while x <= last {
-        let r = seed_plane(field, names, grid, sign, f, k, x, low, high);
-        if r != 0 {
-            return r;
-        }
-        x += 1;
+    for x in low.x..=high.x {
+        seed_plane(field, names, grid, sign, f, k, x, low, high)?;
     }
-    0
+    Ok(())
 }
 
 // Offers triangle k, by its corners, to the cells of its snapped box.
@@ -86,12 +74,12 @@ fn seed_triangle(
     sign: SignMethod,
     corners: Corners,
     k: u32,
-) -> u32
+) -> Result<(), Refusal>
     requires grid_value { in_bounds grid ≡ true }
     requires field_len { (length field.old ≡ total grid) × (length names.old ≡ total grid) }
     ensures { let s = seed_state field.old names.old in
         let t = seed_state field.new names.new in
-        over_box grid sign corners k s ≡ told result t }
+        over_box grid sign corners k s ≡ told (refusal_number result) t }
 {
     let b = geo_box::triangle_bounding_box(corners.a, corners.b, corners.c);
     let low = run_seed_box::first_of(grid, b.low);
@@ -100,7 +88,7 @@ fn seed_triangle(
     seed_box(field, names, grid, sign, f, k, low, high)
 }
 
-// Offers every triangle, in order. Tells 6 where a distance is a NaN.
+// Offers every triangle, in order. Refused where a distance is a NaN.
 pub fn seed(
     field: &mut [f32],
     names: &mut [u32],
@@ -110,7 +98,7 @@ pub fn seed(
     given: Indices,
     indices: &[u32],
     sign: SignMethod,
-) -> u32
+) -> Result<(), Refusal>
     requires grid_value { in_bounds grid ≡ true }
     requires field_len { (length field.old ≡ total grid) × (length names.old ≡ total grid) }
     requires sound { Sound (mesh_of vertices.now topology given indices.now) }
@@ -118,17 +106,12 @@ pub fn seed(
     ensures { let m = mesh_of vertices.now topology given indices.now in
         let s = seed_state field.old names.old in
         let t = seed_state field.new names.new in
-        turns (over_triangle grid m sign) (length (triangles_in m)) s ≡ told result t }
+        turns (over_triangle grid m sign) (length (triangles_in m)) s ≡ told (refusal_number result) t }
 {
     let n = mesh::triangle_count(vertices, topology, given, indices);
-    let mut k = 0;
-    while k < n {
+    for k in 0..n {
         let corners = mesh::corners_at(vertices, topology, given, indices, k);
-        let r = seed_triangle(field, names, grid, sign, corners, k as u32);
-        if r != 0 {
-            return r;
-        }
-        k += 1;
+        seed_triangle(field, names, grid, sign, corners, k as u32)?;
     }
-    0
+    Ok(())
 }

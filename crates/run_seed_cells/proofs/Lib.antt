@@ -1,2 +1,3 @@
 -- what crates above cite
 pub mod Offers
+pub mod Told

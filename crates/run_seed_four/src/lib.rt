@@ -3,6 +3,7 @@
 
 ghost use Rattle.std.specs.Prelude.{◌≡◌, true, ◌+◌, ◌≤◌, ◌<◌, length};
 ghost use Rattle.lists.specs.Turns.{told};
+ghost use Rattle.refusals.specs.Numbers.{refusal_number};
 ghost use Rattle.grid.specs.Axes.{cell_numbered};
 ghost use Rattle.grid.specs.Index.{Inside, total};
 ghost use Rattle.grid.specs.Bounds.{in_bounds};
@@ -11,6 +12,7 @@ ghost use Rattle.run_seed_four.specs.Four.{SquaresFrom};
 
 use geo_closest::Facet;
 use grid::{Cell, Grid};
+use refusals::Refusal;
 use terms::SignMethod;
 
 // The signed squares of f from the centres of four cells: `at` and the three behind it along z, which need not
@@ -45,24 +47,19 @@ pub fn offer_four(
     k: u32,
     at: Cell,
     last: u32,
-) -> u32
+) -> Result<(), Refusal>
     requires grid_value { (in_bounds grid ≡ true) × Inside grid (cell_numbered at.x at.y last) × (at.z ≤ last) ×
         (last < at.z + 4) }
     requires field_len { (length field.old ≡ total grid) × (length names.old ≡ total grid) }
     ensures { let s = seed_state field.old names.old in
         let t = seed_state field.new names.new in
-        along_line grid sign f k at.x at.y at.z last s ≡ told result t }
+        along_line grid sign f k at.x at.y at.z last s ≡ told (refusal_number result) t }
 {
     let squares = squares_from(grid, sign, f, at);
     let c = grid::parts::get_cell_idx(grid, at) as usize;
-    let n = (last - at.z) as usize;
-    let mut i = 0;
-    while i <= n {
-        let r = run_seed_cells::offer(field, names, c + i, k, squares[i]);
-        if r != 0 {
-            return r;
-        }
-        i += 1;
+    let n = (last - at.z + 1) as usize;
+    for i in 0..n {
+        run_seed_cells::offer(field, names, c + i, k, squares[i])?;
     }
-    0
+    Ok(())
 }

@@ -4,6 +4,7 @@
 
 ghost use Rattle.std.specs.Prelude.{◌≡◌, true, ◌+◌, ◌≤◌, ◌<◌, length};
 ghost use Rattle.lists.specs.Turns.{told};
+ghost use Rattle.refusals.specs.Numbers.{refusal_number};
 ghost use Rattle.grid.specs.Axes.{cell_numbered};
 ghost use Rattle.grid.specs.Index.{Inside, total};
 ghost use Rattle.grid.specs.Bounds.{in_bounds};
@@ -11,6 +12,7 @@ ghost use Rattle.run_seed_cells.specs.Parts.{seed_state, along_line};
 
 use geo_closest::Facet;
 use grid::{Cell, Grid};
+use refusals::Refusal;
 use terms::SignMethod;
 
 // Where the four cells from z on end, and no further than hi.
@@ -33,17 +35,17 @@ pub fn seed_line(
     y: u32,
     lo: u32,
     hi: u32,
-) -> u32
+) -> Result<(), Refusal>
     requires grid_value { (in_bounds grid ≡ true) × Inside grid (cell_numbered x y hi) }
     requires field_len { (length field.old ≡ total grid) × (length names.old ≡ total grid) }
     ensures { let s = seed_state field.old names.old in
         let t = seed_state field.new names.new in
-        along_line grid sign f k x y lo hi s ≡ told result t }
+        along_line grid sign f k x y lo hi s ≡ told (refusal_number result) t }
 {
     let mut z = lo;
     while z <= hi {
         let last = last_of_four(z, hi);
-        let r = run_seed_four::offer_four(
+        run_seed_four::offer_four(
             field,
             names,
             grid,
@@ -52,11 +54,8 @@ pub fn seed_line(
             k,
             Cell { x: x, y: y, z: z },
             last,
-        );
-        if r != 0 {
-            return r;
-        }
+        )?;
         z = last + 1;
     }
-    0
+    Ok(())
 }

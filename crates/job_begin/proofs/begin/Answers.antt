@@ -7,8 +7,8 @@ use Rattle.job_begin.proofs.begin.Goals as goal
 pub returns-then-refused-ne0 : goal.returns-then-refused-ne0
 returns-then-refused-ne0 c = begins_refused _ _ _ _ _ _ _ _ _ _ c.first_refusal-refused.ensures c.if-refused-ne0.true
 
-pub seed-number-requires : goal.seed-number-requires
-seed-number-requires c =
+pub seed-seeded-requires : goal.seed-seeded-requires
+seed-seeded-requires c =
     let mesh : Mesh = mesh_of c.args.vertices.now c.args.topology c.args.given c.args.indices.now in
     let m = mesh in
     let a = c.args in
@@ -22,4 +22,4 @@ pub returns : goal.returns
 returns c =
     let mesh : Mesh = mesh_of c.args.vertices.now c.args.topology c.args.given c.args.indices.now in
     let checks = c.first_refusal-refused.ensures in
-    begins_seeded _ (mesh) _ _ _ _ _ _ _ _ checks c.if-refused-ne0.false c.fill_field.ensures c.fill_numbers.ensures _ c.seed-number.ensures
+    begins_seeded _ (mesh) _ _ _ _ _ _ _ _ checks c.if-refused-ne0.false c.fill_field.ensures c.fill_numbers.ensures _ c.seed-seeded.ensures

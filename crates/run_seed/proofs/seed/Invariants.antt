@@ -1,6 +1,5 @@
 -- `run_seed::seed`: the state is the one after k turns, each a triangle. Assumes nothing.
 use mathlib.Core.Path.{◌≡◌}
-use Prim.Native.Nat.{◌-◌, ◌≤◌}
 use lib.ListN.{length}
 use Rattle.lists.specs.Turns.{goes, turns}
 use Rattle.mesh.specs.Mesh.{mesh_of, triangles_in}
@@ -9,11 +8,7 @@ use Rattle.run_seed.proofs.seed.Given as goal
 
 abbrev pub invariant-loop-k : goal.invariant-loop-k
 invariant-loop-k l =
-    (l.k ≤ l.n)
-    × (l.n ≡ length (triangles_in (mesh_of l.vertices l.topology l.given l.indices)))
+    (l.n ≡ length (triangles_in (mesh_of l.vertices l.topology l.given l.indices)))
     × (length l.field ≡ length l.initial.field)
     × (length l.names ≡ length l.initial.names)
     × (turns (over_triangle l.grid (mesh_of l.vertices l.topology l.given l.indices) l.sign) l.k (seed_state l.initial.field l.initial.names) ≡ goes (seed_state l.field l.names))
-
-abbrev pub decreases-loop-k : goal.decreases-loop-k
-decreases-loop-k l = l.n - l.k

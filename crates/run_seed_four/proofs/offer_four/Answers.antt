@@ -2,11 +2,13 @@
 use Prim.Native.Nat.{◌+◌, ◌-◌, ◌≤◌, ◌<◌}
 use native.Mathlib.Omega.{arith}
 use mathlib.Core.Path.{◌≡◌, refl, ◌∙◌}
+use Rattle.std.proofs.lemmas.Result.{err_from_is_err_and}
 use Rattle.lists.specs.Turns.{turns}
 use Rattle.lists.proofs.Turns.{turns_none, turns_on, turns_stop, turns_end}
 use Rattle.grid.specs.Index.{Inside, total}
 use Rattle.grid.proofs.Laws.{index_below}
 use Rattle.run_seed_cells.specs.Parts.{seed_state, along_line}
+use Rattle.run_seed_cells.proofs.Told.{never_none}
 use Rattle.run_seed_four.proofs.Fours.{in_row, index_behind, inside_behind, row_is_line}
 use Rattle.run_seed_four.proofs.offer_four.Goals as goal
 use Rattle.run_seed_four.proofs.offer_four.Goals.{After-offer-arg-in-loop-i-1, At-loop-i}
@@ -41,11 +43,8 @@ get_cell_idx-c-requires c =
     let inside_at_lem : Inside c.args.grid c.args.at = record { x_below = c.requires.grid_value.1.x_below; y_below = c.requires.grid_value.1.y_below; z_below = omega (arith, c.requires.grid_value.1.z_below, c.requires.grid_value.2) } in
     (c.requires.grid_value.0, inside_at_lem)
 
-pub overflow_sub-n : goal.overflow_sub-n
-overflow_sub-n c = c.requires.grid_value.2
-
 pub loop-i-init : goal.loop-i-init
-loop-i-init c = (omega arith, refl, refl, turns_none _ _)
+loop-i-init c = (refl, refl, turns_none _ _)
 
 pub overflow_add-c : goal.overflow_add-c
 overflow_add-c c = omega (arith, below c)
@@ -56,21 +55,17 @@ offset_bounds-squares-i c = omega (arith, few c)
 pub bounds-squares-i : goal.bounds-squares-i
 bounds-squares-i c = few c
 
-pub offer-r-requires : goal.offer-r-requires
-offer-r-requires c =
-    (omega (arith, below c, c.loop-i.invariant.1, c.requires.field_len.0), omega (arith, below c, c.loop-i.invariant.2, c.requires.field_len.1))
+pub offer-requires : goal.offer-requires
+offer-requires c =
+    (omega (arith, below c, c.loop-i.invariant.0, c.requires.field_len.0), omega (arith, below c, c.loop-i.invariant.1, c.requires.field_len.1))
 
-pub returns-then-r-ne0 : goal.returns-then-r-ne0
-returns-then-r-ne0 c =
-    line (search) ∙ turns_stop _ _ _ _ _ _ _ _ c.loop-i.invariant.3 c.offer-r.ensures c.if-r-ne0.true (omega (arith, c.loop-i-test.true))
+pub returns-in_err-offer : goal.returns-in_err-offer
+returns-in_err-offer c =
+    let p = err_from_is_err_and c.from_residual.result c.from_residual.ensures.1 in
+    rw (p.1, p.2) (line (search) ∙ turns_stop _ _ _ _ _ _ _ _ c.loop-i.invariant.2 c.in_err-offer.ensures (never_none _) (omega arith))
 
 pub loop-i-preserved : goal.loop-i-preserved
-loop-i-preserved c = (
-  omega (arith, c.loop-i-test.true),
-  omega arith,
-  omega arith,
-  turns_on _ _ _ _ _ _ c.loop-i.invariant.3 c.offer-r.ensures c.if-r-ne0.false,
-)
+loop-i-preserved c = (omega arith, omega arith, turns_on _ _ _ _ _ _ c.loop-i.invariant.2 c.in_ok-offer.ensures refl)
 
 pub returns : goal.returns
-returns c = line (search) ∙ turns_end _ _ _ _ _ c.loop-i.invariant.3 (omega (arith, c.loop-i.invariant.0, c.loop-i-test.false))
+returns c = line (search) ∙ turns_end _ _ _ _ _ c.loop-i.invariant.2 (omega arith)

