@@ -4,9 +4,7 @@
 // call `sdf`.
 #![tactic(auto)]
 
-ghost use Rattle.std.specs.Prelude.{◌≡◌};
 ghost use Rattle.job_checks.specs.Job.{job_of};
-ghost use Rattle.job_outcome.specs.declared.Answer.TheVariants.{Refused};
 ghost use Rattle.job_outcome.specs.Outcome.{Gives, outcome};
 ghost use Rattle.entries_generate.specs.LentRow.{lent_row};
 
@@ -15,13 +13,6 @@ use job_outcome::Answer;
 use mesh_topology::{Indices, Topology};
 use queue::Entry;
 use terms::Terms;
-
-// The answer to a job that is refused before anything is changed.
-fn refused(number: u32) -> Answer
-    ensures { result ≡ Refused number }
-{
-    Answer::Refused(number)
-}
 
 // Any job at all, over any lent buffers.
 pub fn generate_grid_sdf_records(
@@ -42,7 +33,7 @@ pub fn generate_grid_sdf_records(
         let left = lent_row field.new names.new crossings.new rows.new queue.new in
         Gives (outcome job lent) result left }
 {
-    let begun = job_begin::begin(
+    let seeded = job_begin::begin(
         grid,
         vertices,
         topology,
@@ -54,22 +45,10 @@ pub fn generate_grid_sdf_records(
         rows.len(),
         queue.len(),
         terms,
-    );
-    if begun.refused != 0 {
-        return refused(begun.refused);
-    }
+    )?;
     entries::clear(queue);
     let ran = entries_run::run_row(
-        grid,
-        vertices,
-        topology,
-        given,
-        indices,
-        field,
-        names,
-        queue,
-        begun.seeded,
-        terms,
+        grid, vertices, topology, given, indices, field, names, queue, seeded, terms,
     );
     let answer = job_close::close(
         grid, vertices, topology, given, indices, field, names, crossings, rows, terms, ran,

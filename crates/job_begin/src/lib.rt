@@ -11,12 +11,8 @@ use mesh_topology::{Indices, Topology};
 use refusals::Refusal;
 use terms::Terms;
 
-// What it came to: the refusal before anything was changed, or 0, and then what seeding told.
-#[derive(Clone, Copy)]
-pub struct Begun {
-    pub refused: u32,
-    pub seeded: Result<(), Refusal>,
-}
+// What it came to: refused before anything was changed, or what seeding told.
+pub type Begun = Result<Result<(), Refusal>, Refusal>;
 
 // Of a queue whose buffers are all `room` long; `crossings` and `rows` are the lengths of those buffers.
 pub fn begin(
@@ -46,21 +42,10 @@ pub fn begin(
         triangles: room,
     };
     let edition = terms.edition;
-    let refused = job_checks::first_refusal(
-        grid, edition, vertices, topology, given, indices, lengths,
-    );
-    if refused != 0 {
-        return Begun {
-            refused: refused,
-            seeded: Ok(()),
-        };
-    }
+    job_checks::first_refusal(grid, edition, vertices, topology, given, indices, lengths)?;
     job_clear::fill_field(field);
-    slices::fill_numbers(names, 4_294_967_295);
+    names.fill(4_294_967_295);
     let sign = terms.sign;
     let seeded = run_seed::seed(field, names, grid, vertices, topology, given, indices, sign);
-    Begun {
-        refused: 0,
-        seeded: seeded,
-    }
+    Ok(seeded)
 }

@@ -1,16 +1,20 @@
 // What follows the run (document 01, "The run", 4), but for the queue. A part of the port: users call `sdf`.
 #![tactic(auto)]
 
+ghost use mathlib.Core.List.{Memᴰ};
 ghost use Rattle.std.specs.Prelude.{◌≡◌, ◌*◌, length};
+ghost use Rattle.refusals.specs.Numbers.{number_of};
 ghost use Rattle.grid.specs.Index.{total};
 ghost use Rattle.mesh.specs.Mesh.{mesh_of};
 ghost use Rattle.run.specs.Method.{field_by, crossings_by, grazed_by};
 ghost use Rattle.run_state.specs.Told.{Fit};
 ghost use Rattle.job_outcome.specs.Finished.{Long, Finished, Closed};
+ghost use Rattle.job_outcome.specs.Numbers.{run_numbers, RunEnds};
 
 use grid::Grid;
 use job_outcome::{Answer, Tally};
 use mesh_topology::{Indices, Topology};
+use refusals::Refusal;
 use run_state::Progress;
 use terms::{SignMethod, Terms};
 
@@ -43,7 +47,7 @@ fn sign_field(
             grazed
         }
         SignMethod::Normal => {
-            slices::fill_numbers(crossings, 0);
+            crossings.fill(0);
             0
         }
     }
@@ -77,6 +81,18 @@ fn finish(
     grazed
 }
 
+// The refusal that a run told by its number, which is 6, 7 or 8.
+fn met_in_the_run(number: u32) -> Refusal
+    requires { Memᴰ number run_numbers }
+    ensures { number_of result ≡ number }
+{
+    match number {
+        6 => Refusal::NotANumber,
+        7 => Refusal::QueueFull,
+        _ => Refusal::PopsSpent,
+    }
+}
+
 // After the run, which came to `ran`: a refusal clears what it left, else the field is signed and counted. The queue
 // is left to the caller.
 pub fn close(
@@ -92,8 +108,9 @@ pub fn close(
     terms: Terms,
     ran: Progress,
 ) -> Answer
-    requires { let m = mesh_of vertices.now topology given indices.now in
+    requires lent { let m = mesh_of vertices.now topology given indices.now in
         Fit grid m × (length field.old ≡ total grid) × Long grid crossings.old rows.old }
+    requires ends { RunEnds ran.number }
     ensures { let m = mesh_of vertices.now topology given indices.now in
         Closed grid m terms.sign terms.edition ran field.old names.old crossings.old
         rows.old
@@ -101,12 +118,12 @@ pub fn close(
 {
     if ran.number != 0 {
         job_clear::clear_fields(field, names, crossings, rows);
-        return Answer::Refused(ran.number);
+        return Err(met_in_the_run(ran.number));
     }
     let grazed = finish(
         grid, vertices, topology, given, indices, field, crossings, rows, terms,
     );
-    Answer::Done(Tally {
+    Ok(Tally {
         pops: ran.pops,
         peak: ran.peak,
         grazed,

@@ -7,6 +7,7 @@ ghost use Rattle.run_state.specs.Told.{order_in, state_of, Fit, Ran};
 ghost use Rattle.job_checks.specs.Job.{job_of, lent_of};
 ghost use Rattle.job_outcome.specs.Outcome.{Gives, ended};
 ghost use Rattle.job_outcome.specs.Finished.{Long};
+ghost use Rattle.job_outcome.specs.Numbers.{RunEnds};
 
 use grid::Grid;
 use job_outcome::Answer;
@@ -35,6 +36,7 @@ pub fn conclude(
     requires fit { Fit grid (mesh_of vertices.now topology given indices.now) }
     requires ran { Ran grid field.old names.old distances.old cells.old triangles.old ran }
     requires long { Long grid crossings.old rows.old }
+    requires ends { RunEnds ran.number }
     ensures { let job = job_of grid vertices.now topology given indices.now terms in
         let lent = lent_of field.old names.old crossings.old rows.old
         distances.old cells.old triangles.old in

@@ -45,12 +45,7 @@ pub fn generate_grid_sdf(
         triangles: triangles.len(),
     };
     let edition = terms.edition;
-    let number = job_checks::first_refusal(
-        grid, edition, vertices, topology, given, indices, lengths,
-    );
-    if number != 0 {
-        return Answer::Refused(number);
-    }
+    job_checks::first_refusal(grid, edition, vertices, topology, given, indices, lengths)?;
     job_accept::accepted_job(
         grid, vertices, topology, given, indices, field, names, crossings, rows, distances, cells,
         triangles, terms,

@@ -5,7 +5,7 @@ use Rattle.job_conclude.proofs.conclude.Goals as goal
 
 pub close-answer-requires : goal.close-answer-requires
 close-answer-requires c =
-    (c.requires.fit, c.requires.ran.holds.field_long, c.requires.long)
+    record { lent = (c.requires.fit, c.requires.ran.holds.field_long, c.requires.long); ends = c.requires.ends }
 
 pub returns-then-ran-ne0 : goal.returns-then-ran-ne0
 returns-then-ran-ne0 c =
