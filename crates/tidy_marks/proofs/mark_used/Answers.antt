@@ -18,8 +18,8 @@ unfolding some
 loop-k-init c =
     record {
       within = omega arith;
-      long = omega (arith, c.fill_floats.auto, c.requires.three);
-      marks = record { is = λ v l. none_marked _ (length c.args.firsts.now) v _ c.fill_floats.ensures c.requires.three l };
+      long = omega (arith, c.fill.auto, c.requires.three);
+      marks = record { is = λ v l. none_marked _ (length c.args.firsts.now) v _ (c.fill.ensures.after (λ _ e. e)) c.requires.three l };
     }
 
 pub mark_if_kept-requires : goal.mark_if_kept-requires

@@ -24,6 +24,3 @@ pub record Marking (ts : List Triangle) (firsts causes : List ℕ) (words : List
 
 abbrev pub invariant-loop-k : goal.invariant-loop-k
 invariant-loop-k l = Marking (triangles_of l.topology l.given l.indices (length l.firsts)) l.firsts l.causes l.words l.k
-
-abbrev pub decreases-loop-k : goal.decreases-loop-k
-decreases-loop-k l = length l.causes - l.k

@@ -6,6 +6,3 @@ use Rattle.tidy_marks.proofs.number_marked.Given as goal
 
 abbrev pub invariant-loop-v : goal.invariant-loop-v
 invariant-loop-v l = Numbering l.n l.initial.words l.words l.v l.count
-
-abbrev pub decreases-loop-v : goal.decreases-loop-v
-decreases-loop-v l = l.n - l.v

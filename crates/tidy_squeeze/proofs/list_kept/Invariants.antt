@@ -16,6 +16,3 @@ piece ts firsts causes words = piece_if (kept_by causes) (new_numbers ts firsts 
 abbrev pub invariant-loop-k : goal.invariant-loop-k
 invariant-loop-k l =
     Pieces (piece (triangles_of l.topology l.given l.indices (length l.firsts)) l.firsts l.causes l.words) 3 l.initial.out 0 (length l.causes) l.out l.k l.at
-
-abbrev pub decreases-loop-k : goal.decreases-loop-k
-decreases-loop-k l = length l.causes - l.k

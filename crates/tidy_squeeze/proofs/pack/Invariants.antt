@@ -14,6 +14,3 @@ piece vertices words n = piece_if (is_marked n words) (coordinates_at vertices)
 
 abbrev pub invariant-loop-v : goal.invariant-loop-v
 invariant-loop-v l = Pieces (piece l.vertices l.initial.words l.n) 3 l.initial.words 0 l.n l.words l.v l.at
-
-abbrev pub decreases-loop-v : goal.decreases-loop-v
-decreases-loop-v l = l.n - l.v
