@@ -1,6 +1,5 @@
 -- `tidy_marks::number_marked`: the invariant is that the marked vertices below v are numbered, and the marks from v on are as they were. Assumes
 -- nothing.
-use Prim.Native.Nat.{◌-◌}
 use Rattle.tidy_marks.proofs.Numbering.{Numbering}
 use Rattle.tidy_marks.proofs.number_marked.Given as goal
 
