@@ -1,6 +1,6 @@
 -- `tidy_squeeze::list_kept`: a piece for each kept triangle, one behind the other, and zeros behind them. Assumes nothing.
 use native.Mathlib.Omega.{arith}
-use Prim.Native.Nat.{ℕ, ◌-◌, ◌≤◌}
+use Prim.Native.Nat.{ℕ, ◌≤◌}
 use mathlib.Core.Path.{refl, ◌∙◌}
 use mathlib.Core.List.{List}
 use lib.ListN.{length}

@@ -1,5 +1,5 @@
 -- `tidy_squeeze::list_kept`: a piece for each kept triangle, one behind the other, and zeros behind them. Assumes nothing.
-use Prim.Native.Nat.{ℕ, ◌-◌}
+use Prim.Native.Nat.{ℕ}
 use mathlib.Core.List.{List}
 use lib.ListN.{length}
 use lib.Ieee.{Float}

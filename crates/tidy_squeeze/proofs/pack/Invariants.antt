@@ -1,6 +1,6 @@
 -- `tidy_squeeze::pack`: a piece for each marked vertex, one behind the other, and zeros behind them. What is put stays in front of the marks that
 -- are still to be read. Assumes nothing.
-use Prim.Native.Nat.{ℕ, ◌-◌}
+use Prim.Native.Nat.{ℕ}
 use mathlib.Core.List.{List}
 use lib.Ieee.{Float}
 use Rattle.lists.proofs.Puts.{Pieces}
