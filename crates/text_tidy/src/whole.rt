@@ -16,7 +16,7 @@ use listing::{coordinate_floats, fill};
 use text::{INDEX_ROOM, MOST_VERTICES};
 use text_read_job::{Asked, coordinate_words, index_words, read_job};
 use text_write::put_number;
-use tidy_mesh::{Kept, TidyAnswer, tidy_mesh};
+use tidy_mesh::{Kept, tidy_mesh};
 
 // Prints what went, and then the tidied job, from what a tidying left in its outputs.
 fn put_tidied(
@@ -66,10 +66,8 @@ fn tidy_lent(
         causes,
     );
     match answer {
-        TidyAnswer::Refused(number) => put_number(out, 0, b"answer=", number),
-        TidyAnswer::Tidied(kept) => {
-            put_tidied(out, asked, kept, coordinates, explicit, firsts, causes)
-        }
+        Ok(kept) => put_tidied(out, asked, kept, coordinates, explicit, firsts, causes),
+        Err(refusal) => put_number(out, 0, b"answer=", refusal.number()),
     }
 }
 

@@ -4,25 +4,20 @@
 #![tactic(auto)]
 
 ghost use Rattle.std.specs.Prelude.{◌≡◌, ◌≤◌};
+ghost use Rattle.refusals.specs.Numbers.{reply_of};
 ghost use Rattle.tidy.specs.Tidy.{triangle_total};
 ghost use Rattle.mesh.specs.Mesh.{mesh_of};
 ghost use Rattle.tidy_mesh.specs.Outcome.{tidy_lent_of, outputs_of, wrong_outputs, Tidyable, Found};
 ghost use Rattle.tidy_mesh.specs.Outcome.{tidy_left, kept_counts, tidy_outcome, GivesTidy};
 
 use mesh_topology::{Indices, Topology};
+use refusals::Refusal;
 
 // How many vertices and triangles are kept.
 #[derive(Clone, Copy)]
 pub struct Kept {
     pub vertices: u32,
     pub triangles: u32,
-}
-
-// What tidying is answered: refused by its number, or tidied, with what is kept.
-#[derive(Clone, Copy)]
-pub enum TidyAnswer {
-    Refused(u32),
-    Tidied(Kept),
 }
 
 // How long the lent outputs are.
@@ -136,16 +131,13 @@ pub fn tidy_mesh(
     listed: &mut [u32],
     firsts: &mut [u32],
     causes: &mut [u32],
-) -> TidyAnswer
+) -> Result<Kept, Refusal>
     ensures { let m = mesh_of vertices.now topology given indices.now in
         let lent = tidy_lent_of coordinates.old listed.old firsts.old causes.old in
         let left = tidy_lent_of coordinates.new listed.new firsts.new causes.new in
-        GivesTidy (tidy_outcome m lent) result left }
+        GivesTidy (tidy_outcome m lent) (reply_of result) left }
 {
-    let by_mesh = job_checks::mesh_refusal(vertices, topology, given, indices);
-    if by_mesh != 0 {
-        return TidyAnswer::Refused(by_mesh);
-    }
+    job_checks::mesh_refusal(vertices, topology, given, indices)?;
     let l = Outputs {
         coordinates: coordinates.len(),
         indices: listed.len(),
@@ -153,7 +145,7 @@ pub fn tidy_mesh(
         causes: causes.len(),
     };
     if wrong_outputs(vertices, topology, given, indices, l) {
-        return TidyAnswer::Refused(5);
+        return Err(Refusal::WrongLength);
     }
     let kept = tidy_accepted(
         vertices,
@@ -165,5 +157,5 @@ pub fn tidy_mesh(
         firsts,
         causes,
     );
-    TidyAnswer::Tidied(kept)
+    Ok(kept)
 }
