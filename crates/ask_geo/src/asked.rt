@@ -9,6 +9,7 @@ use geo_ray::RayHit;
 use point::{Axis, Point};
 use refusals::Refusal;
 
+#[tactic(auto, unfolding(crate::specs::Asked::within))]
 fn within(p: Point) -> bool
     ensures { result ≡ Asked.within p }
 {
@@ -17,6 +18,7 @@ fn within(p: Point) -> bool
         & float::finite_at_most(p.z, 2097152.0)
 }
 
+#[tactic(auto, unfolding(crate::specs::Asked::point_nan))]
 fn point_nan(p: Point) -> bool
     ensures { result ≡ Asked.point_nan p }
 {

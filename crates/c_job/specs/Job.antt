@@ -5,7 +5,8 @@ use Rattle.mesh_topology.specs.declared.Topology.TheVariants.{TriangleList, Tria
 use Rattle.mesh_topology.specs.declared.Indices.{Indices}
 use Rattle.mesh_topology.specs.declared.Indices.TheVariants.{Given}
 use Rattle.mesh_topology.specs.declared.Indices.TheVariants as Indices
-use Rattle.job_outcome.specs.declared.Answer.{Answer}
+use Rattle.refusals.specs.Numbers.{Reply}
+use Rattle.job_outcome.specs.declared.Tally.{Tally}
 use Rattle.job_checks.specs.Job.{Lent}
 use Rattle.job_outcome.specs.Outcome.{Outcome, number_of, pops_of, peak_of, grazed_of}
 use Rattle.c_job.specs.declared.SdfJobAnswer.{SdfJobAnswer}
@@ -18,8 +19,8 @@ topology_in n = if eqb n 0 then TriangleList else TriangleStrip
 abbrev pub indices_in : ℕ → Indices
 indices_in n = if eqb n 0 then Indices.None else Given
 
--- document 01's number and values for each case of the answer: 0 with pops, peak and grazed rays, or a refusal's number with all three 0
-abbrev pub answer_out : Answer → SdfJobAnswer
+-- document 01's number and values for each case of the reply: 0 with pops, peak and grazed rays, or a refusal's number with all three 0
+abbrev pub answer_out : Reply Tally → SdfJobAnswer
 answer_out a = record { number = number_of a; pops = pops_of a; peak = peak_of a; grazed = grazed_of a }
 
 -- what a call for C promises: its answer, and what it leaves in each lent buffer, are those of the outcome

@@ -3,6 +3,7 @@
 #![tactic(auto)]
 
 ghost use Rattle.std.specs.Prelude.{◌≡◌};
+ghost use Rattle.refusals.specs.Numbers.{reply_of};
 ghost use Rattle.c_job.specs.Job.{topology_in, indices_in, answer_out};
 
 use job_outcome::Answer;
@@ -19,6 +20,7 @@ pub struct SdfJobAnswer {
     pub grazed: u64,
 }
 
+// Functions and no `From`: neither the number nor what it is read as is a type of this crate.
 pub fn topology_in(topology: u32) -> Topology
     ensures { result ≡ topology_in topology }
 {
@@ -38,20 +40,20 @@ pub fn indices_in(given: u32) -> Indices
 }
 
 pub fn answer_out(a: Answer) -> SdfJobAnswer
-    ensures { result ≡ answer_out a }
+    ensures { result ≡ answer_out (reply_of a) }
 {
     match a {
-        Answer::Refused(n) => SdfJobAnswer {
-            number: n,
-            pops: 0,
-            peak: 0,
-            grazed: 0,
-        },
-        Answer::Done(t) => SdfJobAnswer {
+        Ok(t) => SdfJobAnswer {
             number: 0,
             pops: t.pops,
             peak: t.peak,
             grazed: t.grazed,
+        },
+        Err(refusal) => SdfJobAnswer {
+            number: refusal.number(),
+            pops: 0,
+            peak: 0,
+            grazed: 0,
         },
     }
 }

@@ -2,9 +2,11 @@
 #![tactic(auto)]
 
 ghost use Rattle.std.specs.Prelude.{◌≡◌};
+ghost use Rattle.refusals.specs.Numbers.{reply_of};
 ghost use Rattle.c_tidy.specs.Tidy.{tidy_out};
 
-use tidy_mesh::TidyAnswer;
+use refusals::Refusal;
+use tidy_mesh::Kept;
 
 // Document 02's number, 0 where nothing is refused, with how many vertices and triangles are kept; on a refusal both are
 // 0.
@@ -16,19 +18,19 @@ pub struct SdfTidyAnswer {
     pub triangles: u32,
 }
 
-pub fn tidy_out(a: TidyAnswer) -> SdfTidyAnswer
-    ensures { result ≡ tidy_out a }
+pub fn tidy_out(a: Result<Kept, Refusal>) -> SdfTidyAnswer
+    ensures { result ≡ tidy_out (reply_of a) }
 {
     match a {
-        TidyAnswer::Refused(n) => SdfTidyAnswer {
-            number: n,
-            vertices: 0,
-            triangles: 0,
-        },
-        TidyAnswer::Tidied(k) => SdfTidyAnswer {
+        Ok(k) => SdfTidyAnswer {
             number: 0,
             vertices: k.vertices,
             triangles: k.triangles,
+        },
+        Err(refusal) => SdfTidyAnswer {
+            number: refusal.number(),
+            vertices: 0,
+            triangles: 0,
         },
     }
 }

@@ -33,8 +33,7 @@ fn gather(field: &mut [f32], names: &mut [u32], k: u32, to: &[u32], squares: &[f
     let mut cells = [0u32; 27];
     let mut distances = [0u32; 27];
     let mut count = 0;
-    let mut j = 0;
-    while j < 27 {
+    for j in 0..27 {
         let v = entries_consider::consider(field, names, k, to[j], squares[j]);
         if v.number != 0 {
             return Batch {
@@ -49,7 +48,6 @@ fn gather(field: &mut [f32], names: &mut [u32], k: u32, to: &[u32], squares: &[f
         cells[count] = to[j];
         distances[count] = v.distance;
         count = counted(count, v.taken);
-        j += 1;
     }
     Batch {
         number: 0,

@@ -12,6 +12,10 @@ use Rattle.mesh.specs.Mesh.{Mesh}
 use Rattle.queue.specs.declared.Entry.{Entry}
 use Rattle.queue.specs.Keys.{by_keys}
 use Rattle.queue.proofs.Uses as Queue
+use Rattle.std.specs.Prelude.{Result, Ok}
+use Rattle.std.specs.Result.{IsErrAnd}
+use Rattle.refusals.specs.declared.Refusal.{Refusal}
+use Rattle.refusals.specs.Numbers.{number_of, refusal_number}
 use Rattle.run.specs.Run.{run}
 use Rattle.run.specs.Input.{run_input}
 use Rattle.lists.specs.Turns.{told}
@@ -20,17 +24,17 @@ use Rattle.run_state.specs.Told.{order_in, state_of, Fit}
 use Rattle.entries.specs.Row.{row_distances, row_cells, row_triangles, ClearedRow}
 use Rattle.job_checks.specs.Job.{Job, Lent}
 use Rattle.job_checks.specs.Refusals.{refusal, refusal_by, lengths_of}
+use Rattle.job_checks.proofs.HandedUp.{not_0}
 use Rattle.job_checks.proofs.Accepted.{Accepted, accepted}
 use Rattle.job_clear.proofs.Lengths.{lengths_same}
 use Rattle.run_field.proofs.Runs.{run_over}
-use Rattle.job_begin.specs.declared.Begun.{Begun}
-use Rattle.job_begin.specs.Begins.{lengths_with, Begins}
+use Rattle.job_begin.specs.Begins.{Begun, lengths_with, Begins}
 use Rattle.entries_run.specs.Seeded.{Seeded}
 use Rattle.entries_run.proofs.Rows.{LeavesRow}
-use Rattle.job_outcome.specs.declared.Answer.{Answer}
-use Rattle.job_outcome.specs.declared.Answer.TheVariants.{Refused}
-use Rattle.job_outcome.specs.Outcome.{Gives, outcome}
+use Rattle.job_outcome.specs.Outcome.{Answer, Gives, outcome}
 use Rattle.job_outcome.specs.Finished.{Long, Closed}
+use Rattle.job_outcome.specs.Numbers.{RunEnds}
+use Rattle.job_outcome.proofs.Numbers.{run_ends}
 use Rattle.job_outcome.proofs.Outcomes.{gives, gives_refused, gives_done, gives_run}
 use Rattle.job_generate.proofs.Jobs.{gives_unchanged, gives_outcome}
 use Rattle.entries_generate.specs.LentRow.{lent_row}
@@ -55,18 +59,19 @@ module _ (g : Grid) (m : Mesh) (sign : SignMethod) (limit edition : ℕ) (field 
   }
 
   module _ (field₁ : List Float) (names₁ : List ℕ) (begun : Begun) (s : Begins g m sign edition (length crossings) (length rows) (length queue) field names field₁ names₁ begun) where
-    first : begun.refused ≡ refusal job lent
+    first : refusal_number begun ≡ refusal job lent
     first = s.refused_is ∙ ap (refusal_by g edition m) (sym one_length)
 
-    pub refused_first : (answer : Answer) → answer ≡ Refused begun.refused → (begun.refused ≡ 0 → ⊥) → Gives (outcome job lent) answer (lent_row field₁ names₁ crossings rows queue)
-    refused_first answer e z =
-        let same = s.unchanged z in
-        let given = gives_unchanged job lent begun.refused first z in
-        gives (e ∙ given.answers) ((λ i. lent_row (same.0 i) (same.1 i) crossings rows queue) ∙ given.leaves)
+    pub refused_first : (answer : Answer) (r : Refusal) → IsErrAnd answer (λ k. k ≡ r) → number_of r ≡ refusal_number begun
+        → Gives (outcome job lent) answer (lent_row field₁ names₁ crossings rows queue)
+    refused_first answer r up e =
+        let same = s.unchanged (not_0 r e) in
+        let unchanged = gives_unchanged job lent answer r up (e ∙ first) in
+        gives unchanged.answers ((λ i. lent_row (same.0 i) (same.1 i) crossings rows queue) ∙ unchanged.leaves)
 
-    module _ (z : begun.refused ≡ 0) where
+    module _ (seeded : Result (Unit {0}) Refusal) (z : begun ≡ Ok seeded) where
       none_refused : refusal job lent ≡ 0
-      none_refused = sym first ∙ z
+      none_refused = sym first ∙ ap refusal_number z
 
       taken : Accepted g edition m (lengths_of lent)
       taken = accepted g edition m (lengths_of lent) none_refused
@@ -78,9 +83,9 @@ module _ (g : Grid) (m : Mesh) (sign : SignMethod) (limit edition : ℕ) (field 
       is_long = record { crossings_long = taken.long.crossings; rows_long = taken.long.rows }
 
       module _ (l-field : length field₁ ≡ length field) (l-names : length names₁ ≡ length names) (queue₁ : List Entry) (l-queue : length queue₁ ≡ length queue) (clear : ClearedRow queue queue₁) where
-        pub seeds : Seeded g m sign begun.number field₁ names₁ queue₁
+        pub seeds : Seeded g m sign (refusal_number seeded) field₁ names₁ queue₁
         seeds = record {
-          seeds = s.seeded z;
+          seeds = s.seeded seeded z;
           field_long = l-field ∙ taken.long.field;
           names_long = l-names ∙ taken.long.names;
           empty =
@@ -96,6 +101,9 @@ module _ (g : Grid) (m : Mesh) (sign : SignMethod) (limit edition : ℕ) (field 
           -- the run of the job, whose room is the row's length
           went : run (run_input g m sign (length (row_distances queue)) limit) ≡ told ran.number (state_of (order_in m) field₂ names₂ (row_distances queue₂) (row_cells queue₂) (row_triangles queue₂) ran)
           went = ap (λ (k : ℕ). run (run_input g m sign k limit)) (length-map queue (λ (e : Entry). e.distance) ∙ sym l-queue) ∙ w.is 0
+
+          pub ends : RunEnds ran.number
+          ends = run_ends job lent ran.number _ went
 
           -- what is lent stays as long as it was
           as_long : (f : Entry → ℕ) → length (map f queue₂) ≡ length (map f queue)

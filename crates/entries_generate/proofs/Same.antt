@@ -16,8 +16,8 @@ use Rattle.entries.specs.Row.{row_distances, row_cells, row_triangles}
 use Rattle.entries.proofs.Projections.{row_entries}
 use Rattle.job_checks.specs.Job.{Job, Lent, job_of, lent_of}
 use Rattle.job_checks.specs.Refusals.{refusal, refusal_by, lengths_of}
-use Rattle.job_outcome.specs.declared.Answer.{Answer}
-use Rattle.job_outcome.specs.Outcome.{Outcome, Gives, ended, run_of, unless_refused, outcome}
+use Rattle.job_outcome.proofs.OneReply.{one_reply}
+use Rattle.job_outcome.specs.Outcome.{Answer, Outcome, Gives, ended, run_of, unless_refused, outcome}
 use Rattle.job_outcome.proofs.Outcomes.{same_ended, same_run, one_outcome}
 use Rattle.job_clear.proofs.Lengths.{lengths_same}
 use Rattle.entries_generate.specs.LentRow.{lent_row}
@@ -74,7 +74,7 @@ same_job j field names crossings rows queue ds cs ts d c t answer answer' left l
     let flat = lent_of field names crossings rows ds cs ts in
     let same = same_outcome j b flat (record { field = refl; names = refl; crossings = refl; rows = refl })
     (lengths_same b flat refl refl refl refl (length-map queue (λ (e : Entry). e.distance) ∙ sym d) (length-map queue (λ (e : Entry). e.cell) ∙ sym c) (length-map queue (λ (e : Entry). e.triangle) ∙ sym t)) in
-    (p.answers ∙ same.answer ∙ sym q.answers, joined p.leaves same.left q.leaves)
+    (one_reply answer answer' (p.answers ∙ same.answer ∙ sym q.answers), joined p.leaves same.left q.leaves)
 
 -- ---- "One call has one possible outcome"
 

@@ -4,32 +4,20 @@
 // call `sdf`.
 #![tactic(auto)]
 
-ghost use Rattle.std.specs.Prelude.{◌≡◌};
 ghost use Rattle.job_checks.specs.Job.{job_of};
-ghost use Rattle.job_outcome.specs.declared.Answer.TheVariants.{Refused};
 ghost use Rattle.job_outcome.specs.Outcome.{Gives, outcome};
 ghost use Rattle.entries_generate.specs.LentRow.{lent_row};
 
 use grid::Grid;
 use job_outcome::Answer;
-use mesh_topology::{Indices, Topology};
+use mesh::Mesh;
 use queue::Entry;
 use terms::Terms;
-
-// The answer to a job that is refused before anything is changed.
-fn refused(number: u32) -> Answer
-    ensures { result ≡ Refused number }
-{
-    Answer::Refused(number)
-}
 
 // Any job at all, over any lent buffers.
 pub fn generate_grid_sdf_records(
     grid: Grid,
-    vertices: &[f32],
-    topology: Topology,
-    given: Indices,
-    indices: &[u32],
+    mesh: Mesh,
     field: &mut [f32],
     names: &mut [u32],
     crossings: &mut [u32],
@@ -37,42 +25,27 @@ pub fn generate_grid_sdf_records(
     queue: &mut [Entry],
     terms: Terms,
 ) -> Answer
-    ensures { let job = job_of grid vertices.now topology given indices.now terms in
+    ensures { let job = job_in grid mesh.entry terms in
         let lent = lent_row field.old names.old crossings.old rows.old queue.old in
         let left = lent_row field.new names.new crossings.new rows.new queue.new in
         Gives (outcome job lent) result left }
 {
-    let begun = job_begin::begin(
+    let seeded = job_begin::begin(
         grid,
-        vertices,
-        topology,
-        given,
-        indices,
+        mesh,
         field,
         names,
         crossings.len(),
         rows.len(),
         queue.len(),
         terms,
-    );
-    if begun.refused != 0 {
-        return refused(begun.refused);
-    }
+    )?;
     entries::clear(queue);
     let ran = entries_run::run_row(
-        grid,
-        vertices,
-        topology,
-        given,
-        indices,
-        field,
-        names,
-        queue,
-        begun.number,
-        terms,
+        grid, mesh, field, names, queue, seeded, terms,
     );
     let answer = job_close::close(
-        grid, vertices, topology, given, indices, field, names, crossings, rows, terms, ran,
+        grid, mesh, field, names, crossings, rows, terms, ran,
     );
     if ran.number == 0 {
         return answer;

@@ -8,8 +8,7 @@ use lib.Seq.{length-take-le}
 use lib.Ieee.{Float}
 use Rattle.queue.specs.declared.Entry.{Entry}
 use Rattle.job_checks.specs.Job.{Job, Lent}
-use Rattle.job_outcome.specs.declared.Answer.{Answer}
-use Rattle.job_outcome.specs.Outcome.{Gives, outcome}
+use Rattle.job_outcome.specs.Outcome.{Answer, Gives, outcome}
 use Rattle.entries_generate.specs.LentRow.{lent_row}
 use Rattle.entries_generate.proofs.Same.{Agree, same_outcome}
 use Rattle.job_clear.proofs.Lengths.{lengths_same}

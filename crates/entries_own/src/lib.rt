@@ -10,7 +10,7 @@ ghost use Rattle.entries_own.specs.Own.{own_room, lent_own, GivesFour};
 
 use grid::Grid;
 use job_outcome::Answer;
-use mesh_topology::{Indices, Topology};
+use mesh::Mesh;
 use queue::Entry;
 use terms::Terms;
 
@@ -20,10 +20,7 @@ pub const OWN_ROOM: usize = 2048;
 // The job with room for so many entries, at most what the row has.
 pub fn run_records(
     grid: Grid,
-    vertices: &[f32],
-    topology: Topology,
-    given: Indices,
-    indices: &[u32],
+    mesh: Mesh,
     field: &mut [f32],
     names: &mut [u32],
     crossings: &mut [u32],
@@ -32,7 +29,7 @@ pub fn run_records(
     terms: Terms,
 ) -> Answer
     requires { room ≤ own_room }
-    ensures { let job = job_of grid vertices.now topology given indices.now terms in
+    ensures { let job = job_in grid mesh.entry terms in
         let lent = lent_own field.old names.old crossings.old rows.old room in
         GivesFour (outcome job lent) result field.new names.new crossings.new rows.new }
 {
@@ -44,10 +41,7 @@ pub fn run_records(
     let mut queue = [none; OWN_ROOM];
     entries_generate::generate_grid_sdf_records(
         grid,
-        vertices,
-        topology,
-        given,
-        indices,
+        mesh,
         field,
         names,
         crossings,

@@ -17,8 +17,7 @@ pub fn push_all(row: &mut [Entry], at: Progress, b: Batch) -> Progress
     ensures { QueuedAll b row.old at row.new result }
 {
     let mut reached = at;
-    let mut j = 0;
-    while j < b.count {
+    for j in 0..b.count {
         let n = reached.waiting;
         reached = entries_batch::queued(reached, row.len());
         if reached.number != 0 {
@@ -26,7 +25,6 @@ pub fn push_all(row: &mut [Entry], at: Progress, b: Batch) -> Progress
         }
         let e = entries_batch::entry_in(b, j);
         entries_push::push(row, n, e);
-        j += 1;
     }
     entries_state::stopped(reached, b.number)
 }

@@ -16,14 +16,12 @@ pub fn queue_cells(field: &[f32], names: &[u32], row: &mut [Entry], at: Progress
     ensures { QueuedCellsRow field.now names.now row.old at row.new result }
 {
     let mut reached = at;
-    let mut c = 0;
-    while c < field.len() {
+    for c in 0..field.len() {
         let b = entries_batch::cell_batch(field, names, c);
         reached = entries_push_all::push_all(row, reached, b);
         if reached.number != 0 {
             break;
         }
-        c += 1;
     }
     reached
 }

@@ -4,6 +4,7 @@
 
 ghost use Rattle.std.specs.Prelude.{◌≡◌, length};
 ghost use Rattle.mesh.specs.Lent.{mesh_in};
+ghost use Rattle.refusals.specs.Numbers.{refusal_number};
 ghost use Rattle.run.specs.Run.{run};
 ghost use Rattle.run.specs.Input.{run_input};
 ghost use Rattle.run_state.specs.Told.{Fit};
@@ -14,6 +15,7 @@ ghost use Rattle.entries_run.specs.Seeded.{begun_by, Seeded};
 use grid::Grid;
 use mesh::Mesh;
 use queue::Entry;
+use refusals::Refusal;
 use run_state::Progress;
 use terms::Terms;
 
@@ -29,7 +31,7 @@ fn begun(number: u32) -> Progress
     }
 }
 
-// Steps 2 and 3, over an empty row, where seeding came to `number`. On a refusal the number alone says what the run
+// Steps 2 and 3, over an empty row, where seeding came to `seeded`. On a refusal the number alone says what the run
 // came to.
 pub fn run_row(
     grid: Grid,
@@ -37,23 +39,25 @@ pub fn run_row(
     field: &mut [f32],
     names: &mut [u32],
     row: &mut [Entry],
-    number: u32,
+    seeded: Result<(), Refusal>,
     terms: Terms,
 ) -> Progress
     requires { let m = mesh_in mesh in
-        Fit grid m × Seeded grid m terms.sign number field.old names.old row.old }
+        Fit grid m × Seeded grid m terms.sign (refusal_number seeded) field.old names.old row.old }
     ensures { let m = mesh_in mesh.entry in
         let left = row.new in
         Leaves grid m (λ any. run (run_input grid m terms.sign (length row.old) terms.limit))
         field.new names.new (row_distances left) (row_cells left) (row_triangles left) result }
 {
-    let at = begun(number);
-    if at.number != 0 {
-        return at;
+    if let Err(refusal) = seeded {
+        return begun(refusal.number());
     }
+    let at = begun(0);
     let queued = entries_queue::queue_cells(field, names, row, at);
     if queued.number != 0 {
         return queued;
     }
-    entries_spread::spread(grid, mesh, field, names, row, queued, terms)
+    entries_spread::spread(
+        grid, mesh, field, names, row, queued, terms,
+    )
 }

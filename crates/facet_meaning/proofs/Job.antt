@@ -1,4 +1,4 @@
--- The names that a job leaves can be indexed. A job answered Done passed its checks, so its mesh and its grid are within the limits; its run has gone
+-- The names that a job leaves can be indexed. A job that is done passed its checks, so its mesh and its grid are within the limits; its run has gone
 -- to its end, where there is a name for each cell; and demand 3 says of each name that it is a triangle that was offered to the cell, or none. Assumes
 -- nothing.
 use Prim.Native.Nat.{ℕ, ◌<◌}
@@ -26,10 +26,9 @@ use Rattle.run.proofs.Done.{run_done}
 use Rattle.job_checks.specs.Job.{Job, Lent}
 use Rattle.job_checks.specs.Refusals.{lengths_of}
 use Rattle.job_checks.proofs.Accepted.{accepted}
-use Rattle.job_outcome.specs.declared.Answer.{Answer}
-use Rattle.job_outcome.specs.declared.Answer.TheVariants.{Done}
+use Rattle.refusals.specs.Numbers.{given, reply_of}
 use Rattle.job_outcome.specs.declared.Tally.{Tally}
-use Rattle.job_outcome.specs.Outcome.{outcome}
+use Rattle.job_outcome.specs.Outcome.{Answer, outcome}
 use Rattle.job_outcome.specs.Numbers.{IsDone}
 use Rattle.job_outcome.proofs.Numbers.{number_0}
 use Rattle.c_job.specs.declared.SdfJobAnswer.{SdfJobAnswer}
@@ -65,7 +64,7 @@ named_offered Normal grid mesh g field names left c m = go m.valued
     go (none_named v n) = inr n
     go (of_named o v) = inl o
 
-module _ (j : Job) (b : Lent) (t : Tally) (h : (outcome j b).answer ≡ Done t) where
+module _ (j : Job) (b : Lent) (t : Tally) (h : (outcome j b).answer ≡ given t) where
   offered_or_none : (c : Cell) → Inside j.grid c
       → Offered j.grid (input_for j b) c (get_or (outcome j b).left.names (index_of j.grid c) 0)
       ⊎ (get_or (outcome j b).left.names (index_of j.grid c) 0 ≡ none)
@@ -162,17 +161,17 @@ module _ (j : Job) (b : Lent) (t : Tally) (h : (outcome j b).answer ≡ Done t) 
 -- ---- of calls
 
 pub indexable_after_a_call : (j : Job) (b : Lent) (answer : Answer) (left : Lent) → IndexableAfterCall j b answer left
-indexable_after_a_call j b answer left gives t done = rw gives.leaves (done_indexable j b t (sym gives.answers ∙ done))
+indexable_after_a_call j b answer left gives t done = rw gives.leaves (done_indexable j b t (sym gives.answers ∙ ap reply_of done))
 
 pub indexed_after_a_call : (j : Job) (b : Lent) (answer : Answer) (left : Lent) (lent : Index) (number : ℕ) (i : Index)
     → IndexedAfterCall j b answer left lent number i
 indexed_after_a_call j b answer left lent number i gives t done room builds =
-    rw gives.leaves (done_indexed j b t (sym gives.answers ∙ done) lent number i room (rw gives.leaves at builds))
+    rw gives.leaves (done_indexed j b t (sym gives.answers ∙ ap reply_of done) lent number i room (rw gives.leaves at builds))
 
 pub repaired_after_a_call : (j : Job) (b : Lent) (answer : Answer) (left : Lent) (old : List ℕ) (lent i : Index) (number : ℕ) (i' : Index)
     → RepairedAfterCall j b answer left old lent i number i'
 repaired_after_a_call j b answer left old lent i number i' gives t done long builds updates =
-    rw gives.leaves (done_repaired j b t (sym gives.answers ∙ done) old lent i number i' long builds (rw gives.leaves at updates))
+    rw gives.leaves (done_repaired j b t (sym gives.answers ∙ ap reply_of done) old lent i number i' long builds (rw gives.leaves at updates))
 
 -- number 0 means that the job is done
 done_for_c : (j : Job) (b : Lent) {answer : SdfJobAnswer} {left : Lent} → GivesC (outcome j b) answer left → answer.number ≡ 0

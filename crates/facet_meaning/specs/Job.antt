@@ -1,15 +1,13 @@
--- "Keep an index beside the field" (document 02, §12), of the names that a job leaves: after every call that is answered Done they can be indexed, and
+-- "Keep an index beside the field" (document 02, §12), of the names that a job leaves: after every call that is answered Ok they can be indexed, and
 -- what stands under a facet are the cells that name it. "When a dent is repaired", and the job is done again, an update gives the new index. Definitions
 -- only; proofs/Job.antt shows that they hold (`indexable_after_a_call`, `indexed_after_a_call`, `repaired_after_a_call`, and all three from C).
-use Rattle.std.specs.Prelude.{ℕ, ◌+◌, ◌≤◌, ◌<◌, ◌≡◌, ◌↔◌, List, length, get_or}
+use Rattle.std.specs.Prelude.{ℕ, ◌+◌, ◌≤◌, ◌<◌, ◌≡◌, ◌↔◌, List, length, get_or, Ok}
 use Rattle.grid.specs.declared.Cell.{Cell}
 use Rattle.grid.specs.Index.{index_of, total, Inside}
 use Rattle.mesh.specs.Mesh.{triangles_in}
 use Rattle.job_checks.specs.Job.{Job, Lent}
-use Rattle.job_outcome.specs.declared.Answer.{Answer}
-use Rattle.job_outcome.specs.declared.Answer.TheVariants.{Done}
 use Rattle.job_outcome.specs.declared.Tally.{Tally}
-use Rattle.job_outcome.specs.Outcome.{Gives, outcome}
+use Rattle.job_outcome.specs.Outcome.{Answer, Gives, outcome}
 use Rattle.c_job.specs.declared.SdfJobAnswer.{SdfJobAnswer}
 use Rattle.c_job.specs.Job.{GivesC}
 use Rattle.demand_3.specs.Offered.{Offered}
@@ -55,18 +53,18 @@ pub record Repaired (j : Job) (names : List ℕ) (number : ℕ) (i : Index) : Ty
 
 -- of a call of the public function, by its contract: it was given the job j and lent the buffers b, and it answered and left this
 abbrev pub IndexableAfterCall : Job → Lent → Answer → Lent → Type 0
-IndexableAfterCall j b answer left = Gives (outcome j b) answer left → (t : Tally) → answer ≡ Done t → Indexable j left.names
+IndexableAfterCall j b answer left = Gives (outcome j b) answer left → (t : Tally) → answer ≡ Ok t → Indexable j left.names
 
 -- then a build of the names that it left
 abbrev pub IndexedAfterCall : Job → Lent → Answer → Lent → Index → ℕ → Index → Type 0
 IndexedAfterCall j b answer left lent number i =
-    Gives (outcome j b) answer left → (t : Tally) → answer ≡ Done t
+    Gives (outcome j b) answer left → (t : Tally) → answer ≡ Ok t
     → RoomFor j lent → Builds (facets j) left.names lent number i → JobIndexed j b left.names number i
 
 -- or an update from the old names, of which a build left the index
 abbrev pub RepairedAfterCall : Job → Lent → Answer → Lent → List ℕ → Index → Index → ℕ → Index → Type 0
 RepairedAfterCall j b answer left old lent i number i' =
-    Gives (outcome j b) answer left → (t : Tally) → answer ≡ Done t
+    Gives (outcome j b) answer left → (t : Tally) → answer ≡ Ok t
     → length old ≡ total j.grid → Builds (facets j) old lent 0 i → Updates (facets j) old left.names i number i'
     → Repaired j left.names number i'
 

@@ -12,18 +12,21 @@ pub struct TriangleBox {
     pub high: Point,
 }
 
+#[tactic(auto, unfolding(crate::specs::Box::least_of3))]
 fn least3(a: f32, b: f32, c: f32) -> f32
     ensures { result ≡ Box.least_of3 a b c }
 {
     float::least(a, float::least(b, c))
 }
 
+#[tactic(auto, unfolding(crate::specs::Box::greatest_of3))]
 fn greatest3(a: f32, b: f32, c: f32) -> f32
     ensures { result ≡ Box.greatest_of3 a b c }
 {
     float::greatest(a, float::greatest(b, c))
 }
 
+#[tactic(auto, unfolding(crate::specs::Box::padded_box))]
 pub fn triangle_bounding_box(a: Point, b: Point, c: Point) -> TriangleBox
     ensures { result ≡ Box.padded_box a b c }
 {

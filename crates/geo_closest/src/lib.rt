@@ -43,6 +43,7 @@ pub fn step(o: Point, e: Point, t: f32) -> Point
     }
 }
 
+#[tactic(auto, unfolding(crate::specs::Closest::closest_point_segment))]
 pub fn closest_point_segment(p: Point, a: Point, b: Point) -> Point
     ensures { result ≡ Closest.closest_point_segment p a b }
 {
@@ -52,6 +53,7 @@ pub fn closest_point_segment(p: Point, a: Point, b: Point) -> Point
     step(a, ab, s12)
 }
 
+#[tactic(auto, unfolding(crate::specs::Closest::facet_of))]
 pub fn facet_of(a: Point, b: Point, c: Point) -> Facet
     ensures { result ≡ Closest.facet_of a b c }
 {
@@ -70,6 +72,7 @@ pub fn facet_of(a: Point, b: Point, c: Point) -> Facet
     }
 }
 
+#[tactic(auto, unfolding(crate::specs::Closest::dots_of))]
 pub fn dots_of(f: Facet, p: Point) -> Dots
     ensures { result ≡ Closest.dots_of f p }
 {
@@ -87,13 +90,12 @@ pub fn dots_of(f: Facet, p: Point) -> Dots
 }
 
 // A triangle of which two corners are equal is a segment or a point.
+#[tactic(auto, unfolding(crate::specs::Closest::closest_point_equal))]
 pub fn closest_point_equal(p: Point, a: Point, b: Point, c: Point) -> Point
     ensures { result ≡ Closest.closest_point_equal p a b c }
 {
-    let ab = (a.x == b.x) & (a.y == b.y) & (a.z == b.z);
-    let bc = (b.x == c.x) & (b.y == c.y) & (b.z == c.z);
-    let ac = (a.x == c.x) & (a.y == c.y) & (a.z == c.z);
-    if ab & bc & ac {
+    let ab = a.same(b);
+    if ab & b.same(c) & a.same(c) {
         return a;
     }
     if ab {

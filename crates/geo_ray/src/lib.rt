@@ -36,6 +36,7 @@ pub struct Cast {
     pub e20: Point,
 }
 
+#[tactic(auto, unfolding(crate::specs::Ray::cast_of))]
 pub fn cast_of(axis: Axis, v0: Point, v1: Point, v2: Point) -> Cast
     ensures { result ≡ Ray.cast_of axis v0 v1 v2 }
 {
@@ -56,6 +57,7 @@ pub fn cast_of(axis: Axis, v0: Point, v1: Point, v2: Point) -> Cast
 }
 
 // The part of each weight that depends on the origin's z.
+#[tactic(auto, unfolding(crate::specs::Ray::across_z))]
 pub fn across_z(f: Cast, z: f32) -> Three
     ensures { result ≡ Ray.across_z f z }
 {
@@ -67,6 +69,7 @@ pub fn across_z(f: Cast, z: f32) -> Three
 }
 
 // The part of each weight that depends on the origin's y.
+#[tactic(auto, unfolding(crate::specs::Ray::across_y))]
 pub fn across_y(f: Cast, y: f32) -> Three
     ensures { result ≡ Ray.across_y f y }
 {
@@ -78,6 +81,7 @@ pub fn across_y(f: Cast, y: f32) -> Three
 }
 
 // Where the origin lies along the ray, seen from each corner.
+#[tactic(auto, unfolding(crate::specs::Ray::along_x))]
 pub fn along_x(f: Cast, x: f32) -> Three
     ensures { result ≡ Ray.along_x f x }
 {
@@ -99,6 +103,7 @@ fn grazes(w0: f32, w1: f32, w2: f32) -> bool
 }
 
 // The test itself, from the three parts.
+#[tactic(auto, unfolding(crate::specs::Ray::ray_of))]
 pub fn ray_of(zs: Three, ys: Three, xs: Three) -> RayHit
     ensures { result ≡ Ray.ray_of zs ys xs }
 {

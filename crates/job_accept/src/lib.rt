@@ -3,7 +3,7 @@
 #![tactic(auto)]
 
 ghost use Rattle.std.specs.Prelude.{◌≡◌};
-ghost use Rattle.mesh.specs.Mesh.{mesh_of};
+ghost use Rattle.mesh.specs.Lent.{mesh_in};
 ghost use Rattle.run_state.specs.Told.{Fit};
 ghost use Rattle.job_checks.specs.Job.{job_of, lent_of};
 ghost use Rattle.job_checks.specs.Refusals.{refusal};
@@ -13,16 +13,13 @@ ghost use Rattle.job_outcome.specs.Finished.{Long};
 
 use grid::Grid;
 use job_outcome::Answer;
-use mesh_topology::{Indices, Topology};
+use mesh::Mesh;
 use terms::Terms;
 
 // A job over buffers that are cleared.
 fn cleared_job(
     grid: Grid,
-    vertices: &[f32],
-    topology: Topology,
-    given: Indices,
-    indices: &[u32],
+    mesh: Mesh,
     field: &mut [f32],
     names: &mut [u32],
     crossings: &mut [u32],
@@ -32,10 +29,10 @@ fn cleared_job(
     triangles: &mut [u32],
     terms: Terms,
 ) -> Answer
-    requires fit { Fit grid (mesh_of vertices.now topology given indices.now) }
+    requires fit { Fit grid (mesh_in mesh) }
     requires fresh { Fresh grid field.old names.old distances.old cells.old triangles.old }
     requires long { Long grid crossings.old rows.old }
-    ensures { let job = job_of grid vertices.now topology given indices.now terms in
+    ensures { let job = job_in grid mesh.entry terms in
         let lent = lent_of field.old names.old crossings.old rows.old
         distances.old cells.old triangles.old in
         let left = lent_of field.new names.new crossings.new rows.new
@@ -43,10 +40,10 @@ fn cleared_job(
         Gives (ended job lent (run_of job lent)) result left }
 {
     let ran = run_field::run_field(
-        grid, vertices, topology, given, indices, field, names, distances, cells, triangles, terms,
+        grid, mesh, field, names, distances, cells, triangles, terms,
     );
     job_conclude::conclude(
-        grid, vertices, topology, given, indices, field, names, crossings, rows, distances, cells,
+        grid, mesh, field, names, crossings, rows, distances, cells,
         triangles, terms, ran,
     )
 }
@@ -54,10 +51,7 @@ fn cleared_job(
 // A job that is not refused before the run.
 pub fn accepted_job(
     grid: Grid,
-    vertices: &[f32],
-    topology: Topology,
-    given: Indices,
-    indices: &[u32],
+    mesh: Mesh,
     field: &mut [f32],
     names: &mut [u32],
     crossings: &mut [u32],
@@ -67,10 +61,10 @@ pub fn accepted_job(
     triangles: &mut [u32],
     terms: Terms,
 ) -> Answer
-    requires { let job = job_of grid vertices.now topology given indices.now terms in
+    requires { let job = job_in grid mesh terms in
         let lent = lent_of field.old names.old crossings.old rows.old distances.old cells.old triangles.old in
         refusal job lent ≡ 0 }
-    ensures { let job = job_of grid vertices.now topology given indices.now terms in
+    ensures { let job = job_in grid mesh.entry terms in
         let lent = lent_of field.old names.old crossings.old rows.old
         distances.old cells.old triangles.old in
         let left = lent_of field.new names.new crossings.new rows.new
@@ -79,7 +73,7 @@ pub fn accepted_job(
 {
     job_clear::clear_all(field, names, crossings, rows, distances, cells, triangles);
     cleared_job(
-        grid, vertices, topology, given, indices, field, names, crossings, rows, distances, cells,
+        grid, mesh, field, names, crossings, rows, distances, cells,
         triangles, terms,
     )
 }

@@ -2,28 +2,22 @@
 // nothing, then the field and the names cleared and seeded. A part of the port: users call `sdf`.
 #![tactic(auto)]
 
-ghost use Rattle.mesh.specs.Mesh.{mesh_of};
+ghost use Rattle.mesh.specs.Lent.{mesh_in};
 ghost use Rattle.job_begin.specs.Begins.{Begins};
 
 use grid::Grid;
 use job_checks::Lengths;
-use mesh_topology::{Indices, Topology};
+use mesh::Mesh;
+use refusals::Refusal;
 use terms::Terms;
 
-// What it came to: the refusal before anything was changed, or 0, and then what seeding told, 0 or 6.
-#[derive(Clone, Copy)]
-pub struct Begun {
-    pub refused: u32,
-    pub number: u32,
-}
+// What it came to: refused before anything was changed, or what seeding told.
+pub type Begun = Result<Result<(), Refusal>, Refusal>;
 
 // Of a queue whose buffers are all `room` long; `crossings` and `rows` are the lengths of those buffers.
 pub fn begin(
     grid: Grid,
-    vertices: &[f32],
-    topology: Topology,
-    given: Indices,
-    indices: &[u32],
+    mesh: Mesh,
     field: &mut [f32],
     names: &mut [u32],
     crossings: usize,
@@ -31,7 +25,7 @@ pub fn begin(
     room: usize,
     terms: Terms,
 ) -> Begun
-    ensures { let m = mesh_of vertices.now topology given indices.now in
+    ensures { let m = mesh_in mesh.entry in
         Begins grid m terms.sign terms.edition crossings rows room field.old names.old field.new
         names.new result }
 {
@@ -45,21 +39,10 @@ pub fn begin(
         triangles: room,
     };
     let edition = terms.edition;
-    let refused = job_checks::first_refusal(
-        grid, edition, vertices, topology, given, indices, lengths,
-    );
-    if refused != 0 {
-        return Begun {
-            refused: refused,
-            number: 0,
-        };
-    }
+    job_checks::first_refusal(grid, edition, mesh, lengths)?;
     job_clear::fill_field(field);
-    slices::fill_numbers(names, 4_294_967_295);
+    names.fill(4_294_967_295);
     let sign = terms.sign;
-    let number = run_seed::seed(field, names, grid, vertices, topology, given, indices, sign);
-    Begun {
-        refused: 0,
-        number: number,
-    }
+    let seeded = run_seed::seed(field, names, grid, mesh, sign);
+    Ok(seeded)
 }

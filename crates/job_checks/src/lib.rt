@@ -6,14 +6,15 @@
 ghost use Rattle.std.specs.Prelude.{◌≡◌, true, ◌+◌, ◌*◌, ◌%◌, ◌<◌};
 ghost use Rattle.grid_axis.specs.AxisBounds.{is_coordinate};
 ghost use Rattle.grid.specs.Bounds.{in_bounds};
-ghost use Rattle.mesh.specs.Mesh.{Sound, mesh_of};
+ghost use Rattle.mesh.specs.Mesh.{Sound};
+ghost use Rattle.mesh.specs.Lent.{mesh_in};
 ghost use Rattle.lists.specs.Checks.{first_that_applies};
 ghost use Rattle.refusals.specs.Numbers.{refusal_number};
 ghost use Rattle.job_checks.specs.Refusals.{all_coordinates, wrong_vertices, wrong_lengths};
 ghost use Rattle.job_checks.specs.Refusals.{grid_checks, edition_checks, mesh_checks, place_checks, length_checks, refusal_by};
 
 use grid::Grid;
-use mesh_topology::{Indices, Topology};
+use mesh::Mesh;
 use refusals::Refusal;
 
 // How long the lent buffers are.
@@ -91,28 +92,25 @@ fn edition_refusal(edition: u32) -> Result<(), Refusal>
 
 // The first of 2, 13, 3 and 4 that applies to the mesh.
 pub fn mesh_refusal(
-    vertices: &[f32],
-    topology: Topology,
-    given: Indices,
-    indices: &[u32],
+    mesh: Mesh,
 ) -> Result<(), Refusal>
-    ensures { let m = mesh_of vertices.now topology given indices.now in
+    ensures { let m = mesh_in mesh.entry in
         refusal_number result ≡ first_that_applies (mesh_checks m) }
 {
-    let wrong = wrong_vertices(vertices);
+    let wrong = wrong_vertices(mesh.vertices);
     if wrong {
         return Err(Refusal::WrongVertices);
     }
-    let strip = mesh_checks::is_strip(topology);
+    let strip = mesh_checks::is_strip(mesh.topology);
     if strip {
         return Err(Refusal::Strip);
     }
-    let count = vertices.len() / 3;
-    let many = mesh_checks::too_many_triangles(topology, given, indices, count);
+    let count = mesh.vertices.len() / 3;
+    let many = mesh_checks::too_many_triangles(mesh.topology, mesh.given, mesh.indices, count);
     if many {
         return Err(Refusal::TooManyTriangles);
     }
-    let known = mesh_checks::in_range(topology, given, indices, count);
+    let known = mesh_checks::in_range(mesh.topology, mesh.given, mesh.indices, count);
     if !known {
         return Err(Refusal::NoSuchIndex);
     }
@@ -122,16 +120,13 @@ pub fn mesh_refusal(
 // 10: a triangle lies off the grid.
 fn place_refusal(
     grid: Grid,
-    vertices: &[f32],
-    topology: Topology,
-    given: Indices,
-    indices: &[u32],
+    mesh: Mesh,
 ) -> Result<(), Refusal>
-    requires { Sound (mesh_of vertices.now topology given indices.now) }
-    ensures { let m = mesh_of vertices.now topology given indices.now in
+    requires { Sound (mesh_in mesh) }
+    ensures { let m = mesh_in mesh.entry in
         refusal_number result ≡ first_that_applies (place_checks grid m) }
 {
-    let on_grid = mesh_off_grid::all_on_grid(grid, vertices, topology, given, indices);
+    let on_grid = mesh_off_grid::all_on_grid(grid, mesh);
     if !on_grid {
         return Err(Refusal::OffGrid);
     }
@@ -154,18 +149,15 @@ fn length_refusal(grid: Grid, l: Lengths) -> Result<(), Refusal>
 pub fn first_refusal(
     grid: Grid,
     edition: u32,
-    vertices: &[f32],
-    topology: Topology,
-    given: Indices,
-    indices: &[u32],
+    mesh: Mesh,
     l: Lengths,
 ) -> Result<(), Refusal>
-    ensures { let m = mesh_of vertices.now topology given indices.now in
+    ensures { let m = mesh_in mesh.entry in
         refusal_number result ≡ refusal_by grid edition m l }
 {
     grid_refusal(grid)?;
     edition_refusal(edition)?;
-    mesh_refusal(vertices, topology, given, indices)?;
-    place_refusal(grid, vertices, topology, given, indices)?;
+    mesh_refusal(mesh)?;
+    place_refusal(grid, mesh)?;
     length_refusal(grid, l)
 }

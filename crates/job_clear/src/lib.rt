@@ -10,7 +10,7 @@ ghost use Rattle.job_clear.specs.Cleared.{cleared, ClearedFields};
 pub fn fill_field(field: &mut [f32])
     ensures { field.new ≡ replicate (length field.old) f_max }
 {
-    slices::fill_floats(field, 3.4028235e38);
+    field.fill(3.4028235e38);
 }
 
 // All but the queue.
@@ -19,9 +19,9 @@ pub fn clear_fields(field: &mut [f32], names: &mut [u32], crossings: &mut [u32],
         rows.old names.new crossings.new rows.new }
 {
     fill_field(field);
-    slices::fill_numbers(names, 4_294_967_295);
-    slices::fill_numbers(crossings, 0);
-    slices::fill_numbers(rows, 0);
+    names.fill(4_294_967_295);
+    crossings.fill(0);
+    rows.fill(0);
 }
 
 // All of them.

@@ -1,16 +1,20 @@
 // What follows the run (document 01, "The run", 4), but for the queue. A part of the port: users call `sdf`.
 #![tactic(auto)]
 
+ghost use mathlib.Core.List.{Memᴰ};
 ghost use Rattle.std.specs.Prelude.{◌≡◌, ◌*◌, length};
+ghost use Rattle.refusals.specs.Numbers.{number_of};
 ghost use Rattle.grid.specs.Index.{total};
-ghost use Rattle.mesh.specs.Mesh.{mesh_of};
+ghost use Rattle.mesh.specs.Lent.{mesh_in};
 ghost use Rattle.run.specs.Method.{field_by, crossings_by, grazed_by};
 ghost use Rattle.run_state.specs.Told.{Fit};
 ghost use Rattle.job_outcome.specs.Finished.{Long, Finished, Closed};
+ghost use Rattle.job_outcome.specs.Numbers.{run_numbers, RunEnds};
 
 use grid::Grid;
 use job_outcome::{Answer, Tally};
-use mesh_topology::{Indices, Topology};
+use mesh::Mesh;
+use refusals::Refusal;
 use run_state::Progress;
 use terms::{SignMethod, Terms};
 
@@ -18,17 +22,14 @@ use terms::{SignMethod, Terms};
 // the distances have their signs, and the crossings are left zero.
 fn sign_field(
     grid: Grid,
-    vertices: &[f32],
-    topology: Topology,
-    given: Indices,
-    indices: &[u32],
+    mesh: Mesh,
     field: &mut [f32],
     crossings: &mut [u32],
     terms: Terms,
 ) -> u64
-    requires fit { Fit grid (mesh_of vertices.now topology given indices.now) }
+    requires fit { Fit grid (mesh_in mesh) }
     requires field_len { (length field.old ≡ total grid) × (length crossings.old ≡ 3 * total grid) }
-    ensures { let m = mesh_of vertices.now topology given indices.now in
+    ensures { let m = mesh_in mesh.entry in
         (field.new ≡ field_by terms.sign grid m field.old) ×
         (crossings.new ≡ crossings_by terms.sign grid m) × (result ≡ grazed_by terms.sign grid m) }
 {
@@ -37,13 +38,13 @@ fn sign_field(
         SignMethod::Raycast => {
             let pass = terms.pass;
             let grazed = run_cross::cross(
-                grid, vertices, topology, given, indices, crossings, pass,
+                grid, mesh, crossings, pass,
             );
             run_signs::sign(crossings, field);
             grazed
         }
         SignMethod::Normal => {
-            slices::fill_numbers(crossings, 0);
+            crossings.fill(0);
             0
         }
     }
@@ -52,39 +53,45 @@ fn sign_field(
 // What follows a run that is not refused: the crossings, the signs and the rows. Tells how often a ray grazed a triangle.
 fn finish(
     grid: Grid,
-    vertices: &[f32],
-    topology: Topology,
-    given: Indices,
-    indices: &[u32],
+    mesh: Mesh,
     field: &mut [f32],
     crossings: &mut [u32],
     rows: &mut [u32],
     terms: Terms,
 ) -> u64
-    requires fit { Fit grid (mesh_of vertices.now topology given indices.now) }
+    requires fit { Fit grid (mesh_in mesh) }
     requires field_len { length field.old ≡ total grid }
     requires long { Long grid crossings.old rows.old }
-    ensures fact { let m = mesh_of vertices.now topology given indices.now in
+    ensures fact { let m = mesh_in mesh.entry in
         Finished grid m terms.sign terms.edition field.old field.new crossings.new
         rows.new }
-    ensures value { result ≡ grazed_by terms.sign grid (mesh_of vertices.now topology given indices.now) }
+    ensures value { result ≡ grazed_by terms.sign grid (mesh_in mesh.entry) }
 {
     let grazed = sign_field(
-        grid, vertices, topology, given, indices, field, crossings, terms,
+        grid, mesh, field, crossings, terms,
     );
     let edition = terms.edition;
     run_rows::count_rows(edition, grid, field, rows);
     grazed
 }
 
+// The refusal that a run told by its number, which is 6, 7 or 8.
+fn met_in_the_run(number: u32) -> Refusal
+    requires { Memᴰ number run_numbers }
+    ensures { number_of result ≡ number }
+{
+    match number {
+        6 => Refusal::NotANumber,
+        7 => Refusal::QueueFull,
+        _ => Refusal::PopsSpent,
+    }
+}
+
 // After the run, which came to `ran`: a refusal clears what it left, else the field is signed and counted. The queue
 // is left to the caller.
 pub fn close(
     grid: Grid,
-    vertices: &[f32],
-    topology: Topology,
-    given: Indices,
-    indices: &[u32],
+    mesh: Mesh,
     field: &mut [f32],
     names: &mut [u32],
     crossings: &mut [u32],
@@ -92,21 +99,22 @@ pub fn close(
     terms: Terms,
     ran: Progress,
 ) -> Answer
-    requires { let m = mesh_of vertices.now topology given indices.now in
+    requires lent { let m = mesh_in mesh in
         Fit grid m × (length field.old ≡ total grid) × Long grid crossings.old rows.old }
-    ensures { let m = mesh_of vertices.now topology given indices.now in
+    requires ends { RunEnds ran.number }
+    ensures { let m = mesh_in mesh.entry in
         Closed grid m terms.sign terms.edition ran field.old names.old crossings.old
         rows.old
         field.new names.new crossings.new rows.new result }
 {
     if ran.number != 0 {
         job_clear::clear_fields(field, names, crossings, rows);
-        return Answer::Refused(ran.number);
+        return Err(met_in_the_run(ran.number));
     }
     let grazed = finish(
-        grid, vertices, topology, given, indices, field, crossings, rows, terms,
+        grid, mesh, field, crossings, rows, terms,
     );
-    Answer::Done(Tally {
+    Ok(Tally {
         pops: ran.pops,
         peak: ran.peak,
         grazed,

@@ -2,15 +2,16 @@
 #![tactic(auto)]
 
 ghost use Rattle.lists.specs.Turns.{told};
-ghost use Rattle.mesh.specs.Mesh.{mesh_of};
+ghost use Rattle.mesh.specs.Lent.{mesh_in};
 ghost use Rattle.run_state.specs.Told.{order_in, state_of, Fit, Ran};
 ghost use Rattle.job_checks.specs.Job.{job_of, lent_of};
 ghost use Rattle.job_outcome.specs.Outcome.{Gives, ended};
 ghost use Rattle.job_outcome.specs.Finished.{Long};
+ghost use Rattle.job_outcome.specs.Numbers.{RunEnds};
 
 use grid::Grid;
 use job_outcome::Answer;
-use mesh_topology::{Indices, Topology};
+use mesh::Mesh;
 use run_state::Progress;
 use terms::Terms;
 
@@ -18,10 +19,7 @@ use terms::Terms;
 // empty.
 pub fn conclude(
     grid: Grid,
-    vertices: &[f32],
-    topology: Topology,
-    given: Indices,
-    indices: &[u32],
+    mesh: Mesh,
     field: &mut [f32],
     names: &mut [u32],
     crossings: &mut [u32],
@@ -32,21 +30,22 @@ pub fn conclude(
     terms: Terms,
     ran: Progress,
 ) -> Answer
-    requires fit { Fit grid (mesh_of vertices.now topology given indices.now) }
+    requires fit { Fit grid (mesh_in mesh) }
     requires ran { Ran grid field.old names.old distances.old cells.old triangles.old ran }
     requires long { Long grid crossings.old rows.old }
-    ensures { let job = job_of grid vertices.now topology given indices.now terms in
+    requires ends { RunEnds ran.number }
+    ensures { let job = job_in grid mesh.entry terms in
         let lent = lent_of field.old names.old crossings.old rows.old
         distances.old cells.old triangles.old in
         let left = lent_of field.new names.new crossings.new rows.new
         distances.new cells.new triangles.new in
-        let m = mesh_of vertices.now topology given indices.now in
+        let m = mesh_in mesh.entry in
         let state = state_of (order_in m) field.old names.old distances.old cells.old
         triangles.old ran in
         Gives (ended job lent (told ran.number state)) result left }
 {
     let answer = job_close::close(
-        grid, vertices, topology, given, indices, field, names, crossings, rows, terms, ran,
+        grid, mesh, field, names, crossings, rows, terms, ran,
     );
     if ran.number != 0 {
         queue::clear(distances, cells, triangles);

@@ -9,16 +9,13 @@ ghost use Rattle.job_outcome.specs.Outcome.{Gives, outcome};
 use grid::Grid;
 use job_checks::Lengths;
 pub use job_outcome::{Answer, Tally};
-use mesh_topology::{Indices, Topology};
+use mesh::Mesh;
 use terms::Terms;
 
 // Any job at all, over any lent buffers.
 pub fn generate_grid_sdf(
     grid: Grid,
-    vertices: &[f32],
-    topology: Topology,
-    given: Indices,
-    indices: &[u32],
+    mesh: Mesh,
     field: &mut [f32],
     names: &mut [u32],
     crossings: &mut [u32],
@@ -28,7 +25,7 @@ pub fn generate_grid_sdf(
     triangles: &mut [u32],
     terms: Terms,
 ) -> Answer
-    ensures { let job = job_of grid vertices.now topology given indices.now terms in
+    ensures { let job = job_in grid mesh.entry terms in
         let lent = lent_of field.old names.old crossings.old rows.old
         distances.old cells.old triangles.old in
         let left = lent_of field.new names.new crossings.new rows.new
@@ -45,14 +42,9 @@ pub fn generate_grid_sdf(
         triangles: triangles.len(),
     };
     let edition = terms.edition;
-    let number = job_checks::first_refusal(
-        grid, edition, vertices, topology, given, indices, lengths,
-    );
-    if number != 0 {
-        return Answer::Refused(number);
-    }
+    job_checks::first_refusal(grid, edition, mesh, lengths)?;
     job_accept::accepted_job(
-        grid, vertices, topology, given, indices, field, names, crossings, rows, distances, cells,
+        grid, mesh, field, names, crossings, rows, distances, cells,
         triangles, terms,
     )
 }

@@ -2,13 +2,13 @@
 -- number 0 means that the job is done. Assumes nothing.
 use Prim.Native.Nat.{ℕ, zero, suc, ◌≤◌}
 use native.Mathlib.Omega.{arith}
-use mathlib.Core.Path.{◌≡◌, refl, sym, ap, ◌∙◌}
+use mathlib.Core.Path.{◌≡◌, refl, sym, ap, ◌∙◌, subst}
 use mathlib.Core.Logic.{◌⊎◌, inl, inr}
 use mathlib.Core.List.Memᴰ
 use mathlib.Core.List.{Memᴰ}
 use lib.Dec.{leb}
 use borrow.Author.Tests.{leb-true}
-use Rattle.lists.specs.Turns.{Turn, goes, refuses}
+use Rattle.lists.specs.Turns.{Turn, goes, refuses, told}
 use Rattle.lists.specs.Every.{every}
 use Rattle.lists.specs.OnlyBy.{OnlyBy}
 use Rattle.lists.proofs.Every.{every_member}
@@ -17,9 +17,10 @@ use Rattle.run.proofs.Numbers.{run_by}
 use Rattle.job_checks.specs.Job.{Job, Lent}
 use Rattle.job_checks.specs.Refusals.{refusal, refusal_by, lengths_of, checks}
 use Rattle.lists.proofs.Checks.{first_is}
-use Rattle.job_outcome.specs.declared.Answer.TheVariants.{Refused}
+use Rattle.refusals.specs.Numbers.{Reply, refused}
+use Rattle.job_outcome.specs.declared.Tally.{Tally}
 use Rattle.job_outcome.specs.Outcome.{tally_of, ended, run_of, unless_refused, outcome, number_of}
-use Rattle.job_outcome.specs.Numbers.{check_numbers, run_numbers, refusal_numbers, IsDone, Replies, done, before_the_run, in_the_run}
+use Rattle.job_outcome.specs.Numbers.{check_numbers, run_numbers, refusal_numbers, RunEnds, IsDone, Replies, done, before_the_run, in_the_run}
 
 -- what the checks come to is 0 or one of their numbers
 check_given : (j : Job) (b : Lent) → (refusal j b ≡ 0) ⊎ Memᴰ (refusal j b) (check_numbers j b)
@@ -33,6 +34,15 @@ run_given j b =
     (Memᴰ.head refl)
     (Memᴰ.tail (Memᴰ.head refl))
     (Memᴰ.tail (Memᴰ.tail (Memᴰ.head refl)))
+
+-- so what a run tells is 0, or one of these
+pub run_ends : (j : Job) (b : Lent) (n : ℕ) (s : State) → run_of j b ≡ told n s → RunEnds n
+unfolding told
+run_ends j b n s e = go n (subst (OnlyBy (λ k. Memᴰ k run_numbers)) e (run_given j b))
+  where
+    go : (k : ℕ) → OnlyBy (λ i. Memᴰ i run_numbers) (told k s) → RunEnds k
+    go zero h = inl refl
+    go (suc k) h = inr h
 
 pub replies : (j : Job) (b : Lent) → Replies j b (outcome j b)
 unfolding outcome unless_refused ended
@@ -49,10 +59,10 @@ replies j b = check (refusal j b) (check_given j b)
 
 -- ---- the numbers
 
-refused_same : {m n : ℕ} → Refused m ≡ Refused n → m ≡ n
+refused_same : {m n : ℕ} → ◌≡◌ {A = Reply Tally} (refused m) (refused n) → m ≡ n
 refused_same e = cc
 
-pub refused_by_lem : (j : Job) (b : Lent) (n : ℕ) → (outcome j b).answer ≡ Refused n → Memᴰ n refusal_numbers
+pub refused_by_lem : (j : Job) (b : Lent) (n : ℕ) → (outcome j b).answer ≡ refused n → Memᴰ n refusal_numbers
 refused_by_lem j b n h = go (replies j b)
   where
     go : Replies j b (outcome j b) → Memᴰ n refusal_numbers

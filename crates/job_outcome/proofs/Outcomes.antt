@@ -22,13 +22,13 @@ use Rattle.job_checks.specs.Job.{Job, Lent, lent_of}
 use Rattle.job_checks.specs.Refusals.{lengths_of}
 use Rattle.job_clear.specs.Cleared.{cleared}
 use Rattle.job_clear.proofs.Lengths.{all_cleared, same_cleared, cleared_long}
-use Rattle.job_outcome.specs.declared.Answer.{Answer}
-use Rattle.job_outcome.specs.declared.Answer.TheVariants.{Refused, Done}
-use Rattle.job_outcome.specs.Outcome.{Outcome, number_of, pops_of, peak_of, grazed_of, Gives, filled, tally_of, ended, run_of}
+use Rattle.refusals.specs.Numbers.{refused, given, reply_of}
+use Rattle.job_outcome.proofs.OneReply.{one_reply}
+use Rattle.job_outcome.specs.Outcome.{Answer, Outcome, number_of, pops_of, peak_of, grazed_of, Gives, filled, tally_of, ended, run_of}
 use Rattle.job_outcome.specs.Finished.{Closed}
 
 -- equal answers have one number, pops, peak and total of grazed rays
-pub gives : {o : Outcome} {answer : Answer} {left : Lent} → answer ≡ o.answer → left ≡ o.left → Gives o answer left
+pub gives : {o : Outcome} {answer : Answer} {left : Lent} → reply_of answer ≡ o.answer → left ≡ o.left → Gives o answer left
 gives e l = record { answers = e; number = ap number_of e; pops = ap pops_of e; peak = ap peak_of e; grazed = ap grazed_of e; leaves = l }
 
 -- ---- what follows the run
@@ -65,11 +65,11 @@ unfolding ended
 same_ended j b c (goes s) e =
     let f = filled j s b in
     λ i. record {
-      answer = Done (tally_of j s);
+      answer = given (tally_of j s);
       left =
           lent_of f.field f.names f.crossings f.rows (replicate (e i).distances 0) (replicate (e i).cells 0) (replicate (e i).triangles 0);
     }
-same_ended j b c (refuses n) e = λ i. record { answer = Refused n; left = same_cleared b c e i }
+same_ended j b c (refuses n) e = λ i. record { answer = refused n; left = same_cleared b c e i }
 
 pub same_run : (j : Job) (b c : Lent) → lengths_of b ≡ lengths_of c → run_of j b ≡ run_of j c
 same_run j b c e = ap (λ (l : Lengths). run (run_input j.grid j.mesh j.sign l.distances j.limit)) e
@@ -87,4 +87,4 @@ gives_cleared j b c e h =
 -- ---- "One call has one possible outcome"
 
 pub one_outcome : {o : Outcome} {r r' : Answer} {left left' : Lent} → Gives o r left → Gives o r' left' → (r ≡ r') × (left ≡ left')
-one_outcome p q = (p.answers ∙ sym q.answers, p.leaves ∙ sym q.leaves)
+one_outcome {o} {r} {r'} p q = (one_reply r r' (p.answers ∙ sym q.answers), p.leaves ∙ sym q.leaves)

@@ -11,7 +11,7 @@ use Rattle.run.specs.Signs.{rows}
 use Rattle.run.proofs.SameMesh.{SameMesh, input_same, field_by_same, crossings_by_same, grazed_by_same}
 use Rattle.job_checks.specs.Job.{Job, Lent}
 use Rattle.job_clear.specs.Cleared.{zeros}
-use Rattle.job_outcome.specs.declared.Answer.TheVariants.{Done}
+use Rattle.refusals.specs.Numbers.{given}
 use Rattle.job_outcome.specs.Outcome.{ended, run_of}
 
 abbrev pub job_with : Grid → SignMethod → ℕ → ℕ → Mesh → Job
@@ -27,7 +27,7 @@ module _ (g : Grid) (sign : SignMethod) (limit edition : ℕ) {m n : Mesh} (same
       let field = field_by_same g same sign s.field in
       λ i.
       record {
-        answer = Done (record { pops = s.pops; peak = s.peak; grazed = grazed_by_same g same sign i });
+        answer = given (record { pops = s.pops; peak = s.peak; grazed = grazed_by_same g same sign i });
         left = record {
           field = field i;
           names = s.names;

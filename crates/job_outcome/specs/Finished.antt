@@ -9,8 +9,8 @@ use Rattle.run.specs.Signs.{rows}
 use Rattle.run.specs.Method.{field_by, crossings_by, grazed_by}
 use Rattle.run_state.specs.declared.Progress.{Progress}
 use Rattle.job_clear.specs.Cleared.{ClearedFields}
-use Rattle.job_outcome.specs.declared.Answer.{Answer}
-use Rattle.job_outcome.specs.declared.Answer.TheVariants.{Refused, Done}
+use Rattle.refusals.specs.Numbers.{refused, given, reply_of}
+use Rattle.job_outcome.specs.Outcome.{Answer}
 
 -- the lent crossings and rows are of the right lengths
 pub record Long (g : Grid) (crossings rows : List ℕ) : Type 0 where
@@ -26,5 +26,5 @@ pub record Finished (g : Grid) (m : Mesh) (sign : SignMethod) (edition : ℕ) (o
 -- After a run that came to ran: field to layers, the rows, are then field' to layers'. A refusal is answered by its number and clears
 -- them; else the answer is what was taken, waited and grazed, and the names stay.
 pub record Closed (g : Grid) (m : Mesh) (sign : SignMethod) (edition : ℕ) (ran : Progress) (field : List Float) (names crossings layers : List ℕ) (field' : List Float) (names' crossings' layers' : List ℕ) (answer : Answer) : Type 0 where
-  pub refused : (ran.number ≡ 0 → ⊥) → (answer ≡ Refused ran.number) × ClearedFields field field' names crossings layers names' crossings' layers'
-  pub done : ran.number ≡ 0 → (answer ≡ Done (record { pops = ran.pops; peak = ran.peak; grazed = grazed_by sign g m })) × (names' ≡ names) × Finished g m sign edition field field' crossings' layers'
+  pub refused : (ran.number ≡ 0 → ⊥) → (reply_of answer ≡ refused ran.number) × ClearedFields field field' names crossings layers names' crossings' layers'
+  pub done : ran.number ≡ 0 → (reply_of answer ≡ given (record { pops = ran.pops; peak = ran.peak; grazed = grazed_by sign g m })) × (names' ≡ names) × Finished g m sign edition field field' crossings' layers'

@@ -2,6 +2,8 @@
 // laws. A part of the port: users call `sdf`.
 #![tactic(auto)]
 
+use refusals::Refusal;
+
 // What is counted of a job that is done: the entries taken, the most that waited at once, and how often a ray grazed a
 // triangle.
 #[derive(Clone, Copy)]
@@ -11,9 +13,5 @@ pub struct Tally {
     pub grazed: u64,
 }
 
-// What a job is answered: refused by its number, or done, with its counts.
-#[derive(Clone, Copy)]
-pub enum Answer {
-    Refused(u32),
-    Done(Tally),
-}
+// What a job is answered: done, with its counts, or refused.
+pub type Answer = Result<Tally, Refusal>;

@@ -16,10 +16,9 @@ use Rattle.job_outcome.specs.Outcome.{unless_refused, outcome}
 use Rattle.job_outcome.proofs.SameMesh.{job_with}
 use Rattle.text.specs.declared.Head.{Head}
 use Rattle.text.specs.declared.Tail.{Tail}
-use Rattle.text.specs.declared.Upright.{Upright}
-use Rattle.text.specs.declared.Upright.TheVariants.{Unsaid, Z}
-use Rattle.text.specs.declared.Table.{Table}
-use Rattle.text.specs.declared.Table.TheVariants as Table
+use Rattle.point.specs.declared.Axis.{Axis}
+use Rattle.point.specs.declared.Axis.TheVariants.{Z}
+use Rattle.std.specs.Prelude.{Option, Some, None}
 use Rattle.text.specs.Answering.{answer_line}
 use Rattle.text.specs.TextJob.{TextJob, upright_meant, table_meant}
 use Rattle.text.proofs.Said.{saying, unsaid_is_z, saying_table, unsaid_is_one}
@@ -36,14 +35,14 @@ module _ (j : TextJob) where
   abbrev standing : ℕ → Job
   standing n = job_with (stood n (asked_job j).grid) (asked_job j).sign (asked_job j).limit (asked_job j).edition (asked_job j).mesh
 
-  pub said_stands : (u : Upright) → asked_job (saying u j) ≡ standing (upright_meant u)
+  pub said_stands : (u : Option Axis) → asked_job (saying u j) ≡ standing (upright_meant u)
   said_stands u = refl
 
   -- "without the line it is z"
-  pub z_or_nothing : asked_job (saying Unsaid j) ≡ asked_job (saying Z j)
+  pub z_or_nothing : asked_job (saying None j) ≡ asked_job (saying (Some Z) j)
   z_or_nothing = ap standing unsaid_is_z
 
-  pub z_or_nothing_listed : listing (saying Unsaid j) ≡ listing (saying Z j)
+  pub z_or_nothing_listed : listing (saying None j) ≡ listing (saying (Some Z) j)
   z_or_nothing_listed = refl
 
 -- ---- the edition of the layer table
@@ -53,20 +52,20 @@ module _ (j : TextJob) where
   abbrev by_edition : ℕ → Job
   by_edition n = job_with (asked_job j).grid (asked_job j).sign (asked_job j).limit n (asked_job j).mesh
 
-  pub said_edition : (t : Table) → asked_job (saying_table t j) ≡ by_edition (table_meant t)
+  pub said_edition : (t : Option ℕ) → asked_job (saying_table t j) ≡ by_edition (table_meant t)
   said_edition t = refl
 
   -- "a job without it is edition 1"
-  pub one_or_nothing : asked_job (saying_table Table.Unsaid j) ≡ asked_job (saying_table (Table.Said 1) j)
+  pub one_or_nothing : asked_job (saying_table None j) ≡ asked_job (saying_table (Some 1) j)
   one_or_nothing = ap by_edition unsaid_is_one
 
-  pub one_or_nothing_listed : listing (saying_table Table.Unsaid j) ≡ listing (saying_table (Table.Said 1) j)
+  pub one_or_nothing_listed : listing (saying_table None j) ≡ listing (saying_table (Some 1) j)
   one_or_nothing_listed = refl
 
   -- "any other edition is 14, after 1"
   pub other_edition_listed : (n : ℕ)
       → wrong_grid (grid_of j.head) ≡ false
       → wrong_edition n ≡ true
-      → listing (saying_table (Table.Said n) j) ≡ answer_line 14
+      → listing (saying_table (Some n) j) ≡ answer_line 14
   unfolding outcome unless_refused refusal_by listed
   other_edition_listed n g e = rw (g, e)

@@ -11,8 +11,9 @@ use Rattle.grid.specs.Index.{total}
 use Rattle.grid.specs.Layers.{layers}
 use Rattle.terms.specs.declared.Pass.{Pass}
 use Rattle.terms.specs.declared.Terms.{Terms}
-use Rattle.job_outcome.specs.declared.Answer.{Answer}
-use Rattle.job_outcome.specs.declared.Answer.TheVariants.{Refused, Done}
+use Rattle.refusals.specs.Numbers.{Reply}
+use Rattle.refusals.specs.Numbers as Is
+use Rattle.job_outcome.specs.declared.Tally.{Tally}
 use Rattle.mesh_topology.specs.declared.Indices.{Indices}
 use Rattle.mesh.specs.Mesh.{mesh_of}
 use Rattle.job_checks.specs.Job.{Job, Lent}
@@ -92,9 +93,9 @@ row_line b n = line "row=" (decimal n ++ space ∷ decimal (get_or b.rows n 0))
 
 -- a job that is done: its counts, of which the grazed rays are "printed as `grazed=` after `peak=`" (document 02, §3), and a line for
 -- each cell and for each layer; a refusal: "Other refusals print one line too."
-unfoldable pub listed : Answer → Lent → List ℕ
-listed (Refused n) b = answer_line n
-listed (Done t) b =
+unfoldable pub listed : Reply Tally → Lent → List ℕ
+listed (Is.refused n) b = answer_line n
+listed (Is.given t) b =
     answer_line 0
     ++ line "pops=" (decimal t.pops)
     ++ line "peak=" (decimal t.peak)

@@ -7,9 +7,9 @@ ghost use Rattle.listing.specs.Listing.{point_of, grid_of, terms_of};
 
 use float_bits::float_of;
 use grid::Grid;
-use point::Point;
+use point::{Axis, Point};
 use terms::{Pass, Terms};
-use text::{Head, MOST_CELLS, Table, Tail, Three, Upright};
+use text::{Head, MOST_CELLS, Tail, Three};
 
 fn point_of(t: Three) -> Point
     ensures { result ≡ point_of t }
@@ -21,14 +21,14 @@ fn point_of(t: Three) -> Point
 }
 
 // The number of the upright axis, which is z where nothing is said.
-fn upright_of(said: Upright) -> u32
+fn upright_of(said: Option<Axis>) -> u32
     ensures { result ≡ upright_meant said }
 {
     match said {
-        Upright::Unsaid => 2,
-        Upright::X => 0,
-        Upright::Y => 1,
-        Upright::Z => 2,
+        None => 2,
+        Some(Axis::X) => 0,
+        Some(Axis::Y) => 1,
+        Some(Axis::Z) => 2,
     }
 }
 
@@ -81,12 +81,12 @@ pub fn rows_of(head: Head) -> usize
 }
 
 // The edition of the layer table, which is 1 where nothing is said.
-fn edition_of(said: Table) -> u32
+fn edition_of(said: Option<u32>) -> u32
     ensures { result ≡ table_meant said }
 {
     match said {
-        Table::Unsaid => 1,
-        Table::Said(edition) => edition,
+        Some(edition) => edition,
+        None => 1,
     }
 }
 

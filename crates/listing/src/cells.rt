@@ -31,11 +31,9 @@ pub fn put_cells(out: &mut [u8], at: usize, field: &[f32], names: &[u32]) -> usi
         Put out.old at (joined cell (length field.now)) out.new result }
     ensures upper_bound { result ≤ at + 36 * length field.now }
 {
-    let mut i = 0;
     let mut next = at;
-    while i < field.len() {
+    for i in 0..field.len() {
         next = put_cell(out, next, i as u32, bits_of(field[i]), names[i]);
-        i += 1;
     }
     next
 }
@@ -47,11 +45,9 @@ pub fn put_rows(out: &mut [u8], at: usize, rows: &[u32]) -> usize
         Put out.old at (joined row (length rows.now)) out.new result }
     ensures upper_bound { result ≤ at + 26 * length rows.now }
 {
-    let mut layer = 0;
     let mut next = at;
-    while layer < rows.len() {
+    for layer in 0..rows.len() {
         next = put_two(out, next, b"row=", layer as u32, rows[layer]);
-        layer += 1;
     }
     next
 }

@@ -17,9 +17,7 @@ pub fn fill(bits: &[u32], floats: &mut [f32])
     requires { length floats.old ≡ length bits.now }
     ensures { floats.new ≡ floats_of bits.now }
 {
-    let mut i = 0;
-    while i < bits.len() {
+    for i in 0..bits.len() {
         floats[i] = float_of(bits[i]);
-        i += 1;
     }
 }

@@ -11,10 +11,3 @@ mod floats;
 pub use asked::{cells_of, grid_of, rows_of, terms_of};
 pub use cells::{put_cells, put_rows};
 pub use floats::{coordinate_floats, fill};
-
-// What writing came to: nothing was written, or so many bytes from the first on.
-#[derive(Clone, Copy)]
-pub enum Written {
-    Nothing,
-    Bytes(usize),
-}

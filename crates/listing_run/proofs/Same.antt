@@ -24,11 +24,12 @@ use Rattle.run.specs.Run.{State}
 use Rattle.run.specs.Input.{run_input}
 use Rattle.run.proofs.Done.{run_done}
 use Rattle.run.proofs.Inputs.{fair_input}
-use Rattle.job_outcome.specs.declared.Answer.{Answer}
-use Rattle.job_outcome.specs.declared.Answer.TheVariants.{Refused, Done}
+use Rattle.refusals.specs.Numbers.{Reply, reply_of}
+use Rattle.refusals.specs.Numbers as Is
+use Rattle.job_outcome.specs.declared.Tally.{Tally}
 use Rattle.job_checks.specs.Job.{Job, Lent, lent_of}
 use Rattle.job_checks.specs.Refusals.{wrong_grid, refusal, refusal_by, lengths_of}
-use Rattle.job_outcome.specs.Outcome.{Outcome, Gives, ended, run_of, unless_refused, outcome, peak_of}
+use Rattle.job_outcome.specs.Outcome.{Answer, Outcome, Gives, ended, run_of, unless_refused, outcome, peak_of}
 use Rattle.job_checks.proofs.Accepted.{accepted}
 use Rattle.job_clear.proofs.Lengths.{lengths_same}
 use Rattle.job_outcome.proofs.Outcomes.{same_ended, same_run}
@@ -42,10 +43,10 @@ use Rattle.entries_own.specs.Own.{GivesFour}
 use Rattle.listing_run.specs.Parts.{listed_of, Sizes}
 
 -- a listing shows no other buffers
-pub as_shown : (a : Answer) (b : Lent) → listed a (shown b.field b.names b.rows) ≡ listed a b
+pub as_shown : (a : Reply Tally) (b : Lent) → listed a (shown b.field b.names b.rows) ≡ listed a b
 unfolding listed
-as_shown (Refused n) b = refl
-as_shown (Done t) b = refl
+as_shown (Is.refused n) b = refl
+as_shown (Is.given t) b = refl
 
 -- ---- buffers of the same lengths
 
@@ -99,12 +100,12 @@ of_four given =
     }
 
 module _ {o : Outcome} {answer : Answer} {field : List Float} {names crossings rows : List ℕ} (given : GivesFour o answer field names crossings rows) where
-  pub given_listed : {old new : List ℕ} {n : ℕ} → Put old 0 (listed answer (shown field names rows)) new n → Put old 0 (listed o.answer o.left) new n
+  pub given_listed : {old new : List ℕ} {n : ℕ} → Put old 0 (listed (reply_of answer) (shown field names rows)) new n → Put old 0 (listed o.answer o.left) new n
   given_listed p =
       said ((λ i. listed (given.answers i) (shown (given.field_left i) (given.names_left i) (given.rows_left i))) ∙ as_shown o.answer o.left) refl p
 
   pub can_be_listed : {old-field : List Float} {old-names old-rows out : List ℕ} → peak_of o.answer ≤ most_entries → RoomToList old-field old-names old-rows out
-      → length field ≡ length old-field → length names ≡ length old-names → length rows ≡ length old-rows → Listable answer field names rows out
+      → length field ≡ length old-field → length names ≡ length old-names → length rows ≡ length old-rows → Listable (reply_of answer) field names rows out
   can_be_listed low few f n r =
       record {
         few = record { room = few.room; cells_few = omega (arith, few.cells_few, f); all_named = n ∙ few.all_named ∙ sym f; rows_few = omega (arith, few.rows_few, r) };

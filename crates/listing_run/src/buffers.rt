@@ -3,6 +3,7 @@ ghost use Rattle.std.specs.Prelude.{◌≤◌, length, ◌≡◌};
 ghost use Rattle.job_checks.specs.Job.{lent_of};
 ghost use Rattle.text.specs.Limits.{most_cells, most_entries, crossing_room};
 ghost use Rattle.lists.specs.Put.{Put};
+ghost use Rattle.refusals.specs.Numbers.{reply_of};
 ghost use Rattle.float_bits.specs.Patterns.{floats_of};
 ghost use Rattle.listing.specs.Listing.{lent_by, lent_for, listed};
 ghost use Rattle.listing.specs.Written.{RoomToList, Listable, shown};
@@ -12,7 +13,7 @@ ghost use Rattle.listing_run.specs.Parts.{listed_of, held_job, Small, Sizes};
 use entries_own::run_records;
 use job_generate::generate_grid_sdf;
 use job_outcome::Answer;
-use listing::{Written, cells_of, coordinate_floats, fill, grid_of, rows_of, terms_of};
+use listing::{cells_of, coordinate_floats, fill, grid_of, rows_of, terms_of};
 use listing_whole::write_listing;
 use terms::{Pass, Terms};
 use text::{CROSSING_ROOM, ENTRY_ROOM, MOST_CELLS};
@@ -20,14 +21,14 @@ use text_read_job::Asked;
 
 // Lists an answer and what its job left, which can be written.
 fn put_listing(answer: Answer, field: &[f32], names: &[u32], rows: &[u32], out: &mut [u8]) -> usize
-    requires { Listable answer field.now names.now rows.now out.old }
+    requires { Listable (reply_of answer) field.now names.now rows.now out.old }
     ensures { let left = shown field.now names.now rows.now in
-        Put out.old 0 (listed answer left) out.new result }
+        Put out.old 0 (listed (reply_of answer) left) out.new result }
 {
     let written = write_listing(answer, field, names, rows, out);
     match written {
-        Written::Bytes(n) => n,
-        Written::Nothing => 0,
+        Some(n) => n,
+        None => 0,
     }
 }
 

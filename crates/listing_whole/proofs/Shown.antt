@@ -4,8 +4,7 @@ use native.Mathlib.Omega.{arith}
 use mathlib.Core.Path.{◌≡◌, refl, ap, sym, subst}
 use mathlib.Core.List.{List, [], ◌∷◌, ◌++◌}
 use lib.Ieee.{Float}
-use Rattle.job_outcome.specs.declared.Answer.{Answer}
-use Rattle.job_outcome.specs.declared.Answer.TheVariants.{Refused, Done}
+use Rattle.refusals.specs.Numbers.{Reply, refused, given}
 use Rattle.job_outcome.specs.declared.Tally.{Tally}
 use Rattle.job_outcome.specs.Outcome.{peak_of}
 use Rattle.text.specs.Words.{bytes, decimal, lf, line}
@@ -13,17 +12,17 @@ use Rattle.lists.specs.Put.{Put}
 use Rattle.listing.specs.Listing.{listed}
 use Rattle.listing.specs.Written.{shown, RoomToList, Listable}
 
-module _ {a : Answer} {field : List Float} {names rows old new : List ℕ} {k : ℕ} where
-  pub refused_written : (n : ℕ) → a ≡ Refused n → RoomToList field names rows old → Put old 0 (bytes "answer=" ++ decimal n ++ lf ∷ []) new k
+module _ {a : Reply Tally} {field : List Float} {names rows old new : List ℕ} {k : ℕ} where
+  pub refused_written : (n : ℕ) → a ≡ refused n → RoomToList field names rows old → Put old 0 (bytes "answer=" ++ decimal n ++ lf ∷ []) new k
       → Listable a field names rows old × Put old 0 (listed a (shown field names rows)) new k
   unfolding listed line
   refused_written n e f p = rw e (record { few = f; peak_fits = omega arith }, p)
 
-  pub done_written : (t : Tally) → a ≡ Done t → RoomToList field names rows old → t.peak ≤ 4294967295
-      → Put old 0 (listed (Done t) (shown field names rows)) new k
+  pub done_written : (t : Tally) → a ≡ given t → RoomToList field names rows old → t.peak ≤ 4294967295
+      → Put old 0 (listed (given t) (shown field names rows)) new k
       → Listable a field names rows old × Put old 0 (listed a (shown field names rows)) new k
   done_written t e f h p = rw e (record { few = f; peak_fits = h }, p)
 
-pub too_high : {a : Answer} {field : List Float} {names rows old : List ℕ} (t : Tally) → a ≡ Done t → 4294967295 < t.peak
+pub too_high : {a : Reply Tally} {field : List Float} {names rows old : List ℕ} (t : Tally) → a ≡ given t → 4294967295 < t.peak
     → Listable a field names rows old → ⊥
 too_high t e h l = omega (arith, l.peak_fits, ap peak_of e)

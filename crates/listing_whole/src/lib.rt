@@ -2,14 +2,14 @@
 #![tactic(auto)]
 
 ghost use Rattle.std.specs.Prelude.{◌≤◌, ◌<◌, length, ◌≡◌};
-ghost use Rattle.job_outcome.specs.declared.Answer.TheVariants.{Done};
+ghost use Rattle.refusals.specs.Numbers.{given, reply_of};
 ghost use Rattle.job_outcome.specs.declared.Tally.{Tally};
 ghost use Rattle.lists.specs.Put.{Put};
 ghost use Rattle.listing.specs.Listing.{listed};
 ghost use Rattle.listing.specs.Written.{shown, RoomToList, WritesListing};
 
 use job_outcome::Answer;
-use listing::{Written, put_cells, put_rows};
+use listing::{put_cells, put_rows};
 use text::{LISTING_ROOM, MOST_CELLS};
 use text_write::{put_long_number, put_number};
 
@@ -26,7 +26,7 @@ fn put_done(
     requires { RoomToList field.now names.now rows.now out.old }
     ensures { let left = shown field.now names.now rows.now in
         let tally : Tally = record { pops = pops; peak = peak; grazed = grazed } in
-        Put out.old 0 (listed (Done tally) left) out.new result }
+        Put out.old 0 (listed (given tally) left) out.new result }
 {
     let a = put_number(out, 0, b"answer=", 0);
     let b = put_number(out, a, b"pops=", pops);
@@ -44,34 +44,34 @@ pub fn write_listing(
     names: &[u32],
     rows: &[u32],
     out: &mut [u8],
-) -> Written
-    ensures { WritesListing answer field.now names.now rows.now out.old
+) -> Option<usize>
+    ensures { WritesListing (reply_of answer) field.now names.now rows.now out.old
         out.new result }
 {
     if out.len() < LISTING_ROOM {
-        return Written::Nothing;
+        return None;
     }
     if MOST_CELLS < field.len() {
-        return Written::Nothing;
+        return None;
     }
     if names.len() != field.len() {
-        return Written::Nothing;
+        return None;
     }
     if MOST_CELLS < rows.len() {
-        return Written::Nothing;
+        return None;
     }
     match answer {
-        Answer::Refused(number) => {
-            let n = put_number(out, 0, b"answer=", number);
-            Written::Bytes(n)
+        Err(refusal) => {
+            let n = put_number(out, 0, b"answer=", refusal.number());
+            Some(n)
         }
-        Answer::Done(t) => {
+        Ok(t) => {
             let peak = t.peak;
             if 4294967295 < peak {
-                return Written::Nothing;
+                return None;
             }
             let n = put_done(out, t.pops, peak as u32, t.grazed, field, names, rows);
-            Written::Bytes(n)
+            Some(n)
         }
     }
 }

@@ -103,7 +103,8 @@ impl Point {
         }
     }
 
-    // The source's `==`: -0 equals +0, and a NaN equals nothing.
+    // The source's `==`: -0 equals +0, and a NaN equals nothing. A method, and no derived `==`: its clause is the equality that the
+    // geometry's definitions are written with, and the edit `same_but_z` bends it.
     pub fn same(self, other: Point) -> bool
         ensures { result ≡ (self ≐ᵥ other) }
     {

@@ -2,6 +2,7 @@
 // buffers of any lengths that a trial wants.
 ghost use Rattle.std.specs.Prelude.{◌≡◌, ◌≤◌};
 ghost use Rattle.job_checks.specs.Job.{job_of};
+ghost use Rattle.refusals.specs.Numbers.{reply_of};
 ghost use Rattle.job_outcome.specs.Outcome.{outcome, number_of};
 ghost use Rattle.replay_bounds.specs.Trials.{unit_grid, lent_long, one_pop};
 
@@ -37,11 +38,11 @@ pub fn standing_on(x: u32, y: u32, z: u32, upright: u32) -> Grid
 }
 
 fn number_of(answer: Answer) -> u32
-    ensures { result ≡ number_of answer }
+    ensures { result ≡ number_of (reply_of answer) }
 {
     match answer {
-        Answer::Refused(n) => n,
-        Answer::Done(t) => 0,
+        Ok(t) => 0,
+        Err(refusal) => refusal.number(),
     }
 }
 

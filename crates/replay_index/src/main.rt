@@ -5,6 +5,7 @@
 
 ghost use Rattle.std.specs.Prelude.{◌≡◌, ◌≤◌, length, IfOk};
 
+use refusals::Refusal;
 use std::io;
 use std::io::Read;
 
@@ -99,6 +100,14 @@ fn show_left(rt: &impl Print, number: u32, starts: &[u32], list: &[u32]) -> io::
 
 // ---- the calls
 
+// The number of an answer: 0 where nothing is refused.
+fn number_in(answer: Result<(), Refusal>) -> u32 {
+    match answer {
+        Ok(()) => 0,
+        Err(refusal) => refusal.number(),
+    }
+}
+
 fn build(
     rt: &impl Print,
     triangles: u32,
@@ -110,7 +119,7 @@ fn build(
 {
     print_number(rt, b" build=", triangles)?;
     print_numbers(rt, b" names=", names)?;
-    let number = sdf::index_build(triangles, names, starts, list);
+    let number = number_in(sdf::index_build(triangles, names, starts, list));
     show_left(rt, number, starts, list)
 }
 
@@ -126,7 +135,7 @@ fn update(
 {
     print_number(rt, b" update=", triangles)?;
     print_numbers(rt, b" names=", names)?;
-    let number = sdf::index_update(triangles, old, names, starts, list);
+    let number = number_in(sdf::index_update(triangles, old, names, starts, list));
     show_left(rt, number, starts, list)
 }
 

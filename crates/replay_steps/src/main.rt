@@ -101,6 +101,7 @@ fn replay(rt: &impl Print, text: &[u8]) -> io::Result<Tally>
     let mut cases: u64 = 0;
     let mut differences: u64 = 0;
     let mut base: usize = 0;
+    // Where the next case begins is told by the step of this one: there is no count of cases to go by.
     while base < words {
         differences += differs(rt, text, base, cases)?;
         cases += 1;

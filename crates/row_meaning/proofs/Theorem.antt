@@ -1,13 +1,13 @@
--- What a row means. The outcome's rows are those of its field, and where rays give the signs demand 3 says what each cell of a job answered
--- Done holds. Assumes nothing.
+-- What a row means. The outcome's rows are those of its field, and where rays give the signs demand 3 says what each cell of a job that
+-- is done holds. Assumes nothing.
 use mathlib.Core.Path.{◌≡◌, sym, ap, ◌∙◌, subst}
 use Rattle.terms.specs.declared.SignMethod.{SignMethod}
 use Rattle.grid.specs.Index.{cell_at}
 use Rattle.grid.proofs.Laws.{cell_within}
 use Rattle.run.specs.Signs.{rows}
 use Rattle.job_checks.specs.Job.{Job, Lent}
-use Rattle.job_outcome.specs.declared.Answer.{Answer}
-use Rattle.job_outcome.specs.Outcome.{outcome}
+use Rattle.refusals.specs.Numbers.{reply_of}
+use Rattle.job_outcome.specs.Outcome.{Answer, outcome}
 use Rattle.job_outcome.proofs.Numbers.{number_0}
 use Rattle.job_outcome.proofs.Passed.{done_edition}
 use Rattle.c_job.specs.declared.SdfJobAnswer.{SdfJobAnswer}
@@ -39,7 +39,7 @@ rows_mean j b t h =
 -- ---- the corollaries, of the lent buffers after a call
 
 pub rows_after_a_call : (j : Job) (b : Lent) (answer : Answer) (left : Lent) → RowsAfterCall j b answer left
-rows_after_a_call j b answer left gives t done = rw gives.leaves (rows_mean j b t (sym gives.answers ∙ done))
+rows_after_a_call j b answer left gives t done = rw gives.leaves (rows_mean j b t (sym gives.answers ∙ ap reply_of done))
 
 pub rows_after_a_call_from_c : (j : Job) (b : Lent) (answer : SdfJobAnswer) (left : Lent) → RowsAfterCallFromC j b answer left
 rows_after_a_call_from_c j b answer left gives zero =

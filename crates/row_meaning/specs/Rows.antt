@@ -1,9 +1,9 @@
 -- What a row means, by either method of the signs and either edition of the table (document 02, §2, §8 and §11). In edition 1 it counts the cells
 -- whose sign bit is set; in edition 2 it is in half cells. By rays "a cell counts as inside when at least two of its crossing counts are odd, which is when
 -- its sign bit is set": of each cell and of each row. And "the rows sum to the total over all cells", shown once over both editions and all three upright
--- axes. So it is of every job answered Done, and of the lent buffers after a call. Definitions only; proofs/Theorem.antt shows that they hold
+-- axes. So it is of every job that is done, and of the lent buffers after a call. Definitions only; proofs/Theorem.antt shows that they hold
 -- (`rows_mean`, `rows_after_a_call`, `rows_after_a_call_from_c`).
-use Rattle.std.specs.Prelude.{ℕ, ◌+◌, ◌*◌, ◌<◌, ◌≡◌, Bool, ◌&&◌, ◌⊎◌, List, leb, eqb, length, get_or, Float}
+use Rattle.std.specs.Prelude.{ℕ, ◌+◌, ◌*◌, ◌<◌, ◌≡◌, Bool, ◌&&◌, ◌⊎◌, List, leb, eqb, length, get_or, Float, Ok}
 use Rattle.std.specs.Float.{nan}
 use Rattle.float.specs.Arith.{◌≺◌, ◌≐◌, f0}
 use Rattle.float.specs.Steps.{abs_of, sign_bit}
@@ -17,10 +17,9 @@ use Rattle.grid.specs.Layers.{layers, layer_of}
 use Rattle.mesh.specs.Mesh.{Mesh}
 use Rattle.run.specs.Signs.{crossings, row_weight}
 use Rattle.job_checks.specs.Job.{Job, Lent}
-use Rattle.job_outcome.specs.declared.Answer.{Answer}
-use Rattle.job_outcome.specs.declared.Answer.TheVariants.{Done}
+use Rattle.refusals.specs.Numbers.{given}
 use Rattle.job_outcome.specs.declared.Tally.{Tally}
-use Rattle.job_outcome.specs.Outcome.{Gives, outcome}
+use Rattle.job_outcome.specs.Outcome.{Answer, Gives, outcome}
 use Rattle.c_job.specs.declared.SdfJobAnswer.{SdfJobAnswer}
 use Rattle.c_job.specs.Job.{GivesC}
 use Rattle.demand_3.specs.Meaning.{count_left, odd_ones}
@@ -83,11 +82,11 @@ pub record RowsMean (sign : SignMethod) (edition : ℕ) (grid : Grid) (mesh : Me
 
 -- of the outcome that the public job's contract names
 abbrev pub RowsOfOutcome : Job → Lent → Type 0
-RowsOfOutcome j b = (t : Tally) → (outcome j b).answer ≡ Done t → RowsMean j.sign j.edition j.grid j.mesh (outcome j b).left
+RowsOfOutcome j b = (t : Tally) → (outcome j b).answer ≡ given t → RowsMean j.sign j.edition j.grid j.mesh (outcome j b).left
 
 -- of a call of the public function, by its contract: it was given the job j and lent the buffers b, and it answered and left this
 abbrev pub RowsAfterCall : Job → Lent → Answer → Lent → Type 0
-RowsAfterCall j b answer left = Gives (outcome j b) answer left → (t : Tally) → answer ≡ Done t → RowsMean j.sign j.edition j.grid j.mesh left
+RowsAfterCall j b answer left = Gives (outcome j b) answer left → (t : Tally) → answer ≡ Ok t → RowsMean j.sign j.edition j.grid j.mesh left
 
 -- the same of a call from C, which sees its number
 abbrev pub RowsAfterCallFromC : Job → Lent → SdfJobAnswer → Lent → Type 0

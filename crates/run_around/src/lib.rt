@@ -23,7 +23,8 @@ pub const STEPS: [u16; 27] = [
     0x222,
 ];
 
-// What stands for the index of a cell off the grid.
+// What stands for the index of a cell off the grid. No Option: `Around`, `PlacesFit` and `offer_all` speak of a lent row of numbers,
+// and `place_of` says of each whether it is a cell's.
 pub const NOWHERE: u32 = 0xffff_ffff;
 
 // Where a step leads: the index of the cell there, or NOWHERE with the cell that the step was made from.
@@ -105,15 +106,13 @@ fn gather(
     requires to_len { (length to.old ≡ 27) × (length xs.old ≡ 27) × (length ys.old ≡ 27) × (length zs.old ≡ 27) }
     ensures { Gathered grid cell to.new xs.new ys.new zs.new }
 {
-    let mut j = 0;
-    while j < 27 {
+    for j in 0..27 {
         let spot = step_from(grid, cell, steps[j]);
         let centre = grid::parts::get_cell_center(grid, spot.cell);
         to[j] = spot.index;
         xs[j] = centre.x;
         ys[j] = centre.y;
         zs[j] = centre.z;
-        j += 1;
     }
 }
 

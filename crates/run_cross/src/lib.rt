@@ -93,12 +93,10 @@ fn cross_all(
     ensures value { result ≡ grazed grid (mesh_in mesh.entry) }
 {
     let n = mesh::triangle_count(mesh);
-    let mut k = 0;
     let mut total: u64 = 0;
-    while k < n {
+    for k in 0..n {
         let t = mesh::corners_at(mesh, k);
         total += cross_triangle(grid, t, z0, z1, z2, flags, crossings, pass);
-        k += 1;
     }
     total
 }
@@ -106,7 +104,12 @@ fn cross_all(
 // The whole pass, plain or quick: what it leaves and what it tells does not depend on which. Tells how many rays graze a
 // triangle, over all. The crossings may hold anything before. The room for a row of lines is made here, once, and lent
 // down.
-pub fn cross(grid: Grid, mesh: Mesh, crossings: &mut [u32], pass: Pass) -> u64
+pub fn cross(
+    grid: Grid,
+    mesh: Mesh,
+    crossings: &mut [u32],
+    pass: Pass,
+) -> u64
     requires grid_value { in_bounds grid ≡ true }
     requires sound { Sound (mesh_in mesh) }
     requires indices_len_bound { length (triangles_in (mesh_in mesh)) ≤ 131072 }
@@ -115,13 +118,14 @@ pub fn cross(grid: Grid, mesh: Mesh, crossings: &mut [u32], pass: Pass) -> u64
         crossings.new ≡ all_crossings grid m }
     ensures value { result ≡ grazed grid (mesh_in mesh.entry) }
 {
-    slices::fill_numbers(crossings, 0);
+    crossings.fill(0);
     let mut z0 = [0.0f32; 1024];
     let mut z1 = [0.0f32; 1024];
     let mut z2 = [0.0f32; 1024];
     let mut flags = [false; 1024];
     let grazed = cross_all(
-        grid, mesh, &mut z0, &mut z1, &mut z2, &mut flags, crossings, pass,
+        grid, mesh, &mut z0, &mut z1, &mut z2, &mut flags, crossings,
+        pass,
     );
     match pass {
         Pass::Plain => {}

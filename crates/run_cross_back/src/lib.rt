@@ -33,15 +33,9 @@ pub fn sum_back(grid: Grid, crossings: &mut [u32])
     let far_y = run_cross_lines::step(grid, Axis::Y);
     let far_z = run_cross_lines::step(grid, Axis::Z);
     let mut at = 3 * (grid::parts::get_total_cell_count(grid) as usize);
-    let mut x = grid.count_x;
-    while 0 < x {
-        x -= 1;
-        let mut y = grid.count_y;
-        while 0 < y {
-            y -= 1;
-            let mut z = grid.count_z;
-            while 0 < z {
-                z -= 1;
+    for x in (0..grid.count_x).rev() {
+        for y in (0..grid.count_y).rev() {
+            for z in (0..grid.count_z).rev() {
                 at -= 3;
                 add_next(crossings, at + 2, far_z, z + 1 < grid.count_z);
                 add_next(crossings, at + 1, far_y, y + 1 < grid.count_y);

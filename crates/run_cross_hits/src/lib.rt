@@ -100,15 +100,13 @@ fn cross_marked(
         result ≡ grazed_in_row (count_on (next (next axis)) grid) hit }
 {
     let count = grid::parts::count_on(grid, run_cross_lines::second(axis));
-    let mut v: u32 = 0;
     let mut grazed: u64 = 0;
-    while v < count {
+    for v in 0..count {
         let at = v as usize;
         if flags[at] {
             let hit = geo_ray::ray_of(run_cross_marks::three_at(z0, z1, z2, at), ys, xs);
             grazed += cross_line(grid, axis, u, v, hit, crossings, pass);
         }
-        v += 1;
     }
     grazed
 }

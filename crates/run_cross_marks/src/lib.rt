@@ -49,14 +49,12 @@ pub fn fill_across(
     ensures { Across grid axis cast (count_on axis grid) z0.new z1.new z2.new }
 {
     let count = grid::parts::count_on(grid, axis);
-    let mut i: u32 = 0;
-    while i < count {
+    for i in 0..count {
         let at = i as usize;
         let part = geo_ray::across_z(cast, run_cross_lines::centre(grid, axis, i));
         z0[at] = part.v0;
         z1[at] = part.v1;
         z2[at] = part.v2;
-        i += 1;
     }
 }
 
@@ -76,12 +74,10 @@ pub fn mark_row(
         (result ≡ false → (v : ℕ) → v < count → may_meet (parts v) ys ≡ false) }
 {
     let mut any = false;
-    let mut v = 0;
-    while v < count {
+    for v in 0..count {
         let flag = may_meet(three_at(z0, z1, z2, v), ys);
         flags[v] = flag;
-        any = any | flag;
-        v += 1;
+        any |= flag;
     }
     any
 }

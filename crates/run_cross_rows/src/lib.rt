@@ -39,14 +39,12 @@ pub fn cross_rows(
     let xs = geo_ray::along_x(cast, run_cross_lines::centre(grid, axis, 0));
     let across = run_cross_lines::next(axis);
     let count = grid::parts::count_on(grid, across);
-    let mut u: u32 = 0;
     let mut grazed: u64 = 0;
-    while u < count {
+    for u in 0..count {
         let ys = geo_ray::across_y(cast, run_cross_lines::centre(grid, across, u));
         grazed += run_cross_hits::cross_row(
             grid, axis, u, z0, z1, z2, ys, xs, flags, crossings, pass,
         );
-        u += 1;
     }
     grazed
 }

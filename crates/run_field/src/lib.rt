@@ -47,7 +47,8 @@ fn spread_seeds(
         return queued;
     }
     run_spread::spread(
-        grid, mesh, field, names, distances, cells, triangles, queued, terms,
+        grid, mesh, field, names, distances, cells, triangles,
+        queued, terms,
     )
 }
 
@@ -69,14 +70,16 @@ pub fn run_field(
         field.new names.new distances.new cells.new triangles.new result }
 {
     let sign = terms.sign;
-    let number = run_seed::seed(field, names, grid, mesh, sign);
-    if number != 0 {
-        return Progress {
-            number: number,
+    match run_seed::seed(field, names, grid, mesh, sign) {
+        Ok(()) => spread_seeds(
+            grid, mesh, field, names, distances, cells, triangles,
+            terms,
+        ),
+        Err(refusal) => Progress {
+            number: refusal.number(),
             waiting: 0,
             pops: 0,
             peak: 0,
-        };
+        },
     }
-    spread_seeds(grid, mesh, field, names, distances, cells, triangles, terms)
 }

@@ -98,15 +98,13 @@ pub fn offer_around(
         field.new names.new distances.new cells.new triangles.new result }
 {
     let mut reached = at;
-    let mut j = 0;
-    while j < 27 {
+    for j in 0..27 {
         reached = offer_to(
             field, names, distances, cells, triangles, reached, k, to[j], squares[j],
         );
         if reached.number != 0 {
             return reached;
         }
-        j += 1;
     }
     reached
 }

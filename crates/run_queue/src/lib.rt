@@ -89,13 +89,11 @@ pub fn queue_cells(
         triangles.old at distances.new cells.new triangles.new result }
 {
     let mut reached = at;
-    let mut c = 0;
-    while c < field.len() {
+    for c in 0..field.len() {
         reached = queue_cell(field, names, distances, cells, triangles, reached, c);
         if reached.number != 0 {
             return reached;
         }
-        c += 1;
     }
     reached
 }

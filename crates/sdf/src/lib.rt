@@ -47,7 +47,7 @@ pub use stl_write::write_stl;
 
 // ---- a mesh tidied
 
-pub use tidy_mesh::{Kept, TidyAnswer, tidy_mesh};
+pub use tidy_mesh::{Kept, tidy_mesh};
 
 // ---- which cells a facet serves
 

@@ -8,10 +8,9 @@ use Rattle.mesh_topology.specs.declared.Topology.TheVariants.{TriangleList}
 use Rattle.terms.specs.declared.SignMethod.{SignMethod}
 use Rattle.terms.specs.declared.SignMethod.TheVariants.{Raycast, Normal}
 use Rattle.lists.specs.Joined.{each}
-use Rattle.text.specs.declared.Upright.{Upright}
-use Rattle.text.specs.declared.Upright.TheVariants.{Unsaid, X, Y, Z}
-use Rattle.text.specs.declared.Table.{Table}
-use Rattle.text.specs.declared.Table.TheVariants as Table
+use Rattle.point.specs.declared.Axis.{Axis}
+use Rattle.point.specs.declared.Axis.TheVariants.{X, Y, Z}
+use Rattle.std.specs.Prelude.{Option, Some, None}
 use Rattle.text.specs.Words.{bytes, digits, hex, line}
 use Rattle.text.specs.TextJob.{TextJob, these, head_text, vertices_text, indices_text, tail_text, job_text, Readable}
 use Rattle.text.specs.Reader.{
@@ -49,7 +48,7 @@ use Rattle.text.specs.Reader.{
 }
 use Rattle.text.proofs.Job.{whole_refused}
 
-unfoldable pub example : Upright → SignMethod → Table → TextJob
+unfoldable pub example : Option Axis → SignMethod → Option ℕ → TextJob
 example upright sign table =
     record {
       head = head (three 1 1 1) (three 0x3f80_0000 0x3f80_0000 0x3f80_0000) (three 0x3f80_0000 0x3f80_0000 0x4000_0000) upright TriangleList sign;
@@ -74,25 +73,25 @@ mesh =
 abbrev behind : List ℕ
 behind = mesh ++ bytes "queue=8\npops=100\n"
 
-pub example_text : job_text (example Unsaid Raycast Table.Unsaid) ≡ before ++ list ++ behind
+pub example_text : job_text (example None Raycast None) ≡ before ++ list ++ behind
 unfolding example digits hex line each head_text vertices_text indices_text tail_text job_text
 example_text = refl
 
-pub normal_text : job_text (example Unsaid Normal Table.Unsaid) ≡ before ++ list ++ bytes "sign=normal\n" ++ behind
+pub normal_text : job_text (example None Normal None) ≡ before ++ list ++ bytes "sign=normal\n" ++ behind
 unfolding example digits hex line each head_text vertices_text indices_text tail_text job_text
 normal_text = refl
 
-pub upright_text_lem : (job_text (example X Raycast Table.Unsaid) ≡ before ++ bytes "upright=x\n" ++ list ++ behind)
-    × (job_text (example Y Normal Table.Unsaid) ≡ before ++ bytes "upright=y\n" ++ list ++ bytes "sign=normal\n" ++ behind)
-    × (job_text (example Z Raycast Table.Unsaid) ≡ before ++ bytes "upright=z\n" ++ list ++ behind)
+pub upright_text_lem : (job_text (example (Some X) Raycast None) ≡ before ++ bytes "upright=x\n" ++ list ++ behind)
+    × (job_text (example (Some Y) Normal None) ≡ before ++ bytes "upright=y\n" ++ list ++ bytes "sign=normal\n" ++ behind)
+    × (job_text (example (Some Z) Raycast None) ≡ before ++ bytes "upright=z\n" ++ list ++ behind)
 unfolding example digits hex line each head_text vertices_text indices_text tail_text job_text
 upright_text_lem = (refl, refl, refl)
 
 -- editions that there are, and ones that there are not
-pub table_text_lem : (job_text (example Unsaid Raycast (Table.Said 2)) ≡ before ++ list ++ behind ++ bytes "table=2\n")
-    × (job_text (example Y Normal (Table.Said 1)) ≡ before ++ bytes "upright=y\n" ++ list ++ bytes "sign=normal\n" ++ behind ++ bytes "table=1\n")
-    × (job_text (example Unsaid Raycast (Table.Said 0)) ≡ before ++ list ++ behind ++ bytes "table=0\n")
-    × (job_text (example Unsaid Raycast (Table.Said 4294967295)) ≡ before ++ list ++ behind ++ bytes "table=4294967295\n")
+pub table_text_lem : (job_text (example None Raycast (Some 2)) ≡ before ++ list ++ behind ++ bytes "table=2\n")
+    × (job_text (example (Some Y) Normal (Some 1)) ≡ before ++ bytes "upright=y\n" ++ list ++ bytes "sign=normal\n" ++ behind ++ bytes "table=1\n")
+    × (job_text (example None Raycast (Some 0)) ≡ before ++ list ++ behind ++ bytes "table=0\n")
+    × (job_text (example None Raycast (Some 4294967295)) ≡ before ++ list ++ behind ++ bytes "table=4294967295\n")
 unfolding example digits hex line each head_text vertices_text indices_text tail_text job_text
 table_text_lem = (refl, refl, refl, refl)
 

@@ -15,11 +15,10 @@ use Rattle.mesh_topology.specs.declared.Topology.TheVariants.{TriangleList, Tria
 use Rattle.terms.specs.declared.SignMethod.{SignMethod}
 use Rattle.terms.specs.declared.SignMethod.TheVariants.{Raycast, Normal}
 use Rattle.text.specs.declared.Three.{Three}
-use Rattle.text.specs.declared.Upright.{Upright}
-use Rattle.text.specs.declared.Upright.TheVariants.{Unsaid, X, Y, Z}
+use Rattle.point.specs.declared.Axis.{Axis}
+use Rattle.point.specs.declared.Axis.TheVariants.{X, Y, Z}
 use Rattle.text.specs.declared.Head.{Head}
-use Rattle.text.specs.declared.Table.{Table}
-use Rattle.text.specs.declared.Table.TheVariants as Table
+use Rattle.std.specs.Prelude.{Option, Some, None}
 use Rattle.text.specs.declared.Tail.{Tail}
 use Rattle.text.specs.Words.{bytes, space, lf, decimal, hex8, spaced, line, lines}
 use Rattle.text.specs.Limits.{most_vertices, most_indices, most_cells, most_entries, index_room}
@@ -171,11 +170,11 @@ upright_line_lem : Reads (λ u. Memᴰ u axes_said) upright_text upright_line
 unfolding upright_line line differ all_differ every
 upright_line_lem = one_reads upright_text axes_said refl
 
-said_or_not : (u : Upright) → Memᴰ u axes_said ⊎ (u ≡ Unsaid)
-said_or_not Unsaid = inr refl
-said_or_not X = inl (Memᴰ.head refl)
-said_or_not Y = inl (Memᴰ.tail (Memᴰ.head refl))
-said_or_not Z = inl (Memᴰ.tail (Memᴰ.tail (Memᴰ.head refl)))
+said_or_not : (u : Option Axis) → Memᴰ u axes_said ⊎ (u ≡ None)
+said_or_not None = inr refl
+said_or_not (Some X) = inl (Memᴰ.head refl)
+said_or_not (Some Y) = inl (Memᴰ.tail (Memᴰ.head refl))
+said_or_not (Some Z) = inl (Memᴰ.tail (Memᴰ.tail (Memᴰ.head refl)))
 
 topology_line_lem : Reads (λ t. Unit) (λ t. line "topology=" (topology_text t)) topology_line
 unfolding topology_line line differ all_differ every
@@ -203,45 +202,45 @@ sign_line = reshaped (option_reads Raycast (one_reads sign_text (Normal ∷ []) 
     one Raycast = inr refl
 
 -- where the edition is said
-abbrev Saying : Table → Type 0
-Saying Table.Unsaid = ⊥
-Saying (Table.Said n) = Word n
+abbrev Saying : Option ℕ → Type 0
+Saying None = ⊥
+Saying (Some n) = Word n
 
 table_line_lem : Reads Saying table_text table_line
 unfolding table_line
 table_line_lem =
     reshaped
     (chain table_meant _ (number_line_lem "table=" 4294967295 (omega arith)) few
-    (λ n i. finished (Table.Said n) (omega arith, refl) (λ t h. same t n h.0 h.1)))
+    (λ n i. finished (Some n) (omega arith, refl) (λ t h. same t n h.0 h.1)))
     (λ t h. h)
     (λ t h. h)
     text
   where
-    few : (t : Table) → Saying t → table_meant t ≤ 4294967295
-    few Table.Unsaid h = absurd h
-    few (Table.Said n) h = omega arith
+    few : (t : Option ℕ) → Saying t → table_meant t ≤ 4294967295
+    few None h = absurd h
+    few (Some n) h = omega arith
 
-    same : (t : Table) (n : ℕ) → Saying t → table_meant t ≡ n → t ≡ Table.Said n
-    same Table.Unsaid n h e = absurd h
-    same (Table.Said m) n h e = ap Table.Said e
+    same : (t : Option ℕ) (n : ℕ) → Saying t → table_meant t ≡ n → t ≡ Some n
+    same None n h e = absurd h
+    same (Some m) n h e = ap Some e
 
-    text : (t : Table) → Saying t → line "table=" (decimal (table_meant t)) ++ [] ≡ table_text t
-    text Table.Unsaid h = absurd h
-    text (Table.Said n) h = append-nil _
+    text : (t : Option ℕ) → Saying t → line "table=" (decimal (table_meant t)) ++ [] ≡ table_text t
+    text None h = absurd h
+    text (Some n) h = append-nil _
 
 -- the last line of a text, which may be left out
 table_read : ReadsLast TableFits table_text table_at
 unfolding table_line number_line word_at kept follow
-table_read = reshaped (option_last Table.Unsaid table_line_lem refl refl) fits said (λ t h. refl)
+table_read = reshaped (option_last None table_line_lem refl refl) fits said (λ t h. refl)
   where
-    fits : (t : Table) → Saying t ⊎ (t ≡ Table.Unsaid) → TableFits t
-    fits Table.Unsaid h = tt
-    fits (Table.Said n) (inl h) = h
-    fits (Table.Said n) (inr e) = absurd (let z : ◌≡◌ {A = ℕ} 0 1 = cc in omega arith)
+    fits : (t : Option ℕ) → Saying t ⊎ (t ≡ None) → TableFits t
+    fits None h = tt
+    fits (Some n) (inl h) = h
+    fits (Some n) (inr e) = absurd (let z : ◌≡◌ {A = ℕ} 0 1 = cc in omega arith)
 
-    said : (t : Table) → TableFits t → Saying t ⊎ (t ≡ Table.Unsaid)
-    said Table.Unsaid h = inr refl
-    said (Table.Said n) h = inl h
+    said : (t : Option ℕ) → TableFits t → Saying t ⊎ (t ≡ None)
+    said None h = inr refl
+    said (Some n) h = inl h
 
 -- ---- the parts of a job
 
@@ -354,7 +353,7 @@ head_read =
     chain {g = λ h. upright_text h.upright ++ (line "topology=" (topology_text h.topology) ++ (sign_text h.sign ++ []))}
     (λ (h : Head). h.size) _ (floats_line_lem "size=") (λ h i. i.0.0.size_fits)
     (λ size is.
-    option_then Unsaid upright_line_lem refl {g = λ h. line "topology=" (topology_text h.topology) ++ (sign_text h.sign ++ [])}
+    option_then None upright_line_lem refl {g = λ h. line "topology=" (topology_text h.topology) ++ (sign_text h.sign ++ [])}
     (λ (h : Head). h.upright) _ (λ h r i b. before_topology h.topology _ r) (λ h i. said_or_not h.upright)
     (λ upright iu.
     chain {g = λ h. sign_text h.sign ++ []} (λ (h : Head). h.topology) _ topology_line_lem (λ h i. tt)

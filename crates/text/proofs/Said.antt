@@ -7,10 +7,9 @@ use Prim.Native.Nat.{ℕ}
 use Rattle.mesh_topology.specs.declared.Topology.{Topology}
 use Rattle.terms.specs.declared.SignMethod.{SignMethod}
 use Rattle.text.specs.declared.Head.{Head}
-use Rattle.text.specs.declared.Upright.{Upright}
-use Rattle.text.specs.declared.Upright.TheVariants.{Unsaid, Z}
-use Rattle.text.specs.declared.Table.{Table}
-use Rattle.text.specs.declared.Table.TheVariants as Table
+use Rattle.point.specs.declared.Axis.{Axis}
+use Rattle.point.specs.declared.Axis.TheVariants.{Z}
+use Rattle.std.specs.Prelude.{Option, Some, None}
 use Rattle.text.specs.Words.{line, decimal}
 use Rattle.text.specs.TextJob.{
   TextJob,
@@ -36,7 +35,7 @@ use Rattle.text.specs.Reader.{head, tail, assembled}
 -- ---- the upright axis
 
 -- the same job with this said of the axis
-abbrev pub saying : Upright → TextJob → TextJob
+abbrev pub saying : Option Axis → TextJob → TextJob
 saying u j = let h = j.head in assembled (head h.count h.first h.size u h.topology h.sign) j.vertices j.indices j.tail
 
 module _ (j : TextJob) where
@@ -52,7 +51,7 @@ module _ (j : TextJob) where
       ++ indices_text j.indices
       ++ tail_text j.tail
 
-  pub said_between : (u : Upright) → job_text (saying u j) ≡ up_to_size ++ upright_text u ++ from_topology
+  pub said_between : (u : Option Axis) → job_text (saying u j) ≡ up_to_size ++ upright_text u ++ from_topology
   unfolding job_text head_text
   said_between u =
       regrouped (up_to_size ++ upright_text u) (line "topology=" (topology_text j.head.topology)) (sign_text j.head.sign) (vertices_text j.vertices)
@@ -64,11 +63,11 @@ module _ (j : TextJob) where
       regrouped before topology sign vertices indices tail = simp append_assoc
 
 -- of a head the limits know the numbers alone
-pub numbers_fit : (h : Head) (u : Upright) (t : Topology) (s : SignMethod) → HeadFits h → HeadFits (head h.count h.first h.size u t s)
+pub numbers_fit : (h : Head) (u : Option Axis) (t : Topology) (s : SignMethod) → HeadFits h → HeadFits (head h.count h.first h.size u t s)
 numbers_fit h u t s f =
     record { counts_fit = f.counts_fit; cells_few = f.cells_few; first_fits = f.first_fits; size_fits = f.size_fits }
 
-pub said_readable : (u : Upright) (j : TextJob) → Readable j → Readable (saying u j)
+pub said_readable : (u : Option Axis) (j : TextJob) → Readable j → Readable (saying u j)
 said_readable u j r =
     record {
       head_fits = numbers_fit j.head u j.head.topology j.head.sign r.head_fits;
@@ -78,13 +77,13 @@ said_readable u j r =
     }
 
 -- "without the line it is z"
-pub unsaid_is_z : upright_meant Unsaid ≡ upright_meant Z
+pub unsaid_is_z : upright_meant None ≡ upright_meant (Some Z)
 unsaid_is_z = refl
 
 -- ---- the edition of the layer table
 
 -- the same job with this said of the edition
-abbrev pub saying_table : Table → TextJob → TextJob
+abbrev pub saying_table : Option ℕ → TextJob → TextJob
 saying_table t j = assembled j.head j.vertices j.indices (tail j.tail.room j.tail.limit t)
 
 module _ (j : TextJob) where
@@ -98,7 +97,7 @@ module _ (j : TextJob) where
       ++ line "pops=" (decimal j.tail.limit)
 
   -- "as its last line"
-  pub said_last : (t : Table) → job_text (saying_table t j) ≡ up_to_pops ++ table_text t
+  pub said_last : (t : Option ℕ) → job_text (saying_table t j) ≡ up_to_pops ++ table_text t
   unfolding job_text tail_text
   said_last t =
       regrouped (head_text j.head ++ vertices_text j.vertices ++ indices_text j.indices) (line "queue=" (decimal j.tail.room))
@@ -109,7 +108,7 @@ module _ (j : TextJob) where
       regrouped before queue pops table = simp append_assoc
 
 -- whatever number of the format is said
-pub table_readable : (t : Table) (j : TextJob) → TableFits t → Readable j → Readable (saying_table t j)
+pub table_readable : (t : Option ℕ) (j : TextJob) → TableFits t → Readable j → Readable (saying_table t j)
 table_readable t j f r =
     record {
       head_fits = r.head_fits;
@@ -119,5 +118,5 @@ table_readable t j f r =
     }
 
 -- "a job without it is edition 1"
-pub unsaid_is_one : table_meant Table.Unsaid ≡ table_meant (Table.Said 1)
+pub unsaid_is_one : table_meant None ≡ table_meant (Some 1)
 unsaid_is_one = refl

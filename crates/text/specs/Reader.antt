@@ -8,11 +8,10 @@ use Rattle.terms.specs.declared.SignMethod.TheVariants.{Raycast, Normal}
 use Rattle.text.specs.declared.Form.{Form}
 use Rattle.text.specs.declared.Form.TheVariants.{Decimal, Hex8}
 use Rattle.text.specs.declared.Three.{Three}
-use Rattle.text.specs.declared.Upright.{Upright}
-use Rattle.text.specs.declared.Upright.TheVariants.{Unsaid, X, Y, Z}
+use Rattle.point.specs.declared.Axis.{Axis}
+use Rattle.point.specs.declared.Axis.TheVariants.{X, Y, Z}
 use Rattle.text.specs.declared.Head.{Head}
-use Rattle.text.specs.declared.Table.{Table}
-use Rattle.text.specs.declared.Table.TheVariants as Table
+use Rattle.std.specs.Prelude.{Option, Some, None}
 use Rattle.text.specs.declared.Tail.{Tail}
 use Rattle.text.specs.Words.{bytes, space, lf, line}
 use Rattle.text.specs.Limits.{most_vertices, most_indices, most_cells, most_entries}
@@ -118,14 +117,14 @@ unfoldable pub count_line : List ℕ → Got Three
 count_line s = kept few_cells (follow (word_at (bytes "count=") s) (λ _ s. three_numbers number_at s))
 
 -- what the line of the upright axis may say
-abbrev pub axes_said : List Upright
-axes_said = X ∷ Y ∷ Z ∷ []
+abbrev pub axes_said : List (Option Axis)
+axes_said = Some X ∷ Some Y ∷ Some Z ∷ []
 
-unfoldable pub upright_line : List ℕ → Got Upright
+unfoldable pub upright_line : List ℕ → Got (Option Axis)
 upright_line s = one_of upright_text axes_said s
 
-abbrev pub upright_at : List ℕ → Got Upright
-upright_at s = optional Unsaid upright_line s
+abbrev pub upright_at : List ℕ → Got (Option Axis)
+upright_at s = optional None upright_line s
 
 unfoldable pub topology_line : List ℕ → Got Topology
 topology_line s = one_of (λ t. line "topology=" (topology_text t)) (TriangleList ∷ TriangleStrip ∷ []) s
@@ -138,11 +137,11 @@ abbrev pub sign_at : List ℕ → Got SignMethod
 sign_at s = optional Raycast normal_line s
 
 -- the line of the table's edition, whatever number it says
-unfoldable pub table_line : List ℕ → Got Table
-table_line s = follow (number_line (bytes "table=") 4294967295 s) (λ n s. took (Table.Said n) s)
+unfoldable pub table_line : List ℕ → Got (Option ℕ)
+table_line s = follow (number_line (bytes "table=") 4294967295 s) (λ n s. took (Some n) s)
 
-abbrev pub table_at : List ℕ → Got Table
-table_at s = optional Table.Unsaid table_line s
+abbrev pub table_at : List ℕ → Got (Option ℕ)
+table_at s = optional None table_line s
 
 -- n lines, each by the reader p
 unfoldable pub lines_at : {A : Type 0} → ℕ → (List ℕ → Got A) → List ℕ → Got (List A)
@@ -151,7 +150,7 @@ lines_at (suc n) p s = follow (p s) (λ a s. follow (lines_at n p s) (λ rest s.
 
 -- ---- the parts of a job
 
-abbrev pub head : Three → Three → Three → Upright → Topology → SignMethod → Head
+abbrev pub head : Three → Three → Three → Option Axis → Topology → SignMethod → Head
 head count first size upright topology sign =
     record { count = count; first = first; size = size; upright = upright; topology = topology; sign = sign }
 
@@ -184,7 +183,7 @@ indices_at t s =
     (follow (number_line (bytes "indices=") (most_indices t) s)
     (λ n s. follow (lines_at n index_at s) (λ is s. took (these is) s)))
 
-abbrev pub tail : ℕ → ℕ → Table → Tail
+abbrev pub tail : ℕ → ℕ → Option ℕ → Tail
 tail room limit table = record { room = room; limit = limit; table = table }
 
 unfoldable pub tail_at : List ℕ → Got Tail

@@ -4,17 +4,16 @@ use Rattle.std.specs.Prelude.{ℕ, ◌*◌, ◌^◌, ◌<◌, ◌≤◌, List, [
 use Rattle.mesh_topology.specs.declared.Topology.{Topology}
 use Rattle.mesh_topology.specs.declared.Topology.TheVariants.{TriangleList, TriangleStrip}
 use Rattle.mesh_topology.specs.declared.Indices.{Indices}
-use Rattle.mesh_topology.specs.declared.Indices.TheVariants.{Given, None}
+use Rattle.mesh_topology.specs.declared.Indices.TheVariants as Are
 use Rattle.terms.specs.declared.SignMethod.{SignMethod}
 use Rattle.terms.specs.declared.SignMethod.TheVariants.{Raycast, Normal}
 use Rattle.text.specs.declared.Form.{Form}
 use Rattle.text.specs.declared.Form.TheVariants.{Decimal, Hex8}
 use Rattle.text.specs.declared.Three.{Three}
-use Rattle.text.specs.declared.Upright.{Upright}
-use Rattle.text.specs.declared.Upright.TheVariants.{Unsaid, X, Y, Z}
+use Rattle.point.specs.declared.Axis.{Axis}
+use Rattle.point.specs.declared.Axis.TheVariants.{X, Y, Z}
 use Rattle.text.specs.declared.Head.{Head}
-use Rattle.text.specs.declared.Table.{Table}
-use Rattle.text.specs.declared.Table.TheVariants as Table
+use Rattle.std.specs.Prelude.{Option, Some, None}
 use Rattle.text.specs.declared.Tail.{Tail}
 use Rattle.text.specs.Words.{bytes, decimal, hex8, spaced, line, lines}
 use Rattle.text.specs.Limits.{most_vertices, most_indices, most_cells, most_entries}
@@ -50,11 +49,11 @@ floats t = three_text Hex8 t
 
 -- "A job may have `upright=x`, `y` or `z` after `size=`; without the line it is z." (document 02, §9): no other spelling. A text with the line
 -- `upright=z` is not that without a line, so that nothing was said is a value of its own.
-abbrev pub upright_text : Upright → List ℕ
-upright_text Unsaid = []
-upright_text X = line "upright=" (bytes "x")
-upright_text Y = line "upright=" (bytes "y")
-upright_text Z = line "upright=" (bytes "z")
+abbrev pub upright_text : Option Axis → List ℕ
+upright_text None = []
+upright_text (Some X) = line "upright=" (bytes "x")
+upright_text (Some Y) = line "upright=" (bytes "y")
+upright_text (Some Z) = line "upright=" (bytes "z")
 
 -- "The topology is `list` or `strip`."
 abbrev pub topology_text : Topology → List ℕ
@@ -92,9 +91,9 @@ indices_text (these is) = line "indices=" (decimal (length is)) ++ lines index_l
 -- "The job has `table=1` or `table=2` as its last line, and a job without it is edition 1. .. any other edition is 14" (document 02, §11): any
 -- number may be said, since a job of another edition is answered 14 and not 9. A text with the line `table=1` is not that without a line, so
 -- that nothing was said is a value of its own.
-abbrev pub table_text : Table → List ℕ
-table_text Table.Unsaid = []
-table_text (Table.Said n) = line "table=" (decimal n)
+abbrev pub table_text : Option ℕ → List ℕ
+table_text None = []
+table_text (Some n) = line "table=" (decimal n)
 
 -- the lines after the indices
 unfoldable pub tail_text : Tail → List ℕ
@@ -107,16 +106,16 @@ job_text j = head_text j.head ++ vertices_text j.vertices ++ indices_text j.indi
 -- ---- what it stands for
 
 -- the number of the upright axis: 0 x, 1 y, 2 z; "without the line it is z"
-abbrev pub upright_meant : Upright → ℕ
-upright_meant Unsaid = 2
-upright_meant X = 0
-upright_meant Y = 1
-upright_meant Z = 2
+abbrev pub upright_meant : Option Axis → ℕ
+upright_meant None = 2
+upright_meant (Some X) = 0
+upright_meant (Some Y) = 1
+upright_meant (Some Z) = 2
 
 -- the edition of the layer table: "a job without it is edition 1"
-abbrev pub table_meant : Table → ℕ
-table_meant Table.Unsaid = 1
-table_meant (Table.Said n) = n
+abbrev pub table_meant : Option ℕ → ℕ
+table_meant None = 1
+table_meant (Some n) = n
 
 -- the indices of a text, which are none without them
 abbrev pub index_list : TextIndices → List ℕ
@@ -124,8 +123,8 @@ index_list none = []
 index_list (these is) = is
 
 abbrev pub given_of : TextIndices → Indices
-given_of none = None
-given_of (these is) = Given
+given_of none = Are.None
+given_of (these is) = Are.Given
 
 -- the bits of the coordinates, "three f32 each": x, y and z of each vertex in turn
 unfoldable pub flat : List Three → List ℕ
@@ -169,9 +168,9 @@ pub record IndicesFit (t : Topology) (l : TextIndices) : Type 0 where
   pub fit : All Word (index_list l)
 
 -- of an edition that is said
-abbrev pub TableFits : Table → Type 0
-TableFits Table.Unsaid = Unit
-TableFits (Table.Said n) = Word n
+abbrev pub TableFits : Option ℕ → Type 0
+TableFits None = Unit
+TableFits (Some n) = Word n
 
 pub record TailFits (t : Tail) : Type 0 where
   pub room_few : t.room ≤ most_entries

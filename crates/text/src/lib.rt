@@ -8,6 +8,7 @@ ghost use Rattle.std.specs.Prelude.{◌≡◌};
 ghost use Rattle.text.specs.Limits.{most_indices};
 
 use mesh_topology::Topology;
+use point::Axis;
 use terms::SignMethod;
 
 // The job program's own limits, as specs/Limits.antt has them; indices by their topology.
@@ -60,41 +61,25 @@ pub struct Three {
     pub z: u32,
 }
 
-// What a text says of the upright axis: one of the three, or nothing, which means z. That nothing was said is
-// kept, since a text with the line `upright=z` is another text of the same job.
-#[derive(Clone, Copy)]
-pub enum Upright {
-    Unsaid,
-    X,
-    Y,
-    Z,
-}
-
-// The lines before the vertices. The lines of the upright axis and of the signs' method may be left out; the second
-// is how Raycast is said.
+// The lines before the vertices. The lines of the upright axis and of the signs' method may be left out. Of the
+// upright axis that means z, and that nothing was said is kept, since a text with the line `upright=z` is another text
+// of the same job; of the method it is how Raycast is said.
 #[derive(Clone, Copy)]
 pub struct Head {
     pub count: Three,
     pub first: Three,
     pub size: Three,
-    pub upright: Upright,
+    pub upright: Option<Axis>,
     pub topology: Topology,
     pub sign: SignMethod,
 }
 
-// What a text says of the edition of the layer table: a number, or nothing, which means 1. That nothing was said is
-// kept, since a text with the line `table=1` is another text of the same job. Any number may be said: whether there
-// is such an edition is asked where the job is checked.
-#[derive(Clone, Copy)]
-pub enum Table {
-    Unsaid,
-    Said(u32),
-}
-
-// The lines after the indices: the queue room, the pop limit, and the table's edition, whose line may be left out.
+// The lines after the indices: the queue room, the pop limit, and the edition of the layer table, whose line may be left
+// out. That means 1, and that nothing was said is kept, since a text with the line `table=1` is another text of the
+// same job. Any number may be said: whether there is such an edition is asked where the job is checked.
 #[derive(Clone, Copy)]
 pub struct Tail {
     pub room: u32,
     pub limit: u32,
-    pub table: Table,
+    pub table: Option<u32>,
 }

@@ -9,8 +9,8 @@ use lib.ListN.{length, take}
 use lib.Seq.{length-take-le}
 use Rattle.text.specs.declared.Head.{Head}
 use Rattle.text.specs.declared.Tail.{Tail}
-use Rattle.text.specs.declared.Upright.TheVariants.{Unsaid, Z}
-use Rattle.text.specs.declared.Table.TheVariants as Table
+use Rattle.point.specs.declared.Axis.TheVariants.{Z}
+use Rattle.std.specs.Prelude.{Some, None}
 use Rattle.text.specs.Limits.{most_cells, most_entries, coordinate_room, listing_room}
 use Rattle.text.specs.Answering.{Answered, answer_line}
 use Rattle.text.specs.TextJob.{TextJob, cells_of, Word, Readable, job_text}
@@ -64,30 +64,30 @@ printed_is j r o p = one_output o (listing j) p (listing_of j r refl refl)
 
 -- "without the line it is z": the line `upright=z` can be put in or left out (`said_between`, crates/text/proofs/Said.antt, has where)
 pub z_or_nothing_printed : (j : TextJob) → Readable j → (o p : List ℕ)
-    → Prints (job_text (saying Unsaid j)) o
-    → Prints (job_text (saying Z j)) p
+    → Prints (job_text (saying None j)) o
+    → Prints (job_text (saying (Some Z) j)) p
     → o ≡ p
 z_or_nothing_printed j r o p without with =
-    printed_is (saying Unsaid j) (said_readable Unsaid j r) o without
+    printed_is (saying None j) (said_readable None j r) o without
     ∙ z_or_nothing_listed j
-    ∙ sym (printed_is (saying Z j) (said_readable Z j r) p with)
+    ∙ sym (printed_is (saying (Some Z) j) (said_readable (Some Z) j r) p with)
 
 -- "a job without it is edition 1": the line `table=1` can be put at the end or left out (`said_last`, likewise)
 pub one_or_nothing_printed : (j : TextJob) → Readable j → (o p : List ℕ)
-    → Prints (job_text (saying_table Table.Unsaid j)) o
-    → Prints (job_text (saying_table (Table.Said 1) j)) p
+    → Prints (job_text (saying_table None j)) o
+    → Prints (job_text (saying_table (Some 1) j)) p
     → o ≡ p
 one_or_nothing_printed j r o p without with =
-    printed_is (saying_table Table.Unsaid j) (table_readable Table.Unsaid j tt r) o without
+    printed_is (saying_table None j) (table_readable None j tt r) o without
     ∙ one_or_nothing_listed j
-    ∙ sym (printed_is (saying_table (Table.Said 1) j) (table_readable (Table.Said 1) j (omega arith) r) p with)
+    ∙ sym (printed_is (saying_table (Some 1) j) (table_readable (Some 1) j (omega arith) r) p with)
 
 -- "any other edition is 14, after 1": whatever number of the format is said, so none is answered 9
 pub other_edition_printed : (j : TextJob) → Readable j → (n : ℕ) → Word n
     → wrong_grid (grid_of j.head) ≡ false
     → wrong_edition n ≡ true
     → (o : List ℕ)
-    → Prints (job_text (saying_table (Table.Said n) j)) o
+    → Prints (job_text (saying_table (Some n) j)) o
     → o ≡ answer_line 14
 other_edition_printed j r n w g e o p =
-    printed_is (saying_table (Table.Said n) j) (table_readable (Table.Said n) j w r) o p ∙ other_edition_listed j n g e
+    printed_is (saying_table (Some n) j) (table_readable (Some n) j w r) o p ∙ other_edition_listed j n g e

@@ -10,7 +10,7 @@ ghost use Rattle.listing.specs.Listing.{Prints};
 use listing_run::answer_job;
 use terms::Pass;
 use text::LISTING_ROOM;
-use text_read_job::{Reading, coordinate_words, index_words, read_job};
+use text_read_job::{coordinate_words, index_words, read_job};
 use text_write::put_number;
 
 // Answers a text: puts the listing of its job at the front of `out`, or `answer=9` where it is the text of no
@@ -27,10 +27,9 @@ pub fn run_text_by(text: &[u8], out: &mut [u8], records: bool, pass: Pass) -> us
     }
     let mut bits = coordinate_words();
     let mut indices = index_words();
-    let read = read_job(text, &mut bits, &mut indices);
-    match read {
-        Reading::Unreadable => put_number(out, 0, b"answer=", 9),
-        Reading::Job(asked) => {
+    match read_job(text, &mut bits, &mut indices) {
+        Err(refusal) => put_number(out, 0, b"answer=", refusal.number()),
+        Ok(asked) => {
             let n = 3 * asked.vertices;
             let k = asked.indices;
             answer_job(asked, &bits[..n], &indices[..k], records, pass, out)

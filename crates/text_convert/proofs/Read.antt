@@ -13,35 +13,32 @@ use Rattle.lists.proofs.Puts.{said}
 use Rattle.text.specs.Limits.{coordinate_room, index_room, text_room}
 use Rattle.text.specs.TextJob.{TextJob, index_list, Readable, job_text}
 use Rattle.text.specs.Answering.{Answered, answer_line}
-use Rattle.text.proofs.Job.{one_job, most_held}
+use Rattle.text.proofs.Job.{one_job}
 use Rattle.text_read_job.specs.declared.Asked.{Asked}
 use Rattle.text_read_job.specs.Told.{job_in}
 use Rattle.text_read_job.specs.Reading.{HoldsJob}
-use Rattle.text_read_job.proofs.Held.{held_is, held_none}
+use Rattle.text_read_job.proofs.Held.{held_is, held_none, bits_held, indices_held}
 use Rattle.text_write_job.specs.Written.{most_given, RoomToWrite}
 use Rattle.text_convert.specs.Converted.{converted, old_most_indices, OldJob, Converts, conversion_of, no_old_job}
 
 module _ {j : TextJob} {a : Asked} {vertices indices : List ℕ} (h : HoldsJob j a vertices indices) (bits_long : coordinate_room ≤ length vertices) (indices_long : index_room ≤ length indices) where
-  indices_held : a.indices ≤ length indices
-  indices_held = omega (arith, h.indices_few, most_held a.head.topology)
-
   few_given : (g : Indices) → a.given ≡ g → a.indices ≤ most_given a.head.topology g
   few_given Given e = h.indices_few
-  few_given None e = omega (arith, held_none h indices_held e)
+  few_given None e = omega (arith, held_none h (indices_held h indices_long) e)
 
   pub writable : {out : List ℕ} → text_room ≤ length out → RoomToWrite a vertices indices out
   writable room =
       record {
         room = room;
         vertices_few = h.vertices_few;
-        vertices_held = omega (arith, h.vertices_few);
+        vertices_held = bits_held h bits_long;
         indices_few = few_given a.given refl;
-        indices_held = indices_held;
+        indices_held = indices_held h indices_long;
       }
 
   -- as many indices as the job has
   counted : length (index_list j.indices) ≡ a.indices
-  counted = sym (ap length h.indices_are) ∙ length-take-le a.indices indices indices_held
+  counted = sym (ap length h.indices_are) ∙ length-take-le a.indices indices (indices_held h indices_long)
 
   pub answered : {text old new : List ℕ} {n : ℕ}
       → Readable j
@@ -50,7 +47,7 @@ module _ {j : TextJob} {a : Asked} {vertices indices : List ℕ} (h : HoldsJob j
       → Put old 0 (job_text (converted (job_in a vertices indices))) new n
       → Answered Converts text old new n
   answered r e few p =
-      let is = held_is h (omega (arith, h.vertices_few)) in
+      let is = held_is h (bits_held h bits_long) in
       record {
         output = job_text (converted j);
         owes = conversion_of j (record { readable = r; few_indices = omega (arith, counted) }) e refl;

@@ -14,8 +14,9 @@ ghost use Rattle.text_write_job.specs.Written.{RoomToWrite};
 ghost use Rattle.text_convert.specs.Converted.{list_head, as_list, converted, Converts};
 
 use mesh_topology::{Indices, Topology};
+use refusals::Refusal;
 use text::{Head, TEXT_ROOM};
-use text_read_job::{Asked, Reading, coordinate_words, index_words, read_job};
+use text_read_job::{Asked, coordinate_words, index_words, read_job};
 use text_write::put_number;
 use text_write_job::put_job;
 
@@ -99,12 +100,11 @@ pub fn convert_text(text: &[u8], out: &mut [u8]) -> usize
     }
     let mut bits = coordinate_words();
     let mut indices = index_words();
-    let read = read_job(text, &mut bits, &mut indices);
-    match read {
-        Reading::Unreadable => put_number(out, 0, b"answer=", 9),
-        Reading::Job(asked) => {
+    match read_job(text, &mut bits, &mut indices) {
+        Err(refusal) => put_number(out, 0, b"answer=", refusal.number()),
+        Ok(asked) => {
             if OLD_MOST_INDICES < asked.indices {
-                return put_number(out, 0, b"answer=", 9);
+                return put_number(out, 0, b"answer=", Refusal::Unreadable.number());
             }
             put_converted(out, asked, &bits, &indices)
         }

@@ -1,5 +1,6 @@
 -- A job that was read is the one that the record and the slices hold: its numbers, three by three, are the stored ones, and a row of numbers
--- is that of one row of vertices. So it can be written again. Assumes nothing.
+-- is that of one row of vertices. So it can be written again. Slices that are as long as the reader asks for hold all that was read, so they can
+-- be cut there. Assumes nothing.
 use Prim.Native.Nat.{ℕ, ◌*◌, ◌≤◌}
 use native.Mathlib.Omega.{arith}
 use mathlib.Core.Path.{◌≡◌, refl, sym, ap, ◌∙◌}
@@ -9,8 +10,10 @@ use lib.Seq.{length-take-le}
 use Rattle.mesh_topology.specs.declared.Indices.{Indices}
 use Rattle.mesh_topology.specs.declared.Indices.TheVariants.{None}
 use Rattle.text.specs.declared.Three.{Three}
+use Rattle.text.specs.Limits.{coordinate_room, index_room}
 use Rattle.text.specs.TextJob.{TextJob, TextIndices, none, these, flat, given_of, index_list}
 use Rattle.text.specs.Reader.{three, assembled}
+use Rattle.text.proofs.Job.{most_held}
 use Rattle.text_read_job.specs.declared.Asked.{Asked}
 use Rattle.text_read_parts.specs.Told.{listed_as}
 use Rattle.text_read_job.specs.Told.{job_in}
@@ -40,6 +43,13 @@ module _ {j : TextJob} {a : Asked} {vertices indices : List ℕ} (h : HoldsJob j
       let vs = flat_one j.vertices _ (sym h.vertices_are ∙ sym (threes_flat a.vertices vertices long)) in
       let is = indices_one j.indices a.given (take a.indices indices) h.given_is h.indices_are in
       λ i. assembled (sym h.head_is i) (vs i) (is i) (sym h.tail_is i)
+
+  -- the lent slices hold what was read
+  pub bits_held : coordinate_room ≤ length vertices → 3 * a.vertices ≤ length vertices
+  bits_held long = omega (arith, h.vertices_few)
+
+  pub indices_held : index_room ≤ length indices → a.indices ≤ length indices
+  indices_held long = omega (arith, h.indices_few, most_held a.head.topology)
 
   -- without indices it has none
   pub held_none : a.indices ≤ length indices → a.given ≡ None → a.indices ≡ 0

@@ -1,10 +1,11 @@
--- From what the reader on lists finds to what `read_job` promises: what it took is the text of the job that the record and the slices hold,
+-- From what the reader on lists finds to what `whole_job` promises: what it took is the text of the job that the record and the slices hold,
 -- and what it refused is the text of no job within the limits.
 use Prim.Native.Nat.{ℕ, ◌*◌, ◌≤◌, ◌<◌}
 use native.Mathlib.Omega.{arith}
 use mathlib.Core.Path.{◌≡◌, refl, sym, ap, ◌∙◌, subst}
 use mathlib.Core.List.{List, [], ◌∷◌}
 use lib.ListN.{length, take, drop}
+use Rattle.std.specs.Prelude.{Some}
 use Rattle.mesh_topology.specs.declared.Topology.{Topology}
 use Rattle.mesh_topology.specs.declared.Indices.{Indices}
 use Rattle.mesh_topology.specs.declared.Indices.TheVariants.{Given, None}
@@ -15,10 +16,9 @@ use Rattle.text.proofs.Job.{whole_taken, whole_refused}
 use Rattle.text.proofs.Calls.{onward, stopped}
 use Rattle.text.proofs.Places.{here, past}
 use Rattle.text_read_job.specs.declared.Asked.{Asked}
-use Rattle.text_read_job.specs.declared.Reading.TheVariants.{Job}
 use Rattle.text_read_parts.specs.Told.{listed_as, stored}
 use Rattle.text_read_job.specs.Told.{job_in}
-use Rattle.text_read_job.specs.Reading.{Reads}
+use Rattle.text_read_job.specs.Reading.{ReadsAs}
 use Rattle.text_read_parts.proofs.Threes.{threes_flat, threes_length}
 
 given_told : (g : Indices) (l : List ℕ) → g ≡ given_of (listed_as g l)
@@ -39,7 +39,7 @@ pub tells : (text : List ℕ) (k : ℕ) (vertices indices : List ℕ) (a : Asked
     → stored a.head.topology a.given a.indices
     → length text ≤ k
     → took (job_in a vertices indices) (drop k text) ≡ job_at text
-    → Reads text vertices indices (Job a)
+    → ReadsAs text vertices indices (Some a)
 unfolding whole_job at_end
 tells text k vertices indices a long n end e =
     let j = job_in a vertices indices in

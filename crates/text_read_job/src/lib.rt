@@ -10,12 +10,11 @@
 
 ghost use Rattle.std.specs.Prelude.{◌≡◌, ◌≤◌, length};
 ghost use Rattle.text.specs.Limits.{coordinate_room, index_room};
-ghost use Rattle.text_read_job.specs.Reading.{Reads};
+ghost use Rattle.text_read_job.specs.Reading.{Reads, ReadsAs};
 
 use mesh_topology::Indices;
+use refusals::Refusal;
 use text::{COORDINATE_ROOM, Head, INDEX_ROOM, Tail};
-use text_read_parts::{Back, Front, Row};
-use text_read_words::Number;
 
 // A job as its text gives it. Floats are bit patterns. The vertices, three numbers each, and the indices
 // stand in the lent slices, so many of them; without indices there are 0.
@@ -26,13 +25,6 @@ pub struct Asked {
     pub given: Indices,
     pub indices: usize,
     pub tail: Tail,
-}
-
-// What a text is read as. `Unreadable` is document 01's answer 9.
-#[derive(Clone, Copy)]
-pub enum Reading {
-    Job(Asked),
-    Unreadable,
 }
 
 // Slices to be lent, for the vertices and for the indices.
@@ -48,46 +40,33 @@ pub fn index_words() -> [u32; INDEX_ROOM]
     [0; INDEX_ROOM]
 }
 
-// Reads a whole text. The lent slices have room for as many vertices, three numbers each, and as many indices as
-// the program takes.
-pub fn read_job(text: &[u8], vertices: &mut [u32], indices: &mut [u32]) -> Reading
+// Reads a whole text; one that is the text of no job within the limits is unreadable. The lent slices have room for
+// as many vertices, three numbers each, and as many indices as the program takes.
+pub fn read_job(text: &[u8], vertices: &mut [u32], indices: &mut [u32]) -> Result<Asked, Refusal>
     requires { (coordinate_room ≤ length vertices.old) × (index_room ≤ length indices.old) }
     ensures { Reads text.now vertices.new indices.new result }
 {
-    let Front::Is {
-        head,
-        next: behind_head,
-    } = text_read_parts::head(text, 0)
-    else {
-        return Reading::Unreadable;
-    };
-    let Number::Is {
-        value,
-        next: behind_vertices,
-    } = text_read_parts::vertices(text, behind_head, vertices)
-    else {
-        return Reading::Unreadable;
-    };
-    let topology = head.topology;
-    let Row::Are {
-        given,
-        count,
-        next: behind_indices,
-    } = text_read_parts::indices(text, behind_vertices, topology, indices)
-    else {
-        return Reading::Unreadable;
-    };
-    let Back::Is { tail, next } = text_read_parts::tail(text, behind_indices) else {
-        return Reading::Unreadable;
-    };
-    if next < text.len() {
-        return Reading::Unreadable;
+    whole_job(text, vertices, indices).ok_or(Refusal::Unreadable)
+}
+
+// The parts one behind the other, and nothing behind the last.
+fn whole_job(text: &[u8], vertices: &mut [u32], indices: &mut [u32]) -> Option<Asked>
+    requires { (coordinate_room ≤ length vertices.old) × (index_room ≤ length indices.old) }
+    ensures { ReadsAs text.now vertices.new indices.new result }
+{
+    let head = text_read_parts::head(text, 0)?;
+    let count = text_read_parts::vertices(text, head.next, vertices)?;
+    let topology = head.value.topology;
+    let row = text_read_parts::indices(text, count.next, topology, indices)?;
+    let tail = text_read_parts::tail(text, row.next)?;
+    if tail.next < text.len() {
+        return None;
     }
-    Reading::Job(Asked {
-        head,
-        vertices: value as usize,
-        given,
-        indices: count,
-        tail,
+    Some(Asked {
+        head: head.value,
+        vertices: count.value as usize,
+        given: row.value.given,
+        indices: row.value.count,
+        tail: tail.value,
     })
 }

@@ -5,99 +5,49 @@
 ghost use Rattle.std.specs.Prelude.{◌≡◌, drop};
 ghost use Rattle.text.specs.Reader.{value_at, three_numbers, number_line, floats_line, few_cells, count_line};
 ghost use Rattle.text.specs.Reader.{upright_at, topology_line, sign_at, table_at};
-ghost use Rattle.text_read_words.specs.Told.{got_number};
-ghost use Rattle.text_read_lines.specs.Told.{got_triple, got_upright, got_shape, got_method, got_table};
+ghost use Rattle.text_read_words.specs.Told.{got};
+ghost use Rattle.text_read_lines.specs.Told.{got_always};
 
 use mesh_topology::Topology;
+use point::Axis;
 use terms::SignMethod;
-use text::{Form, MOST_CELLS, Table, Three, Upright};
-use text_read_words::{Next, Number};
-
-// Three numbers, and the place behind them.
-#[derive(Clone, Copy)]
-pub enum Triple {
-    Are { three: Three, next: usize },
-    Not,
-}
-
-// What is said of the upright axis, and the place behind its line, or behind nothing where there is no such line.
-#[derive(Clone, Copy)]
-pub struct Standing {
-    pub upright: Upright,
-    pub next: usize,
-}
-
-// A topology, and the place behind it.
-#[derive(Clone, Copy)]
-pub enum Shape {
-    Is { topology: Topology, next: usize },
-    Not,
-}
-
-// The method of the signs, and the place behind its line, or behind nothing where there is no such line.
-#[derive(Clone, Copy)]
-pub struct Method {
-    pub sign: SignMethod,
-    pub next: usize,
-}
-
-// What is said of the table's edition, and the place behind its line, or behind nothing where there is no such line.
-#[derive(Clone, Copy)]
-pub struct Edition {
-    pub table: Table,
-    pub next: usize,
-}
+use text::{Form, MOST_CELLS, Three};
+use text_read_words::Read;
 
 // Three numbers to the end of the line.
-fn three_values(text: &[u8], at: usize, form: Form) -> Triple
-    ensures { got_triple text.now result ≡ three_numbers (value_at form) (drop at text.now) }
+fn three_values(text: &[u8], at: usize, form: Form) -> Option<Read<Three>>
+    ensures { got text.now result ≡ three_numbers (value_at form) (drop at text.now) }
 {
-    let Number::Is {
-        value: x,
-        next: behind_x,
-    } = text_read_words::value(text, at, b' ', form)
-    else {
-        return Triple::Not;
-    };
-    let Number::Is {
-        value: y,
-        next: behind_y,
-    } = text_read_words::value(text, behind_x, b' ', form)
-    else {
-        return Triple::Not;
-    };
-    let Number::Is { value: z, next } = text_read_words::value(text, behind_y, b'\n', form) else {
-        return Triple::Not;
-    };
-    Triple::Are {
-        three: Three { x, y, z },
-        next,
-    }
+    let x = text_read_words::value(text, at, b' ', form)?;
+    let y = text_read_words::value(text, x.next, b' ', form)?;
+    let z = text_read_words::value(text, y.next, b'\n', form)?;
+    Some(Read {
+        value: Three {
+            x: x.value,
+            y: y.value,
+            z: z.value,
+        },
+        next: z.next,
+    })
 }
 
 // A line with one number, which is at most `most`.
-pub fn number_line(text: &[u8], at: usize, key: &[u8], most: u32) -> Number
-    ensures { got_number text.now result ≡ number_line key.now most (drop at text.now) }
+pub fn number_line(text: &[u8], at: usize, key: &[u8], most: u32) -> Option<Read<u32>>
+    ensures { got text.now result ≡ number_line key.now most (drop at text.now) }
 {
-    let Next::At(behind) = text_read_words::after(text, at, key) else {
-        return Number::Not;
-    };
-    let Number::Is { value, next } = text_read_words::decimal(text, behind, b'\n') else {
-        return Number::Not;
-    };
-    if most < value {
-        return Number::Not;
+    let behind = text_read_words::after(text, at, key)?;
+    let number = text_read_words::decimal(text, behind, b'\n')?;
+    if most < number.value {
+        return None;
     }
-    Number::Is { value, next }
+    Some(number)
 }
 
 // A line with three floats.
-pub fn floats_line(text: &[u8], at: usize, key: &[u8]) -> Triple
-    ensures { got_triple text.now result ≡ floats_line key.now (drop at text.now) }
+pub fn floats_line(text: &[u8], at: usize, key: &[u8]) -> Option<Read<Three>>
+    ensures { got text.now result ≡ floats_line key.now (drop at text.now) }
 {
-    let Next::At(behind) = text_read_words::after(text, at, key) else {
-        return Triple::Not;
-    };
+    let behind = text_read_words::after(text, at, key)?;
     three_values(text, behind, Form::Hex8)
 }
 
@@ -115,97 +65,92 @@ fn few_cells(count: Three) -> bool
 }
 
 // The line of the counts.
-pub fn count_line(text: &[u8], at: usize) -> Triple
-    ensures { got_triple text.now result ≡ count_line (drop at text.now) }
+pub fn count_line(text: &[u8], at: usize) -> Option<Read<Three>>
+    ensures { got text.now result ≡ count_line (drop at text.now) }
 {
-    let Next::At(behind) = text_read_words::after(text, at, b"count=") else {
-        return Triple::Not;
-    };
-    let Triple::Are { three, next } = three_values(text, behind, Form::Decimal) else {
-        return Triple::Not;
-    };
-    let few = few_cells(three);
+    let behind = text_read_words::after(text, at, b"count=")?;
+    let count = three_values(text, behind, Form::Decimal)?;
+    let few = few_cells(count.value);
     if !few {
-        return Triple::Not;
+        return None;
     }
-    Triple::Are { three, next }
+    Some(count)
 }
 
-// The line of the upright axis, which may be left out.
-pub fn upright_line(text: &[u8], at: usize) -> Standing
-    ensures { got_upright text.now result ≡ upright_at (drop at text.now) }
+// The line of the upright axis, which may be left out: then the place behind it is that where it would stand.
+pub fn upright_line(text: &[u8], at: usize) -> Read<Option<Axis>>
+    ensures { got_always text.now result ≡ upright_at (drop at text.now) }
 {
-    if let Next::At(next) = text_read_words::after(text, at, b"upright=x\n") {
-        return Standing {
-            upright: Upright::X,
+    if let Some(next) = text_read_words::after(text, at, b"upright=x\n") {
+        return Read {
+            value: Some(Axis::X),
             next,
         };
     }
-    if let Next::At(next) = text_read_words::after(text, at, b"upright=y\n") {
-        return Standing {
-            upright: Upright::Y,
+    if let Some(next) = text_read_words::after(text, at, b"upright=y\n") {
+        return Read {
+            value: Some(Axis::Y),
             next,
         };
     }
-    if let Next::At(next) = text_read_words::after(text, at, b"upright=z\n") {
-        return Standing {
-            upright: Upright::Z,
+    if let Some(next) = text_read_words::after(text, at, b"upright=z\n") {
+        return Read {
+            value: Some(Axis::Z),
             next,
         };
     }
-    Standing {
-        upright: Upright::Unsaid,
+    let said = None;
+    Read {
+        value: said,
         next: at,
     }
 }
 
 // The line of the topology.
-pub fn topology_line(text: &[u8], at: usize) -> Shape
-    ensures { got_shape text.now result ≡ topology_line (drop at text.now) }
+pub fn topology_line(text: &[u8], at: usize) -> Option<Read<Topology>>
+    ensures { got text.now result ≡ topology_line (drop at text.now) }
 {
-    if let Next::At(next) = text_read_words::after(text, at, b"topology=list\n") {
-        return Shape::Is {
-            topology: Topology::TriangleList,
+    if let Some(next) = text_read_words::after(text, at, b"topology=list\n") {
+        return Some(Read {
+            value: Topology::TriangleList,
             next,
-        };
+        });
     }
-    if let Next::At(next) = text_read_words::after(text, at, b"topology=strip\n") {
-        return Shape::Is {
-            topology: Topology::TriangleStrip,
-            next,
-        };
-    }
-    Shape::Not
+    let next = text_read_words::after(text, at, b"topology=strip\n")?;
+    Some(Read {
+        value: Topology::TriangleStrip,
+        next,
+    })
 }
 
 // The line of the signs' method, which may be left out: it asks for Normal, and without it the method is Raycast.
-pub fn sign_line(text: &[u8], at: usize) -> Method
-    ensures { got_method text.now result ≡ sign_at (drop at text.now) }
+pub fn sign_line(text: &[u8], at: usize) -> Read<SignMethod>
+    ensures { got_always text.now result ≡ sign_at (drop at text.now) }
 {
-    if let Next::At(next) = text_read_words::after(text, at, b"sign=normal\n") {
-        return Method {
-            sign: SignMethod::Normal,
+    if let Some(next) = text_read_words::after(text, at, b"sign=normal\n") {
+        return Read {
+            value: SignMethod::Normal,
             next,
         };
     }
-    Method {
-        sign: SignMethod::Raycast,
+    Read {
+        value: SignMethod::Raycast,
         next: at,
     }
 }
 
 // The line of the table's edition, which may be left out. Any number is taken.
-pub fn table_line(text: &[u8], at: usize) -> Edition
-    ensures { got_table text.now result ≡ table_at (drop at text.now) }
+pub fn table_line(text: &[u8], at: usize) -> Read<Option<u32>>
+    ensures { got_always text.now result ≡ table_at (drop at text.now) }
 {
-    if let Number::Is { value, next } = number_line(text, at, b"table=", 4294967295) {
-        return Edition {
-            table: Table::Said(value),
+    if let Some(Read { value, next }) = number_line(text, at, b"table=", 4294967295) {
+        return Read {
+            value: Some(value),
             next,
         };
     }
-    Edition {
-        table: Table::Unsaid,
+    Read {
+        value: None,
         next: at,
     }
 }

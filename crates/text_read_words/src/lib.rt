@@ -5,22 +5,15 @@
 
 ghost use Rattle.std.specs.Prelude.{◌≡◌, drop};
 ghost use Rattle.text.specs.Reader.{hex_value, word_at, number_at, bits_at, value_at};
-ghost use Rattle.text_read_words.specs.Told.{got_next, got_number};
+ghost use Rattle.text_read_words.specs.Told.{got, got_next};
 
 use text::Form;
 
-// The place behind what was looked for.
+// A value that was read, and the place behind it.
 #[derive(Clone, Copy)]
-pub enum Next {
-    At(usize),
-    Not,
-}
-
-// A number, and the place behind it.
-#[derive(Clone, Copy)]
-pub enum Number {
-    Is { value: u32, next: usize },
-    Not,
+pub struct Read<T> {
+    pub value: T,
+    pub next: usize,
 }
 
 // The value of a lower-case hex digit, and 16 of any other byte.
@@ -42,93 +35,87 @@ fn digit(b: u8) -> u32
     16
 }
 
-// A word.
-pub fn after(text: &[u8], at: usize, word: &[u8]) -> Next
+// A word: the place behind it.
+pub fn after(text: &[u8], at: usize, word: &[u8]) -> Option<usize>
     ensures { got_next tt text.now result ≡ word_at word.now (drop at text.now) }
 {
     let mut k = at;
-    let mut i = 0;
-    while i < word.len() {
+    for b in word {
         if text.len() <= k {
-            return Next::Not;
+            return None;
         }
-        if text[k] != word[i] {
-            return Next::Not;
+        if text[k] != *b {
+            return None;
         }
         k += 1;
-        i += 1;
     }
-    Next::At(k)
+    Some(k)
 }
 
 // A decimal number without leading zeros, up to 4,294,967,295, and the byte `stop`.
-pub fn decimal(text: &[u8], at: usize, stop: u8) -> Number
-    ensures { got_number text.now result ≡ number_at stop (drop at text.now) }
+pub fn decimal(text: &[u8], at: usize, stop: u8) -> Option<Read<u32>>
+    ensures { got text.now result ≡ number_at stop (drop at text.now) }
 {
     if text.len() <= at {
-        return Number::Not;
+        return None;
     }
     let mut value = digit(text[at]);
     if 10 <= value {
-        return Number::Not;
+        return None;
     }
-    let mut k = at + 1;
-    while k < text.len() {
+    for k in at + 1..text.len() {
         let b = text[k];
         if b == stop {
-            return Number::Is { value, next: k + 1 };
+            return Some(Read { value, next: k + 1 });
         }
         if value == 0 {
-            return Number::Not;
+            return None;
         }
         let d = digit(b);
         if 10 <= d {
-            return Number::Not;
+            return None;
         }
         let longer = 10 * (value as u64) + (d as u64);
         if 4294967295 < longer {
-            return Number::Not;
+            return None;
         }
         value = longer as u32;
-        k += 1;
     }
-    Number::Not
+    None
 }
 
 // Eight lower-case hex digits, and the byte `stop`.
-fn hex8(text: &[u8], at: usize, stop: u8) -> Number
-    ensures { got_number text.now result ≡ bits_at stop (drop at text.now) }
+fn hex8(text: &[u8], at: usize, stop: u8) -> Option<Read<u32>>
+    ensures { got text.now result ≡ bits_at stop (drop at text.now) }
 {
     let mut value: u64 = 0;
     let mut k = at;
-    let mut i: usize = 0;
-    while i < 8 {
+    for i in 0..8_usize {
         if text.len() <= k {
-            return Number::Not;
+            return None;
         }
         let d = digit(text[k]);
         if 16 <= d {
-            return Number::Not;
+            return None;
         }
         value = 16 * value + (d as u64);
         k += 1;
-        i += 1;
     }
     if text.len() <= k {
-        return Number::Not;
+        return None;
     }
     if text[k] != stop {
-        return Number::Not;
+        return None;
     }
-    Number::Is {
+    Some(Read {
         value: value as u32,
         next: k + 1,
-    }
+    })
 }
 
 // A number in either form, and the byte `stop`.
-pub fn value(text: &[u8], at: usize, stop: u8, form: Form) -> Number
-    ensures { got_number text.now result ≡ value_at form stop (drop at text.now) }
+pub fn value(text: &[u8], at: usize, stop: u8, form: Form) -> Option<Read<u32>>
+    ensures { got text.now result ≡ value_at form stop (drop at text.now) }
 {
     match form {
         Form::Decimal => decimal(text, at, stop),

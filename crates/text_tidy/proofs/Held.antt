@@ -1,12 +1,16 @@
 -- What is kept of a mesh, as a record and slices hold it, is the job that is printed of it: its vertices, three patterns each, are the
--- front of the slice. It can be written where there is room for any text. By induction over the vertices. Assumes nothing.
-use Prim.Native.Nat.{ℕ, zero, suc, ◌+◌, ◌*◌, ◌≤◌, ◌<◌}
+-- front of the slice. It can be written where there is room for any text, and what was put into a part of a slice was put into the slice.
+-- By induction over the vertices. Assumes nothing.
+use Prim.Native.Nat.{ℕ, zero, suc, ◌+◌, ◌*◌, ◌-◌, ◌≤◌, ◌<◌}
 use native.Mathlib.Omega.{arith}
 use mathlib.Core.Path.{◌≡◌, refl, sym, ap, ap₂, ◌∙◌}
 use mathlib.Core.List.{List, [], ◌∷◌, ◌++◌}
 use lib.ListN.{length, get_or, take, length-append, length-map, get_or-append}
 use lib.Ieee.{Float, nan, binary32, to_bits}
+use borrow.Rule.Slice.PartMut.{mid_of, put_mid}
+use Rattle.lists.specs.Put.{Put}
 use Rattle.lists.specs.Table.{table}
+use Rattle.lists.proofs.Puts.{said}
 use Rattle.tidy.specs.Tidy.{vertex_bits}
 use Rattle.tidy_mesh.specs.declared.Kept.{Kept}
 use Rattle.float_bits.specs.Patterns.{bits_of}
@@ -14,12 +18,13 @@ use Rattle.tidy_words.proofs.Words.{bits_at}
 use Rattle.text.specs.declared.Three.{Three}
 use Rattle.text.specs.Limits.{text_room}
 use Rattle.text.specs.Reader.{three, assembled}
-use Rattle.text.specs.TextJob.{these}
+use Rattle.text.specs.TextJob.{these, job_text}
 use Rattle.text_read_parts.specs.Told.{threes_in}
 use Rattle.text_read_job.specs.declared.Asked.{Asked}
 use Rattle.text_read_job.specs.Told.{job_in}
 use Rattle.text_write_job.specs.Written.{RoomToWrite}
 use Rattle.text_tidy.specs.Tidied.{vertex_said}
+use Rattle.text_tidy.proofs.Within.{within}
 use Rattle.text_tidy.specs.Parts.{kept_asked, kept_job, RoomForKept}
 
 table_last : {A : Type 0} (f : ℕ → A) (n : ℕ) → table f (suc n) ≡ table f n ++ f n ∷ []
@@ -62,3 +67,13 @@ module _ (coordinates : List Float) (rest : List ℕ) where
           indices_few = r.indices_few;
           indices_held = r.indices_held;
         }
+
+    -- what is put at the front of the part from `at` on, by a record and slices that hold what is kept, is put into the whole there
+    pub kept_put : {tidied : Asked} {front part : List ℕ} {n : ℕ}
+        → tidied ≡ kept_asked a k
+        → front ≡ bits_of coordinates
+        → Put (mid_of at (length out - at) out) 0 (job_text (job_in tidied (front ++ rest) indices)) part n
+        → Put out at (job_text (kept_job a k coordinates indices)) (put_mid at (length out - at) out part) (at + n)
+    kept_put {part = part} {n = n} t b p =
+        let is = ap₂ (λ (z : Asked) (l : List ℕ). job_in z (l ++ rest) indices) t b ∙ kept_is in
+        within out part _ at (length out - at) n (omega (arith, r.room)) (said (ap job_text is) refl p)

@@ -19,6 +19,7 @@ use Rattle.mesh_explicit.proofs.Laws.{explicit_long}
 use Rattle.mesh.specs.Mesh.{Mesh}
 use Rattle.job_checks.proofs.MeshPassed.{mesh_passed}
 use Rattle.picks.specs.Picks.{some}
+use Rattle.refusals.specs.Numbers.{Reply, refused, given}
 use Rattle.tidy.specs.Padded.{padded, plus_zero}
 use Rattle.tidy.specs.Numbers.{two_equal_numbers, same_numbers}
 use Rattle.tidy.specs.Tidy.{vertex_bits, vertex_total, triangle_total, first_of, merged, cause, kept_vertices, kept_triangles}
@@ -27,8 +28,6 @@ use Rattle.tidy.proofs.Kept.{first}
 use Rattle.tidy.proofs.Tidied.{vertices_are, coordinates_long, triangles_are, triangles_long}
 use Rattle.tidy.proofs.Again.{no_more_vertices, no_more_triangles}
 use Rattle.tidy_mesh.specs.declared.Kept.{Kept}
-use Rattle.tidy_mesh.specs.declared.TidyAnswer.{TidyAnswer}
-use Rattle.tidy_mesh.specs.declared.TidyAnswer.TheVariants.{Refused, Tidied}
 use Rattle.tidy_mesh.specs.Outcome.{TidyLent, outputs_of, wrong_outputs, tidy_refusal, tidy_left, kept_counts, tidy_by, tidy_outcome, GivesTidy}
 use Rattle.tidy_mesh.proofs.Refused.{by_mesh, by_none}
 use Rattle.text.specs.declared.Head.{Head}
@@ -148,7 +147,7 @@ module _ {m : Mesh} {lent : TidyLent} {out : List ℕ} (r : RightlyLent m lent o
       by (yes z) = by_none m lent z right_lengths ∙ sym z
       by (no z) = by_mesh m lent z
 
-  module _ {answer : TidyAnswer} {left : TidyLent} (g : GivesTidy (tidy_outcome m lent) answer left) where
+  module _ {answer : Reply Kept} {left : TidyLent} (g : GivesTidy (tidy_outcome m lent) answer left) where
     answers_so : answer ≡ (tidy_by (mesh_refusal m) m lent).answer
     unfolding tidy_outcome
     answers_so = g.answers ∙ ap (λ (n : ℕ). (tidy_by n m lent).answer) never_five
@@ -158,24 +157,24 @@ module _ {m : Mesh} {lent : TidyLent} {out : List ℕ} (r : RightlyLent m lent o
     leaves_so = g.leaves ∙ ap (λ (n : ℕ). (tidy_by n m lent).left) never_five
 
     -- a refusal is printed alone
-    pub refused_so : (h : Head) (t : Tail) (n : ℕ) → answer ≡ Refused n → printed_by (mesh_refusal m) h m t ≡ answer_line n
+    pub refused_so : (h : Head) (t : Tail) (n : ℕ) → answer ≡ refused n → printed_by (mesh_refusal m) h m t ≡ answer_line n
     unfolding printed_by
     refused_so h t n e = by (mesh_refusal m) (sym e ∙ answers_so)
       where
-        by : (k : ℕ) → Refused n ≡ (tidy_by k m lent).answer → printed_by k h m t ≡ answer_line n
+        by : (k : ℕ) → refused n ≡ (tidy_by k m lent).answer → printed_by k h m t ≡ answer_line n
         by zero f = absurd (let z : ◌≡◌ {A = ℕ} 0 1 = cc in omega arith)
         by (suc k) f = let z : suc k ≡ n = cc in ap answer_line z
 
     -- what is tidied was not refused, and the outputs are those of the mesh
-    tidied_so : (k : Kept) → answer ≡ Tidied k → (mesh_refusal m ≡ 0) × (k ≡ kept_counts m) × (left ≡ tidy_left m)
+    tidied_so : (k : Kept) → answer ≡ given k → (mesh_refusal m ≡ 0) × (k ≡ kept_counts m) × (left ≡ tidy_left m)
     tidied_so k e = by (mesh_refusal m) refl (sym e ∙ answers_so) leaves_so
       where
-        by : (n : ℕ) → mesh_refusal m ≡ n → Tidied k ≡ (tidy_by n m lent).answer → left ≡ (tidy_by n m lent).left
+        by : (n : ℕ) → mesh_refusal m ≡ n → given k ≡ (tidy_by n m lent).answer → left ≡ (tidy_by n m lent).left
             → (mesh_refusal m ≡ 0) × (k ≡ kept_counts m) × (left ≡ tidy_left m)
         by zero z f l = let same : k ≡ kept_counts m = cc in (z, same, l)
         by (suc n) z f l = absurd (let w : ◌≡◌ {A = ℕ} 0 1 = cc in omega arith)
 
-    module _ (a : Asked) (k : Kept) (e : answer ≡ Tidied k) where
+    module _ (a : Asked) (k : Kept) (e : answer ≡ given k) where
       pub tidied_fits : a.head.topology ≡ m.topology → RoomForLeft a k left out
       tidied_fits same =
           let so = tidied_so k e in

@@ -17,9 +17,9 @@ use Rattle.mesh_topology.proofs.Laws.{corners_fit, count_is}
 use Rattle.text.specs.Limits.{most_vertices, most_indices, coordinate_room, index_room}
 use Rattle.text.specs.Answering.{Answered, answer_line}
 use Rattle.text.specs.TextJob.{TextJob, Readable, job_text}
-use Rattle.text.proofs.Job.{most_held}
 use Rattle.text_read_job.specs.declared.Asked.{Asked}
 use Rattle.text_read_job.specs.Reading.{HoldsJob}
+use Rattle.text_read_job.proofs.Held.{bits_held, indices_held}
 use Rattle.text_tidy.specs.Tidied.{printed, Tidies, tidying_of, no_job, tidy_room}
 use Rattle.text_tidy.specs.Parts.{printed_of, held_text, SmallMesh}
 
@@ -35,17 +35,10 @@ few_triangles TriangleStrip given is vertices i v =
 module _
     {j : TextJob} {a : Asked} {vertices indices : List ℕ} (h : HoldsJob j a vertices indices)
     (bits_long : coordinate_room ≤ length vertices) (indices_long : index_room ≤ length indices) where
-  -- the buffers hold what was read
-  pub bits_held : 3 * a.vertices ≤ length vertices
-  bits_held = omega (arith, h.vertices_few)
-
-  pub indices_held : a.indices ≤ length indices
-  indices_held = omega (arith, h.indices_few, most_held a.head.topology)
-
   pub small : {out : List ℕ} → tidy_room ≤ length out → SmallMesh a (take (3 * a.vertices) vertices) (take a.indices indices) out
   small room =
-      let v = length-take-le (3 * a.vertices) vertices bits_held in
-      let i = length-take-le a.indices indices indices_held in
+      let v = length-take-le (3 * a.vertices) vertices (bits_held h bits_long) in
+      let i = length-take-le a.indices indices (indices_held h indices_long) in
       record {
         coordinates_few = omega (arith, h.vertices_few);
         triangles_few =

@@ -37,15 +37,13 @@ fn put_line(out: &mut [u8], at: usize, went: Went, i: u32, value: u32) -> usize
 pub fn put_went(out: &mut [u8], at: usize, went: Went, values: &[u32]) -> usize
     requires short { Short values.now }
     requires values_in_bounds { at + 14 * length values.now + 14 ≤ length out.old }
-    ensures fact { let values = values.entry.now in
+    ensures fact { let values = values.now in
         Put out.old at (went_lines went (λ i. get_or values i 0) (length values)) out.new result }
     ensures upper_bound { result ≤ at + 14 * length values.now }
 {
-    let mut i = 0;
     let mut next = at;
-    while i < values.len() {
+    for i in 0..values.len() {
         next = put_line(out, next, went, i as u32, values[i]);
-        i += 1;
     }
     next
 }

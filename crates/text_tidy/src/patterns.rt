@@ -8,9 +8,7 @@ pub fn fill_bits(floats: &[f32], bits: &mut [u32])
     requires { length bits.old ≡ length floats.now }
     ensures { bits.new ≡ bits_of floats.now }
 {
-    let mut i = 0;
-    while i < floats.len() {
+    for i in 0..floats.len() {
         bits[i] = bits_of(floats[i]);
-        i += 1;
     }
 }

@@ -14,9 +14,9 @@ use crate::lines::put_went;
 use crate::{TIDY_ROOM, Went};
 use listing::{coordinate_floats, fill};
 use text::{INDEX_ROOM, MOST_VERTICES};
-use text_read_job::{Asked, Reading, coordinate_words, index_words, read_job};
+use text_read_job::{Asked, coordinate_words, index_words, read_job};
 use text_write::put_number;
-use tidy_mesh::{Kept, TidyAnswer, tidy_mesh};
+use tidy_mesh::{Kept, tidy_mesh};
 
 // Prints what went, and then the tidied job, from what a tidying left in its outputs.
 fn put_tidied(
@@ -66,10 +66,8 @@ fn tidy_lent(
         causes,
     );
     match answer {
-        TidyAnswer::Refused(number) => put_number(out, 0, b"answer=", number),
-        TidyAnswer::Tidied(kept) => {
-            put_tidied(out, asked, kept, coordinates, explicit, firsts, causes)
-        }
+        Ok(kept) => put_tidied(out, asked, kept, coordinates, explicit, firsts, causes),
+        Err(refusal) => put_number(out, 0, b"answer=", refusal.number()),
     }
 }
 
@@ -132,10 +130,9 @@ pub fn tidy_text(text: &[u8], out: &mut [u8]) -> usize
     }
     let mut bits = coordinate_words();
     let mut indices = index_words();
-    let read = read_job(text, &mut bits, &mut indices);
-    match read {
-        Reading::Unreadable => put_number(out, 0, b"answer=", 9),
-        Reading::Job(asked) => {
+    match read_job(text, &mut bits, &mut indices) {
+        Err(refusal) => put_number(out, 0, b"answer=", refusal.number()),
+        Ok(asked) => {
             let n = 3 * asked.vertices;
             let k = asked.indices;
             tidy_asked(asked, &bits[..n], &indices[..k], out)

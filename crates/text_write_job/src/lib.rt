@@ -7,10 +7,3 @@ mod parts;
 mod whole;
 
 pub use whole::{put_job, write_job};
-
-// What writing came to: nothing was written, or so many bytes from the first on.
-#[derive(Clone, Copy)]
-pub enum Written {
-    Nothing,
-    Bytes(usize),
-}

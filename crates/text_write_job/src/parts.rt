@@ -1,5 +1,5 @@
 // The parts of the text, in its order: the lines before the vertices, the vertices, the indices, the tail.
-ghost use Rattle.std.specs.Prelude.{◌+◌, ◌*◌, ◌≤◌, length, take};
+ghost use Rattle.std.specs.Prelude.{◌+◌, ◌*◌, ◌≤◌, length, take, Some};
 ghost use Rattle.text.specs.Words.{line, lines};
 ghost use Rattle.text.specs.Limits.{most_vertices, index_room};
 ghost use Rattle.text.specs.TextJob.{upright_text, topology_text, sign_text, head_text, table_text, tail_text};
@@ -8,21 +8,32 @@ ghost use Rattle.text_read_parts.specs.Told.{threes_in, listed_as};
 ghost use Rattle.lists.specs.Put.{Put};
 
 use mesh_topology::{Indices, Topology};
+use point::Axis;
 use terms::SignMethod;
-use text::{Form, Head, Table, Tail, Three, Upright};
+use text::{Form, Head, Tail, Three};
 use text_write::{put_all, put_number, put_three};
 
 // The line of the upright axis, where it was said.
-fn put_upright(out: &mut [u8], at: usize, upright: Upright) -> usize
+fn put_upright(out: &mut [u8], at: usize, upright: Option<Axis>) -> usize
     requires { at + 10 ≤ length out.old }
     ensures put { Put out.old at (upright_text upright) out.new result }
     ensures upper_bound { result ≤ at + 10 }
 {
     match upright {
-        Upright::Unsaid => at,
-        Upright::X => put_all(out, at, b"upright=x\n"),
-        Upright::Y => put_all(out, at, b"upright=y\n"),
-        Upright::Z => put_all(out, at, b"upright=z\n"),
+        Some(axis) => put_axis(out, at, axis),
+        None => at,
+    }
+}
+
+fn put_axis(out: &mut [u8], at: usize, axis: Axis) -> usize
+    requires { at + 10 ≤ length out.old }
+    ensures put { Put out.old at (upright_text (Some axis)) out.new result }
+    ensures upper_bound { result ≤ at + 10 }
+{
+    match axis {
+        Axis::X => put_all(out, at, b"upright=x\n"),
+        Axis::Y => put_all(out, at, b"upright=y\n"),
+        Axis::Z => put_all(out, at, b"upright=z\n"),
     }
 }
 
@@ -77,16 +88,14 @@ fn put_vertex_lines(out: &mut [u8], at: usize, vertices: &[u32], n: usize) -> us
     ensures put { Put out.old at (lines vertex_line (threes_in n vertices.now)) out.new result }
     ensures upper_bound { result ≤ at + 29 * n }
 {
-    let mut i = 0;
     let mut next = at;
-    while i < n {
+    for i in 0..n {
         let v = Three {
             x: vertices[3 * i],
             y: vertices[3 * i + 1],
             z: vertices[3 * i + 2],
         };
         next = put_three(out, next, b"v=", v, Form::Hex8);
-        i += 1;
     }
     next
 }
@@ -103,19 +112,16 @@ pub fn put_vertices(out: &mut [u8], at: usize, vertices: &[u32], n: usize) -> us
     put_vertex_lines(out, next, vertices, n)
 }
 
-// A line for each of the first n indices.
-fn put_index_lines(out: &mut [u8], at: usize, indices: &[u32], n: usize) -> usize
-    requires n_le_index_room { n ≤ index_room }
-    requires n_in_bounds { n ≤ length indices.now }
-    requires n_in_bounds_2 { at + 13 * n ≤ length out.old }
-    ensures put { Put out.old at (lines index_line (take n indices.now)) out.new result }
-    ensures upper_bound { result ≤ at + 13 * n }
+// A line for each index.
+fn put_index_lines(out: &mut [u8], at: usize, indices: &[u32]) -> usize
+    requires few { length indices.now ≤ index_room }
+    requires room { at + 13 * length indices.now ≤ length out.old }
+    ensures put { Put out.old at (lines index_line indices.now) out.new result }
+    ensures upper_bound { result ≤ at + 13 * length indices.now }
 {
-    let mut i = 0;
     let mut next = at;
-    while i < n {
-        next = put_number(out, next, b"i=", indices[i]);
-        i += 1;
+    for index in indices {
+        next = put_number(out, next, b"i=", *index);
     }
     next
 }
@@ -131,20 +137,20 @@ pub fn put_indices(out: &mut [u8], at: usize, given: Indices, indices: &[u32], n
     match given {
         Indices::Given => {
             let next = put_number(out, at, b"indices=", n as u32);
-            put_index_lines(out, next, indices, n)
+            put_index_lines(out, next, &indices[..n])
         }
         Indices::None => put_all(out, at, b"indices=none\n"),
     }
 }
 
 // The line of the table's edition, where it was said.
-fn put_table(out: &mut [u8], at: usize, table: Table) -> usize
+fn put_table(out: &mut [u8], at: usize, table: Option<u32>) -> usize
     requires { at + 17 ≤ length out.old }
     ensures { Put out.old at (table_text table) out.new result }
 {
     match table {
-        Table::Unsaid => at,
-        Table::Said(edition) => put_number(out, at, b"table=", edition),
+        None => at,
+        Some(edition) => put_number(out, at, b"table=", edition),
     }
 }
 

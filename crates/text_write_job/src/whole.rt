@@ -5,7 +5,6 @@ ghost use Rattle.text_read_job.specs.Told.{job_in};
 ghost use Rattle.lists.specs.Put.{Put};
 ghost use Rattle.text_write_job.specs.Written.{most_given, RoomToWrite, WritesJob};
 
-use crate::Written;
 use crate::parts::{put_head, put_indices, put_tail, put_vertices};
 use mesh_topology::{Indices, Topology};
 use text::{MOST_VERTICES, TEXT_ROOM, most_indices};
@@ -37,29 +36,28 @@ pub fn put_job(out: &mut [u8], asked: Asked, vertices: &[u32], indices: &[u32]) 
 }
 
 // Writes the text of the job that `asked` and the slices hold, where it has no more vertices and indices than the
-// program takes, which the slices hold, and `out` is at least 40,960 bytes long, which hold any such text. Else it
-// writes nothing.
-pub fn write_job(asked: Asked, vertices: &[u32], indices: &[u32], out: &mut [u8]) -> Written
+// program takes, which the slices hold, and `out` is at least 40,960 bytes long, which hold any such text, and tells
+// how many bytes that are. Else it writes nothing.
+pub fn write_job(asked: Asked, vertices: &[u32], indices: &[u32], out: &mut [u8]) -> Option<usize>
     ensures { WritesJob asked vertices.now indices.now out.old out.new result }
 {
     let head = asked.head;
     let topology = head.topology;
     let given = asked.given;
     if out.len() < TEXT_ROOM {
-        return Written::Nothing;
+        return None;
     }
     if (MOST_VERTICES as usize) < asked.vertices {
-        return Written::Nothing;
+        return None;
     }
     if vertices.len() < 3 * asked.vertices {
-        return Written::Nothing;
+        return None;
     }
     if most_given(topology, given) < asked.indices {
-        return Written::Nothing;
+        return None;
     }
     if indices.len() < asked.indices {
-        return Written::Nothing;
+        return None;
     }
-    let n = put_job(out, asked, vertices, indices);
-    Written::Bytes(n)
+    Some(put_job(out, asked, vertices, indices))
 }

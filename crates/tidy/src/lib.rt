@@ -2,20 +2,10 @@
 // for. The code here is what the search for repeats compares: three numbers at a time. A part of the port: users call `sdf`.
 #![tactic(auto)]
 
-ghost use Rattle.std.specs.Prelude.{◌≡◌};
-ghost use Rattle.tidy.specs.Same.{same_words};
-
 // The bit patterns of a vertex, or the vertex numbers of a triangle in ascending order.
-#[derive(Clone, Copy)]
+#[derive(Clone, Copy, PartialEq, Eq)]
 pub struct ThreeWords {
     pub a: u32,
     pub b: u32,
     pub c: u32,
-}
-
-// Whether all three agree.
-pub fn are_same(x: ThreeWords, y: ThreeWords) -> bool
-    ensures { result ≡ same_words x y }
-{
-    (x.a == y.a) & (x.b == y.b) & (x.c == y.c)
 }

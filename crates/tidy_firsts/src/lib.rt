@@ -11,7 +11,7 @@ ghost use Rattle.tidy_search.specs.Links.{Ends};
 ghost use Rattle.tidy_firsts.specs.Firsts.{first_in, ReadyForVertex, VerticesEntered};
 
 use float_bits::bits_of;
-use tidy::{ThreeWords, are_same};
+use tidy::ThreeWords;
 use tidy_search::{head, link, turn};
 use tidy_words::{number_at, put_number};
 
@@ -28,6 +28,8 @@ fn bits_at(vertices: &[f32], v: usize) -> ThreeWords
 }
 
 // The link at which a search for the bits of vertex v ends. The links that it passes lie ever further behind, so it ends.
+// `tidy_causes` searches alike, in a row of numbers for those of a triangle. One search for both would want a trait for the row and one
+// for what is looked for, each with two impls and laws, and so more than these lines; the steps that both take are `tidy_search`.
 fn place(vertices: &[f32], links: &[f32], n: usize, v: usize) -> usize
     requires { ReadyForVertex vertices.now n v links.now }
     ensures { let key = vertex_bits vertices.now in
@@ -40,7 +42,7 @@ fn place(vertices: &[f32], links: &[f32], n: usize, v: usize) -> usize
     while held != 0 {
         let w = held as usize - 1;
         let other = bits_at(vertices, w);
-        if are_same(other, key) {
+        if other == key {
             return at;
         }
         at = link(n, w, rest);
@@ -72,11 +74,9 @@ pub fn find_firsts(vertices: &[f32], links: &mut [f32], firsts: &mut [u32])
     requires firsts_len_bound { length firsts.old < 2 ^ 22 }
     ensures { firsts.new ≡ table (first_in vertices.now) (length firsts.old) }
 {
-    slices::fill_floats(links, 0.0);
+    links.fill(0.0);
     let n = firsts.len();
-    let mut v = 0;
-    while v < n {
+    for v in 0..n {
         firsts[v] = enter(vertices, links, n, v);
-        v += 1;
     }
 }

@@ -65,11 +65,9 @@ pub fn mark_used(
         let ts = triangles_of topology given indices.now (length fs) in
         Marks (length fs) (λ v. cond (used_by ts fs causes.now v) 1 0) words.new }
 {
-    slices::fill_floats(words, 0.0);
-    let mut k = 0;
-    while k < causes.len() {
+    words.fill(0.0);
+    for k in 0..causes.len() {
         mark_if_kept(topology, given, indices, firsts, causes, words, k);
-        k += 1;
     }
 }
 
@@ -95,11 +93,9 @@ pub fn number_marked(words: &mut [f32], n: usize) -> u32
     ensures fact { let marked = is_marked n words.old in
         Marks n (λ v. cond (marked v) (count_below marked v + 1) 0) words.new }
 {
-    let mut v = 0;
     let mut count: u32 = 0;
-    while v < n {
+    for v in 0..n {
         count = number_if_marked(words, n, v, count);
-        v += 1;
     }
     count
 }

@@ -12,7 +12,7 @@ use Rattle.mesh.specs.Mesh.{Mesh}
 use Rattle.job_checks.specs.Refusals.{mesh_checks}
 use Rattle.tidy_mesh.specs.declared.Kept.{Kept}
 use Rattle.tidy_mesh.specs.declared.Outputs.{Outputs}
-use Rattle.tidy_mesh.specs.declared.TidyAnswer.TheVariants.{Refused, Tidied}
+use Rattle.refusals.specs.Numbers.{refused, given}
 use Rattle.tidy_mesh.specs.Outcome.{TidyLent, outputs_of, wrong_outputs, tidy_checks, tidy_refusal, kept_counts, tidy_left, tidy_number, TidyOutcome, tidy_by, tidy_outcome, GivesTidy}
 use Rattle.tidy_mesh.proofs.Refused.{by_mesh}
 use Rattle.c_tidy.specs.declared.SdfTidyAnswer.{SdfTidyAnswer}
@@ -21,8 +21,8 @@ use Rattle.tidy_meaning.specs.Tidied.{kept_in}
 use Rattle.tidy_meaning.specs.Refused.{tidy_numbers}
 
 pub data Replied (m : Mesh) (b : TidyLent) (o : TidyOutcome) : Type 0 where
-  as_tidied : tidy_refusal m b ≡ 0 → o.answer ≡ Tidied (kept_counts m) → o.left ≡ tidy_left m → Replied m b o
-  as_refused : (n : ℕ) → suc n ≡ tidy_refusal m b → Memᴰ (suc n) tidy_numbers → o.answer ≡ Refused (suc n) → o.left ≡ b → Replied m b o
+  as_tidied : tidy_refusal m b ≡ 0 → o.answer ≡ given (kept_counts m) → o.left ≡ tidy_left m → Replied m b o
+  as_refused : (n : ℕ) → suc n ≡ tidy_refusal m b → Memᴰ (suc n) tidy_numbers → o.answer ≡ refused (suc n) → o.left ≡ b → Replied m b o
 
 pub replied : (m : Mesh) (b : TidyLent) → Replied m b (tidy_outcome m b)
 unfolding tidy_outcome tidy_refusal
@@ -33,7 +33,7 @@ replied m b = go (tidy_refusal m b) refl (first_is (tidy_checks m b))
     go (suc n) e (inl z) = absurd (omega arith)
     go (suc n) e (inr h) = as_refused n e h refl refl
 
--- ---- answered Tidied
+-- ---- answered by the kept counts
 
 -- the mesh passed its checks, and the counts and outputs are those of the tidied mesh
 pub record WasTidied (m : Mesh) (b : TidyLent) (k : Kept) : Type 0 where
@@ -49,7 +49,7 @@ module _ (m : Mesh) (b : TidyLent) where
       go (yes z) = z
       go (no z) = absurd (z (sym (by_mesh m b z) ∙ h))
 
-  pub was_tidied : (k : Kept) → (tidy_outcome m b).answer ≡ Tidied k → WasTidied m b k
+  pub was_tidied : (k : Kept) → (tidy_outcome m b).answer ≡ given k → WasTidied m b k
   was_tidied k h = go (replied m b)
     where
       go : Replied m b (tidy_outcome m b) → WasTidied m b k
@@ -66,19 +66,19 @@ module _ {o : TidyOutcome} {answer : SdfTidyAnswer} {left : TidyLent} (g : Gives
   tidy_number_of = ap (λ (a : SdfTidyAnswer). a.number) g.answers
 
 module _ (m : Mesh) (b : TidyLent) {answer : SdfTidyAnswer} {left : TidyLent} (g : GivesTidyC (tidy_outcome m b) answer left) where
-  pub tidied_for_c : answer.number ≡ 0 → (tidy_outcome m b).answer ≡ Tidied (kept_in answer)
+  pub tidied_for_c : answer.number ≡ 0 → (tidy_outcome m b).answer ≡ given (kept_in answer)
   tidied_for_c z = go (replied m b)
     where
-      go : Replied m b (tidy_outcome m b) → (tidy_outcome m b).answer ≡ Tidied (kept_in answer)
-      go (as_tidied p a l) = a ∙ ap (λ (r : SdfTidyAnswer). Tidied (kept_in r)) (sym (g.answers ∙ ap tidy_out a))
+      go : Replied m b (tidy_outcome m b) → (tidy_outcome m b).answer ≡ given (kept_in answer)
+      go (as_tidied p a l) = a ∙ ap (λ (r : SdfTidyAnswer). given (kept_in r)) (sym (g.answers ∙ ap tidy_out a))
       go (as_refused n f i a l) = absurd (omega (arith, sym z ∙ tidy_number_of g, ap tidy_number a))
 
-  pub refused_for_c : (answer.number ≡ 0 → ⊥) → (tidy_outcome m b).answer ≡ Refused answer.number
+  pub refused_for_c : (answer.number ≡ 0 → ⊥) → (tidy_outcome m b).answer ≡ refused answer.number
   refused_for_c h = go (replied m b)
     where
-      go : Replied m b (tidy_outcome m b) → (tidy_outcome m b).answer ≡ Refused answer.number
+      go : Replied m b (tidy_outcome m b) → (tidy_outcome m b).answer ≡ refused answer.number
       go (as_tidied p a l) = absurd (h (tidy_number_of g ∙ ap tidy_number a))
-      go (as_refused n f i a l) = a ∙ ap Refused (sym (tidy_number_of g ∙ ap tidy_number a))
+      go (as_refused n f i a l) = a ∙ ap refused (sym (tidy_number_of g ∙ ap tidy_number a))
 
 -- ---- two calls with outputs of the same lengths
 

@@ -14,7 +14,7 @@ use Rattle.tidy.specs.Meaning.{Valid}
 use Rattle.tidy.proofs.Tidied.{coordinates_long, vertices_long, triangles_long}
 use Rattle.tidy.proofs.Twice.{counts_stay}
 use Rattle.tidy_mesh.specs.declared.Kept.{Kept}
-use Rattle.tidy_mesh.specs.declared.TidyAnswer.TheVariants.{Refused, Tidied}
+use Rattle.refusals.specs.Numbers.{refused, given}
 use Rattle.tidy_mesh.specs.Outcome.{TidyLent, outputs_of, wrong_outputs, kept_counts, tidy_outcome}
 use Rattle.tidy_mesh.proofs.Refused.{by_outputs, by_none}
 use Rattle.tidy_meaning.specs.Second.{OutputsFor, NothingChanged, NotRefused}
@@ -27,10 +27,10 @@ not_refused m = tidied_passes m
 
 -- what a second call comes to, with the mesh n of these counts and the outputs c: with outputs of its lengths, and where it is refused
 abbrev pub Unchanged : TidyLent → Mesh → Kept → Type 0
-Unchanged c n k = OutputsFor k c → ((tidy_outcome n c).answer ≡ Tidied k) × NothingChanged n k (tidy_outcome n c).left
+Unchanged c n k = OutputsFor k c → ((tidy_outcome n c).answer ≡ given k) × NothingChanged n k (tidy_outcome n c).left
 
 abbrev pub ByLengths : TidyLent → Mesh → Kept → Type 0
-ByLengths c n k = (j : ℕ) → (tidy_outcome n c).answer ≡ Refused j → (j ≡ 5) × (OutputsFor k c → ⊥)
+ByLengths c n k = (j : ℕ) → (tidy_outcome n c).answer ≡ refused j → (j ≡ 5) × (OutputsFor k c → ⊥)
 
 module _ (m : Mesh) (c : TidyLent) (h : first_that_applies (mesh_checks m) ≡ 0) where
   ok : Valid m
@@ -52,9 +52,9 @@ module _ (m : Mesh) (c : TidyLent) (h : first_that_applies (mesh_checks m) ≡ 0
   unchanged o = go (replied (tidied m) c)
     where
       go : Replied (tidied m) c (tidy_outcome (tidied m) c)
-          → ((tidy_outcome (tidied m) c).answer ≡ Tidied (kept_counts m))
+          → ((tidy_outcome (tidied m) c).answer ≡ given (kept_counts m))
           × NothingChanged (tidied m) (kept_counts m) (tidy_outcome (tidied m) c).left
-      go (as_tidied p a l) = (a ∙ ap Tidied counts, rw l (again_left m ok))
+      go (as_tidied p a l) = (a ∙ ap given counts, rw l (again_left m ok))
       go (as_refused n f i a l) = absurd (omega (arith, f, by_none (tidied m) c (not_refused m h) (right o)))
 
   pub by_lengths : ByLengths c (tidied m) (kept_counts m)

@@ -1,4 +1,4 @@
--- What tidying a mesh means for who calls it. A call that is answered Tidied passed every check, so the laws of the tidied mesh hold, and
+-- What tidying a mesh means for who calls it. A call that is not refused passed every check, so the laws of the tidied mesh hold, and
 -- what it left is that mesh with zeros behind it; so a second call, given what was left, is given the tidied mesh. A call from C answers by
 -- the call that it makes. Assumes nothing.
 use Prim.Native.Nat.{ℕ, suc}
@@ -11,8 +11,7 @@ use Rattle.job_checks.specs.Refusals.{mesh_checks}
 use Rattle.job_checks.proofs.MeshPassed.{mesh_passed}
 use Rattle.tidy.specs.Tidy.{tidied}
 use Rattle.tidy_mesh.specs.declared.Kept.{Kept}
-use Rattle.tidy_mesh.specs.declared.TidyAnswer.{TidyAnswer}
-use Rattle.tidy_mesh.specs.declared.TidyAnswer.TheVariants.{Tidied}
+use Rattle.refusals.specs.Numbers.{Reply, given}
 use Rattle.tidy_mesh.specs.Outcome.{TidyLent, vertices_kept, triangles_kept, kept_counts, tidy_outcome, GivesTidy}
 use Rattle.c_tidy.specs.declared.SdfTidyAnswer.{SdfTidyAnswer}
 use Rattle.c_tidy.specs.Tidy.{tidy_out}
@@ -25,7 +24,7 @@ use Rattle.tidy_meaning.proofs.Second.{Unchanged, ByLengths, unchanged, by_lengt
 
 -- ---- a call that tidies
 
-pub tidied_after_a_call : (m : Mesh) (b : TidyLent) (answer : TidyAnswer) (left : TidyLent) → TidiedAfterCall m b answer left
+pub tidied_after_a_call : (m : Mesh) (b : TidyLent) (answer : Reply Kept) (left : TidyLent) → TidiedAfterCall m b answer left
 tidied_after_a_call m b answer left gives k e =
     let w = was_tidied m b k (sym gives.answers ∙ e) in
     rw (w.counts, gives.leaves, w.leaves) (means m (mesh_passed m w.passed).indices)
@@ -39,8 +38,8 @@ one_meaning m k left p = only_this m k left p
 -- ---- a second call
 
 -- what is true of the tidied mesh and its counts is true of the mesh that a call leaves and of the counts that it answers
-of_left : (m : Mesh) (b : TidyLent) {answer : TidyAnswer} {left : TidyLent} → GivesTidy (tidy_outcome m b) answer left
-    → (k : Kept) → answer ≡ Tidied k
+of_left : (m : Mesh) (b : TidyLent) {answer : Reply Kept} {left : TidyLent} → GivesTidy (tidy_outcome m b) answer left
+    → (k : Kept) → answer ≡ given k
     → (P : Mesh → Kept → Type 0) → (first_that_applies (mesh_checks m) ≡ 0 → P (tidied m) (kept_counts m))
     → P (mesh_left k left) k
 of_left m b {answer} {left} gives k e P h =
@@ -48,7 +47,7 @@ of_left m b {answer} {left} gives k e P h =
     subst (λ (n : Mesh). P n k) (sym (tidied_after_a_call m b answer left gives k e).is_tidied)
     (subst (P (tidied m)) (sym w.counts) (h w.passed))
 
-pub twice_after_calls : (m : Mesh) (b : TidyLent) (answer : TidyAnswer) (left c : TidyLent) (again : TidyAnswer) (second : TidyLent)
+pub twice_after_calls : (m : Mesh) (b : TidyLent) (answer : Reply Kept) (left c : TidyLent) (again : Reply Kept) (second : TidyLent)
     → TwiceAfterCalls m b answer left c again second
 twice_after_calls m b answer left c again second gives k e o more =
     let s = of_left m b gives k e (Unchanged c) (unchanged m c) o in
@@ -61,7 +60,7 @@ twice_after_calls_from_c m b answer left c again second gives z o more =
     let s = twice_after_calls m b _ left c _ second (of_c gives) (kept_in answer) (tidied_for_c m b gives z) o (of_c more) in
     (more.answers ∙ ap tidy_out s.0 ∙ sym gives.answers, s.1)
 
-pub only_for_lengths : (m : Mesh) (b : TidyLent) (answer : TidyAnswer) (left c second : TidyLent) → OnlyForLengths m b answer left c second
+pub only_for_lengths : (m : Mesh) (b : TidyLent) (answer : Reply Kept) (left c second : TidyLent) → OnlyForLengths m b answer left c second
 only_for_lengths m b answer left c second gives k e j more = of_left m b gives k e (ByLengths c) (by_lengths m c) j (sym more.answers)
 
 pub only_for_lengths_from_c : (m : Mesh) (b : TidyLent) (answer : SdfTidyAnswer) (left c : TidyLent) (again : SdfTidyAnswer)
@@ -74,7 +73,7 @@ only_for_lengths_from_c m b answer left c again second gives z more h =
 
 -- ---- a call that is refused
 
-pub refused_after_call : (m : Mesh) (b : TidyLent) (answer : TidyAnswer) (left : TidyLent) → RefusedAfterCall m b answer left
+pub refused_after_call : (m : Mesh) (b : TidyLent) (answer : Reply Kept) (left : TidyLent) → RefusedAfterCall m b answer left
 refused_after_call m b answer left gives j e = (go (replied m b), ap vertices_kept e, ap triangles_kept e)
   where
     go : Replied m b (tidy_outcome m b) → TidyRefused m b j left
@@ -94,7 +93,7 @@ refused_after_call_from_c m b answer left gives h =
 
 -- ---- one outcome
 
-pub one_outcome_tidy : (m : Mesh) (b : TidyLent) (answer : TidyAnswer) (left b' : TidyLent) (answer' : TidyAnswer) (left' : TidyLent)
+pub one_outcome_tidy : (m : Mesh) (b : TidyLent) (answer : Reply Kept) (left b' : TidyLent) (answer' : Reply Kept) (left' : TidyLent)
     → OneOutcomeTidy m b answer left b' answer' left'
 one_outcome_tidy m b answer left b' answer' left' p q e =
     record {

@@ -3,8 +3,8 @@
 use Rattle.std.specs.Prelude.{ℕ, ◌≡◌}
 use mathlib.Core.List.{List, [], ◌∷◌, Memᴰ}
 use Rattle.mesh.specs.Mesh.{Mesh}
-use Rattle.tidy_mesh.specs.declared.TidyAnswer.{TidyAnswer}
-use Rattle.tidy_mesh.specs.declared.TidyAnswer.TheVariants.{Refused}
+use Rattle.refusals.specs.Numbers.{Reply, refused}
+use Rattle.tidy_mesh.specs.declared.Kept.{Kept}
 use Rattle.tidy_mesh.specs.Outcome.{TidyLent, outputs_of, tidy_refusal, tidy_number, vertices_kept, triangles_kept, tidy_outcome, GivesTidy}
 use Rattle.c_tidy.specs.declared.SdfTidyAnswer.{SdfTidyAnswer}
 use Rattle.c_tidy.specs.Tidy.{GivesTidyC}
@@ -19,10 +19,10 @@ pub record TidyRefused (m : Mesh) (b : TidyLent) (j : ℕ) (left : TidyLent) : T
   pub one_of : Memᴰ j tidy_numbers
   pub unchanged : left ≡ b
 
--- of a call of the public function; both counts are 0
-abbrev pub RefusedAfterCall : Mesh → TidyLent → TidyAnswer → TidyLent → Type 0
+-- of a call of the public function, by the reply that its answer is; both counts are 0
+abbrev pub RefusedAfterCall : Mesh → TidyLent → Reply Kept → TidyLent → Type 0
 RefusedAfterCall m b answer left =
-    GivesTidy (tidy_outcome m b) answer left → (j : ℕ) → answer ≡ Refused j
+    GivesTidy (tidy_outcome m b) answer left → (j : ℕ) → answer ≡ refused j
     → TidyRefused m b j left × (vertices_kept answer ≡ 0) × (triangles_kept answer ≡ 0)
 
 -- of a call from C: any number but 0 is a refusal
@@ -41,7 +41,7 @@ pub record SameTidying {A : Type 0} (answer answer' : A) (number : ℕ) (b left 
   pub lent_alike : b ≡ b' → left ≡ left'
 
 -- so it is of calls with one mesh and outputs of the same lengths, whatever the outputs held
-abbrev pub OneOutcomeTidy : Mesh → TidyLent → TidyAnswer → TidyLent → TidyLent → TidyAnswer → TidyLent → Type 0
+abbrev pub OneOutcomeTidy : Mesh → TidyLent → Reply Kept → TidyLent → TidyLent → Reply Kept → TidyLent → Type 0
 OneOutcomeTidy m b answer left b' answer' left' =
     GivesTidy (tidy_outcome m b) answer left → GivesTidy (tidy_outcome m b') answer' left' → outputs_of b ≡ outputs_of b'
     → SameTidying answer answer' (tidy_number answer) b left b' left'

@@ -7,9 +7,8 @@ use Rattle.lists.specs.Table.{table}
 use Rattle.mesh.specs.Mesh.{Mesh}
 use Rattle.job_checks.specs.Refusals.{mesh_checks}
 use Rattle.tidy.specs.Tidy.{tidied}
+use Rattle.refusals.specs.Numbers.{Reply, refused, given}
 use Rattle.tidy_mesh.specs.declared.Kept.{Kept}
-use Rattle.tidy_mesh.specs.declared.TidyAnswer.{TidyAnswer}
-use Rattle.tidy_mesh.specs.declared.TidyAnswer.TheVariants.{Refused, Tidied}
 use Rattle.tidy_mesh.specs.Outcome.{TidyLent, tidy_outcome, GivesTidy}
 use Rattle.c_tidy.specs.declared.SdfTidyAnswer.{SdfTidyAnswer}
 use Rattle.c_tidy.specs.Tidy.{GivesTidyC}
@@ -30,11 +29,11 @@ pub record NothingChanged (n : Mesh) (k : Kept) (left : TidyLent) : Type 0 where
   pub none_merged : left.firsts ≡ table (λ v. v) k.vertices
   pub none_dropped : left.causes ≡ replicate k.triangles 0
 
--- The first call, with m and b, was answered Tidied and left a mesh; the second was given that mesh and outputs c of its lengths. It
+-- The first call, with m and b, was answered the kept counts and left a mesh; the second was given that mesh and outputs c of its lengths. It
 -- answers the same, both counts too, and nothing has changed.
-abbrev pub TwiceAfterCalls : Mesh → TidyLent → TidyAnswer → TidyLent → TidyLent → TidyAnswer → TidyLent → Type 0
+abbrev pub TwiceAfterCalls : Mesh → TidyLent → Reply Kept → TidyLent → TidyLent → Reply Kept → TidyLent → Type 0
 TwiceAfterCalls m b answer left c again second =
-    GivesTidy (tidy_outcome m b) answer left → (k : Kept) → answer ≡ Tidied k
+    GivesTidy (tidy_outcome m b) answer left → (k : Kept) → answer ≡ given k
     → OutputsFor k c → GivesTidy (tidy_outcome (mesh_left k left) c) again second
     → (again ≡ answer) × NothingChanged (mesh_left k left) k second
 
@@ -46,10 +45,10 @@ TwiceAfterCallsFromC m b answer left c again second =
     → (again ≡ answer) × NothingChanged (mesh_left k left) k second
 
 -- With outputs of any lengths, a second call that is refused is refused by 5, and for their lengths.
-abbrev pub OnlyForLengths : Mesh → TidyLent → TidyAnswer → TidyLent → TidyLent → TidyLent → Type 0
+abbrev pub OnlyForLengths : Mesh → TidyLent → Reply Kept → TidyLent → TidyLent → TidyLent → Type 0
 OnlyForLengths m b answer left c second =
-    GivesTidy (tidy_outcome m b) answer left → (k : Kept) → answer ≡ Tidied k
-    → (j : ℕ) → GivesTidy (tidy_outcome (mesh_left k left) c) (Refused j) second
+    GivesTidy (tidy_outcome m b) answer left → (k : Kept) → answer ≡ given k
+    → (j : ℕ) → GivesTidy (tidy_outcome (mesh_left k left) c) (refused j) second
     → (j ≡ 5) × (OutputsFor k c → ⊥)
 
 abbrev pub OnlyForLengthsFromC : Mesh → TidyLent → SdfTidyAnswer → TidyLent → TidyLent → SdfTidyAnswer → TidyLent → Type 0

@@ -9,8 +9,7 @@ use Rattle.tidy.specs.Padded.{plus_zero}
 use Rattle.tidy.specs.Tidy.{vertex_total, triangle_total, is_kept, tidied}
 use Rattle.tidy.specs.Meaning.{First, Listed, Clean, Retained, Squeezed}
 use Rattle.tidy_mesh.specs.declared.Kept.{Kept}
-use Rattle.tidy_mesh.specs.declared.TidyAnswer.{TidyAnswer}
-use Rattle.tidy_mesh.specs.declared.TidyAnswer.TheVariants.{Tidied}
+use Rattle.refusals.specs.Numbers.{Reply, given}
 use Rattle.tidy_mesh.specs.Outcome.{TidyLent, kept_counts, tidy_left, tidy_outcome, GivesTidy}
 use Rattle.c_tidy.specs.declared.SdfTidyAnswer.{SdfTidyAnswer}
 use Rattle.c_tidy.specs.Tidy.{GivesTidyC}
@@ -49,9 +48,10 @@ OneMeaning m k left = TidyMeans m k left → (k ≡ kept_counts m) × (left ≡ 
 
 -- ---- of calls
 
--- of a call of the public function, by its contract: it was given the mesh m and lent the outputs b, and it answered and left this
-abbrev pub TidiedAfterCall : Mesh → TidyLent → TidyAnswer → TidyLent → Type 0
-TidiedAfterCall m b answer left = GivesTidy (tidy_outcome m b) answer left → (k : Kept) → answer ≡ Tidied k → TidyMeans m k left
+-- of a call of the public function, by its contract: it was given the mesh m and lent the outputs b, and it answered (in numbers, as
+-- the documents do) and left this
+abbrev pub TidiedAfterCall : Mesh → TidyLent → Reply Kept → TidyLent → Type 0
+TidiedAfterCall m b answer left = GivesTidy (tidy_outcome m b) answer left → (k : Kept) → answer ≡ given k → TidyMeans m k left
 
 -- the same of a call from C, which is answered a number and both counts
 abbrev pub kept_in : SdfTidyAnswer → Kept

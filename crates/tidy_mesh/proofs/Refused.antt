@@ -1,39 +1,44 @@
 -- The outcome by the number that is given; and what is known where it is 0: each test that did not apply is a fact. Assumes nothing.
 use Prim.Native.Nat.{ℕ, zero, suc, ◌*◌}
 use native.Mathlib.Omega.{arith}
-use mathlib.Core.Path.{◌≡◌, refl, ap, ◌∙◌}
+use mathlib.Core.Path.{◌≡◌, refl, sym, ap, ◌∙◌}
 use mathlib.Core.Bool.{Bool, true, false, not, cond, ◌||◌}
 use mathlib.Core.List.{List, [], ◌∷◌}
 use lib.Dec.{eqb}
 use lib.ListN.{length}
 use borrow.Author.Tests.{eqb-true, not-false}
+use Rattle.std.specs.Prelude.{Result, Err}
 use Rattle.lists.specs.Checks.{Check, first_that_applies}
 use Rattle.lists.proofs.Checks.{neither, by_group, past_group}
 use Rattle.mesh.specs.Mesh.{Mesh}
 use Rattle.job_checks.specs.Refusals.{mesh_checks}
+use Rattle.refusals.specs.declared.Refusal.{Refusal}
+use Rattle.refusals.specs.Numbers.{number_of, refused, given, reply_of}
+use Rattle.job_checks.proofs.HandedUp.{not_0}
 use Rattle.job_checks.proofs.MeshPassed.{mesh_passed}
 use Rattle.tidy.specs.Tidy.{vertex_total, triangle_total}
 use Rattle.tidy_mesh.specs.declared.Kept.{Kept}
-use Rattle.tidy_mesh.specs.declared.TidyAnswer.TheVariants.{Refused, Tidied}
 use Rattle.tidy_mesh.specs.Outcome.{TidyLent, outputs_of, wrong_outputs, tidy_refusal, kept_counts, tidy_left, tidy_by, tidy_outcome, GivesTidy, Tidyable}
 
 module _ (m : Mesh) (b : TidyLent) where
   -- ---- the outcome by the number
 
-  gives_refusal : (n : ℕ) → (n ≡ 0 → ⊥) → GivesTidy (tidy_by n m b) (Refused n) b
+  gives_refusal : (n : ℕ) → (n ≡ 0 → ⊥) → GivesTidy (tidy_by n m b) (refused n) b
   gives_refusal zero h = absurd (h refl)
   gives_refusal (suc n) h = record { answers = refl; number = refl; vertices = refl; triangles = refl; leaves = refl }
 
-  pub refused_by_lem : (n : ℕ) → tidy_refusal m b ≡ n → (n ≡ 0 → ⊥) → GivesTidy (tidy_outcome m b) (Refused n) b
+  -- an answer by the refusal that has that number
+  pub refused_by_lem : {answer : Result Kept Refusal} (r : Refusal) → answer ≡ Err r → number_of r ≡ tidy_refusal m b
+      → GivesTidy (tidy_outcome m b) (reply_of answer) b
   unfolding tidy_outcome
-  refused_by_lem n e h = rw e (gives_refusal n h)
+  refused_by_lem r e h = rw (e, sym h) (gives_refusal (number_of r) (not_0 r refl))
 
   pub tidied_by_lem : {k : Kept} {left : TidyLent} → tidy_refusal m b ≡ 0 → k ≡ kept_counts m → left ≡ tidy_left m
-      → GivesTidy (tidy_outcome m b) (Tidied k) left
+      → GivesTidy (tidy_outcome m b) (given k) left
   unfolding tidy_outcome
   tidied_by_lem e f g =
       rw e (record {
-        answers = ap Tidied f;
+        answers = ap given f;
         number = refl;
         vertices = ap (λ (k : Kept). k.vertices) f;
         triangles = ap (λ (k : Kept). k.triangles) f;

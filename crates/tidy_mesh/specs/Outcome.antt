@@ -3,6 +3,7 @@
 -- a triangle (0 kept, or the cause)." It is one function of the mesh and of the outputs as they are lent. Definitions only.
 use Rattle.std.specs.Prelude.{ℕ, zero, suc, ◌*◌, ◌%◌, ◌≤◌, ◌≡◌, Bool, not, ◌||◌, List, [], ◌∷◌, ◌++◌, eqb, length, Float}
 use Rattle.lists.specs.Checks.{Check, first_that_applies}
+use Rattle.refusals.specs.Numbers.{Reply, refused, given}
 use Rattle.mesh.specs.Mesh.{Mesh}
 use Rattle.mesh_explicit.specs.Explicit.{explicit}
 use Rattle.job_checks.specs.Refusals.{mesh_checks}
@@ -11,8 +12,6 @@ use Rattle.tidy.specs.Tidy.{vertex_total, triangle_total, kept_vertices, kept_tr
 use Rattle.tidy.specs.Meaning.{Valid}
 use Rattle.tidy_mesh.specs.declared.Kept.{Kept}
 use Rattle.tidy_mesh.specs.declared.Outputs.{Outputs}
-use Rattle.tidy_mesh.specs.declared.TidyAnswer.{TidyAnswer}
-use Rattle.tidy_mesh.specs.declared.TidyAnswer.TheVariants.{Refused, Tidied}
 
 -- the lent outputs
 pub record TidyLent : Type 0 where
@@ -66,13 +65,14 @@ abbrev pub kept_counts : Mesh → Kept
 kept_counts m = record { vertices = kept_vertices m; triangles = kept_triangles m }
 
 pub record TidyOutcome : Type 0 where
-  pub answer : TidyAnswer
+  -- refused by its number, or tidied, with what is kept
+  pub answer : Reply Kept
   -- what each lent output then holds
   pub left : TidyLent
 
 abbrev pub tidy_by : ℕ → Mesh → TidyLent → TidyOutcome
-tidy_by zero m b = record { answer = Tidied (kept_counts m); left = tidy_left m }
-tidy_by (suc n) m b = record { answer = Refused (suc n); left = b }
+tidy_by zero m b = record { answer = given (kept_counts m); left = tidy_left m }
+tidy_by (suc n) m b = record { answer = refused (suc n); left = b }
 
 unfoldable pub tidy_outcome : Mesh → TidyLent → TidyOutcome
 tidy_outcome m b = tidy_by (tidy_refusal m b) m b
@@ -80,20 +80,20 @@ tidy_outcome m b = tidy_by (tidy_refusal m b) m b
 -- ---- what a call promises
 
 -- the number of an answer, 0 where nothing is refused; and the kept counts, 0 on a refusal
-abbrev pub tidy_number : TidyAnswer → ℕ
-tidy_number (Refused n) = n
-tidy_number (Tidied k) = 0
+abbrev pub tidy_number : Reply Kept → ℕ
+tidy_number (refused n) = n
+tidy_number (given k) = 0
 
-abbrev pub vertices_kept : TidyAnswer → ℕ
-vertices_kept (Refused n) = 0
-vertices_kept (Tidied k) = k.vertices
+abbrev pub vertices_kept : Reply Kept → ℕ
+vertices_kept (refused n) = 0
+vertices_kept (given k) = k.vertices
 
-abbrev pub triangles_kept : TidyAnswer → ℕ
-triangles_kept (Refused n) = 0
-triangles_kept (Tidied k) = k.triangles
+abbrev pub triangles_kept : Reply Kept → ℕ
+triangles_kept (refused n) = 0
+triangles_kept (given k) = k.triangles
 
--- its answer, by number and kept counts, and what it leaves in each lent output are those of the outcome
-pub record GivesTidy (o : TidyOutcome) (answer : TidyAnswer) (left : TidyLent) : Type 0 where
+-- the reply that its answer is, by number and kept counts, and what it leaves in each lent output are those of the outcome
+pub record GivesTidy (o : TidyOutcome) (answer : Reply Kept) (left : TidyLent) : Type 0 where
   pub answers : answer ≡ o.answer
   pub number : tidy_number answer ≡ tidy_number o.answer
   pub vertices : vertices_kept answer ≡ vertices_kept o.answer

@@ -4,25 +4,20 @@
 #![tactic(auto)]
 
 ghost use Rattle.std.specs.Prelude.{◌≡◌, ◌≤◌};
+ghost use Rattle.refusals.specs.Numbers.{reply_of};
 ghost use Rattle.tidy.specs.Tidy.{triangle_total};
-ghost use Rattle.mesh.specs.Mesh.{mesh_of};
+ghost use Rattle.mesh.specs.Lent.{mesh_in};
 ghost use Rattle.tidy_mesh.specs.Outcome.{tidy_lent_of, outputs_of, wrong_outputs, Tidyable, Found};
 ghost use Rattle.tidy_mesh.specs.Outcome.{tidy_left, kept_counts, tidy_outcome, GivesTidy};
 
-use mesh_topology::{Indices, Topology};
+use mesh::Mesh;
+use refusals::Refusal;
 
 // How many vertices and triangles are kept.
 #[derive(Clone, Copy)]
 pub struct Kept {
     pub vertices: u32,
     pub triangles: u32,
-}
-
-// What tidying is answered: refused by its number, or tidied, with what is kept.
-#[derive(Clone, Copy)]
-pub enum TidyAnswer {
-    Refused(u32),
-    Tidied(Kept),
 }
 
 // How long the lent outputs are.
@@ -36,19 +31,16 @@ pub struct Outputs {
 
 // 5: a lent output of a wrong length.
 fn wrong_outputs(
-    vertices: &[f32],
-    topology: Topology,
-    given: Indices,
-    indices: &[u32],
+    mesh: Mesh,
     l: Outputs,
 ) -> bool
-    requires { triangle_total (mesh_of vertices.now topology given indices.now) ≤ 131072 }
-    ensures { let m = mesh_of vertices.now topology given indices.now in
+    requires { triangle_total (mesh_in mesh) ≤ 131072 }
+    ensures { let m = mesh_in mesh.entry in
         result ≡ wrong_outputs m l }
 {
-    let count = vertices.len() / 3;
-    let triangles = mesh_topology::triangle_count(topology, given, indices, count);
-    (l.coordinates != vertices.len())
+    let count = mesh.vertices.len() / 3;
+    let triangles = mesh_topology::triangle_count(mesh.topology, mesh.given, mesh.indices, count);
+    (l.coordinates != mesh.vertices.len())
         | (l.indices != 3 * triangles)
         | (l.firsts != count)
         | (l.causes != triangles)
@@ -56,35 +48,32 @@ fn wrong_outputs(
 
 // Puts what is kept together, by the firsts and the causes.
 fn squeeze(
-    vertices: &[f32],
-    topology: Topology,
-    given: Indices,
-    indices: &[u32],
+    mesh: Mesh,
     firsts: &[u32],
     causes: &[u32],
     coordinates: &mut [f32],
     listed: &mut [u32],
 ) -> Kept
-    requires fact { let m = mesh_of vertices.now topology given indices.now in
+    requires fact { let m = mesh_in mesh in
         Tidyable m (tidy_lent_of coordinates.old listed.old firsts.now causes.now) }
-    requires found { Found (mesh_of vertices.now topology given indices.now) firsts.now causes.now }
-    ensures value { result ≡ kept_counts (mesh_of vertices.now topology given indices.now) }
-    ensures fact_2 { let m = mesh_of vertices.now topology given indices.now in
+    requires found { Found (mesh_in mesh) firsts.now causes.now }
+    ensures value { result ≡ kept_counts (mesh_in mesh.entry) }
+    ensures fact_2 { let m = mesh_in mesh.entry in
         (coordinates.new ≡ (tidy_left m).coordinates) × (listed.new ≡ (tidy_left m).indices) }
 {
-    tidy_marks::mark_used(topology, given, indices, firsts, causes, coordinates);
+    tidy_marks::mark_used(mesh.topology, mesh.given, mesh.indices, firsts, causes, coordinates);
     let n = firsts.len();
     let kept_vertices = tidy_marks::number_marked(coordinates, n);
     let kept_triangles = tidy_squeeze::list_kept(
-        topology,
-        given,
-        indices,
+        mesh.topology,
+        mesh.given,
+        mesh.indices,
         firsts,
         causes,
         coordinates,
         listed,
     );
-    tidy_squeeze::pack(vertices, coordinates, n);
+    tidy_squeeze::pack(mesh.vertices, coordinates, n);
     Kept {
         vertices: kept_vertices,
         triangles: kept_triangles as u32,
@@ -93,29 +82,23 @@ fn squeeze(
 
 // Tidies a mesh that is not refused.
 fn tidy_accepted(
-    vertices: &[f32],
-    topology: Topology,
-    given: Indices,
-    indices: &[u32],
+    mesh: Mesh,
     coordinates: &mut [f32],
     listed: &mut [u32],
     firsts: &mut [u32],
     causes: &mut [u32],
 ) -> Kept
-    requires { let m = mesh_of vertices.now topology given indices.now in
+    requires { let m = mesh_in mesh in
         Tidyable m (tidy_lent_of coordinates.old listed.old firsts.old causes.old) }
-    ensures value { result ≡ kept_counts (mesh_of vertices.now topology given indices.now) }
-    ensures left_after { let m = mesh_of vertices.now topology given indices.now in
+    ensures value { result ≡ kept_counts (mesh_in mesh.entry) }
+    ensures left_after { let m = mesh_in mesh.entry in
         let left = tidy_lent_of coordinates.new listed.new firsts.new causes.new in
         left ≡ tidy_left m }
 {
-    tidy_firsts::find_firsts(vertices, coordinates, firsts);
-    tidy_causes::find_causes(topology, given, indices, firsts, listed, causes);
+    tidy_firsts::find_firsts(mesh.vertices, coordinates, firsts);
+    tidy_causes::find_causes(mesh.topology, mesh.given, mesh.indices, firsts, listed, causes);
     squeeze(
-        vertices,
-        topology,
-        given,
-        indices,
+        mesh,
         firsts,
         causes,
         coordinates,
@@ -128,42 +111,33 @@ fn tidy_accepted(
 // coordinates and indices, in its order; `firsts` has each vertex's first, `causes` why each triangle went, or 0. On a refusal
 // nothing is changed.
 pub fn tidy_mesh(
-    vertices: &[f32],
-    topology: Topology,
-    given: Indices,
-    indices: &[u32],
+    mesh: Mesh,
     coordinates: &mut [f32],
     listed: &mut [u32],
     firsts: &mut [u32],
     causes: &mut [u32],
-) -> TidyAnswer
-    ensures { let m = mesh_of vertices.now topology given indices.now in
+) -> Result<Kept, Refusal>
+    ensures { let m = mesh_in mesh.entry in
         let lent = tidy_lent_of coordinates.old listed.old firsts.old causes.old in
         let left = tidy_lent_of coordinates.new listed.new firsts.new causes.new in
-        GivesTidy (tidy_outcome m lent) result left }
+        GivesTidy (tidy_outcome m lent) (reply_of result) left }
 {
-    let by_mesh = job_checks::mesh_refusal(vertices, topology, given, indices);
-    if by_mesh != 0 {
-        return TidyAnswer::Refused(by_mesh);
-    }
+    job_checks::mesh_refusal(mesh)?;
     let l = Outputs {
         coordinates: coordinates.len(),
         indices: listed.len(),
         firsts: firsts.len(),
         causes: causes.len(),
     };
-    if wrong_outputs(vertices, topology, given, indices, l) {
-        return TidyAnswer::Refused(5);
+    if wrong_outputs(mesh, l) {
+        return Err(Refusal::WrongLength);
     }
     let kept = tidy_accepted(
-        vertices,
-        topology,
-        given,
-        indices,
+        mesh,
         coordinates,
         listed,
         firsts,
         causes,
     );
-    TidyAnswer::Tidied(kept)
+    Ok(kept)
 }

@@ -91,13 +91,11 @@ pub fn list_kept(
         let listed = joined (λ i. numbers (select kept n i)) (count_below kept n) in
         out.new ≡ padded 0 (length out.old) listed }
 {
-    let mut k = 0;
     let mut at = 0;
-    while k < causes.len() {
+    for k in 0..causes.len() {
         at = list_if_kept(topology, given, indices, firsts, causes, words, out, at, k);
-        k += 1;
     }
-    slices::fill_numbers(&mut out[at..], 0);
+    out[at..].fill(0);
     at / 3
 }
 
@@ -136,11 +134,9 @@ pub fn pack(vertices: &[f32], words: &mut [f32], n: usize)
         let packed = joined (λ i. coordinates_at vertices.now (select marked n i)) (count_below marked n) in
         words.new ≡ padded plus_zero (length old) packed }
 {
-    let mut v = 0;
     let mut at = 0;
-    while v < n {
+    for v in 0..n {
         at = put_if_marked(vertices, words, n, at, v);
-        v += 1;
     }
-    slices::fill_floats(&mut words[at..], 0.0);
+    words[at..].fill(0.0);
 }

@@ -25,9 +25,8 @@ use Rattle.run.proofs.Standing.{input_stood, field_by_stood, crossings_by_stood,
 use Rattle.job_checks.specs.Job.{Job, Lent}
 use Rattle.job_checks.specs.Refusals.{refusal_by, wrong_lengths, lengths_of, wrong_edition, mesh_checks}
 use Rattle.job_checks.proofs.Accepted.{Fits, accepted}
-use Rattle.job_outcome.specs.declared.Answer.{Answer}
-use Rattle.job_outcome.specs.declared.Answer.TheVariants.{Done}
-use Rattle.job_outcome.specs.Outcome.{ended, run_of, unless_refused, outcome}
+use Rattle.refusals.specs.Numbers.{given}
+use Rattle.job_outcome.specs.Outcome.{Answer, ended, run_of, unless_refused, outcome}
 use Rattle.upright_meaning.specs.Upright.{other_table, SameButRows, IsAccepted, BothAccepted, OnlyRowsDiffer, OnlyRowsDifferAfterCalls, LentAlike, RefusedAlike}
 
 -- ---- both accepted
@@ -65,7 +64,7 @@ module _ (j : Job) (u e : ℕ) (b c : Lent) (both : BothAccepted j u e b c) wher
   unfolding ended
   same_end (goes s) =
       record {
-        answer = ap (λ (n : ℕ). Done (record { pops = s.pops; peak = s.peak; grazed = n })) (sym (grazed_by_stood u j.grid j.mesh j.sign));
+        answer = ap (λ (n : ℕ). given (record { pops = s.pops; peak = s.peak; grazed = n })) (sym (grazed_by_stood u j.grid j.mesh j.sign));
         field = sym (field_by_stood u j.grid j.mesh j.sign s.field);
         names = refl;
         crossings = sym (crossings_by_stood u j.grid j.mesh j.sign);

@@ -6,8 +6,8 @@ use Rattle.std.specs.Prelude.{ℕ, ◌≤◌, ◌≡◌, ◌⊎◌, length}
 use Rattle.grid.specs.Layers.{layers, stood}
 use Rattle.job_checks.specs.Job.{Job, Lent}
 use Rattle.job_checks.specs.Refusals.{refusal}
-use Rattle.job_outcome.specs.declared.Answer.{Answer}
-use Rattle.job_outcome.specs.Outcome.{Outcome, Gives, outcome}
+use Rattle.refusals.specs.Numbers.{reply_of}
+use Rattle.job_outcome.specs.Outcome.{Answer, Outcome, Gives, outcome}
 
 -- the same job asked for another table: with axis u upright, in edition e
 abbrev pub other_table : ℕ → ℕ → Job → Job
@@ -43,7 +43,7 @@ OnlyRowsDiffer j u e b c = BothAccepted j u e b c → SameButRows (outcome j b) 
 abbrev pub OnlyRowsDifferAfterCalls : Job → ℕ → ℕ → Lent → Lent → Answer → Lent → Answer → Lent → Type 0
 OnlyRowsDifferAfterCalls j u e b c answer left answer' left' =
     BothAccepted j u e b c → Gives (outcome j b) answer left → Gives (outcome (other_table u e j) c) answer' left'
-    → SameButRows (record { answer = answer; left = left }) (record { answer = answer'; left = left' })
+    → SameButRows (record { answer = reply_of answer; left = left }) (record { answer = reply_of answer'; left = left' })
 
 -- ---- and which jobs are accepted
 

@@ -1,27 +1,29 @@
 -- `entries_generate::generate_grid_sdf_records`: the refusals that change nothing, or the row cleared, the run and what follows it; and the row cleared again
 -- where the run was refused. Each is a law of Records.antt. Assumes nothing.
+use mathlib.Core.Path.{refl}
 use Rattle.mesh.specs.Mesh.{mesh_of}
-use Rattle.entries_generate.proofs.Records.{refused_first, fits, is_long, seeds, field_long, done_with, cleared_after}
+use Rattle.entries_generate.proofs.Records.{refused_first, fits, is_long, seeds, field_long, ends, done_with, cleared_after}
+use Rattle.mesh.specs.Lent.{mesh_in}
 use Rattle.entries_generate.proofs.generate_grid_sdf_records.Goals as goal
 
-pub returns-then-begun-ne0 : goal.returns-then-begun-ne0
-returns-then-begun-ne0 c =
+pub returns-in_err-seeded : goal.returns-in_err-seeded
+returns-in_err-seeded c =
     let a = c.args in
     let t = a.terms in
-    let b = c.begin-begun in
-    refused_first a.grid (mesh_of a.vertices.now a.topology a.given a.indices.now) t.sign t.limit t.edition a.field.now a.names.now a.crossings.now a.rows.now a.queue.now
-    b.new.field b.new.names b.result b.ensures c.refused.result c.refused.ensures c.if-begun-ne0.true
+    let b = c.begin in
+    refused_first a.grid (mesh_in a.mesh) t.sign t.limit t.edition a.field.now a.names.now a.crossings.now a.rows.now a.queue.now
+    b.new.field b.new.names _ c.in_err-seeded.ensures _ c.in_err-seeded.field-0.0 c.from_residual.ensures.1 refl
 
 pub run_row-ran-requires : goal.run_row-ran-requires
 run_row-ran-requires c =
     let a = c.args in
     let t = a.terms in
-    let m = mesh_of a.vertices.now a.topology a.given a.indices.now in
-    let b = c.begin-begun in
-    let z = c.if-begun-ne0.false in
+    let m = mesh_in a.mesh in
+    let b = c.begin in
+    let z = c.in_ok-seeded.was in
     let q = c.clear in (
-      fits a.grid m t.sign t.limit t.edition a.field.now a.names.now a.crossings.now a.rows.now a.queue.now b.new.field b.new.names b.result b.ensures z,
-      seeds a.grid m t.sign t.limit t.edition a.field.now a.names.now a.crossings.now a.rows.now a.queue.now b.new.field b.new.names b.result b.ensures z
+      fits a.grid m t.sign t.limit t.edition a.field.now a.names.now a.crossings.now a.rows.now a.queue.now b.new.field b.new.names b.result b.ensures _ z,
+      seeds a.grid m t.sign t.limit t.edition a.field.now a.names.now a.crossings.now a.rows.now a.queue.now b.new.field b.new.names b.result b.ensures _ z
           b.auto.field b.auto.names q.new.row q.auto.row q.ensures,
     )
 
@@ -29,30 +31,37 @@ pub close-answer-requires : goal.close-answer-requires
 close-answer-requires c =
     let a = c.args in
     let t = a.terms in
-    let m = mesh_of a.vertices.now a.topology a.given a.indices.now in
-    let b = c.begin-begun in
-    let z = c.if-begun-ne0.false in
+    let m = mesh_in a.mesh in
+    let b = c.begin in
+    let z = c.in_ok-seeded.was in
     let q = c.clear in
-    let r = c.run_row-ran in (
-      fits a.grid m t.sign t.limit t.edition a.field.now a.names.now a.crossings.now a.rows.now a.queue.now b.new.field b.new.names b.result b.ensures z,
-      field_long a.grid m t.sign t.limit t.edition a.field.now a.names.now a.crossings.now a.rows.now a.queue.now b.new.field b.new.names b.result b.ensures z
+    let r = c.run_row-ran in
+    record {
+      lent = (
+        fits a.grid m t.sign t.limit t.edition a.field.now a.names.now a.crossings.now a.rows.now a.queue.now b.new.field b.new.names b.result b.ensures _ z,
+        field_long a.grid m t.sign t.limit t.edition a.field.now a.names.now a.crossings.now a.rows.now a.queue.now b.new.field b.new.names b.result b.ensures _ z
+            b.auto.field b.auto.names q.new.row q.auto.row q.ensures
+            r.new.field r.new.names r.new.row r.result r.auto.field r.auto.names r.auto.row r.ensures,
+        is_long a.grid m t.sign t.limit t.edition a.field.now a.names.now a.crossings.now a.rows.now a.queue.now b.new.field b.new.names b.result b.ensures _ z,
+      );
+      ends =
+          ends a.grid m t.sign t.limit t.edition a.field.now a.names.now a.crossings.now a.rows.now a.queue.now b.new.field b.new.names b.result b.ensures _ z
           b.auto.field b.auto.names q.new.row q.auto.row q.ensures
-          r.new.field r.new.names r.new.row r.result r.auto.field r.auto.names r.auto.row r.ensures,
-      is_long a.grid m t.sign t.limit t.edition a.field.now a.names.now a.crossings.now a.rows.now a.queue.now b.new.field b.new.names b.result b.ensures z,
-    )
+          r.new.field r.new.names r.new.row r.result r.auto.field r.auto.names r.auto.row r.ensures;
+    }
 
 -- nothing waits
 pub returns-then-ran-eq0 : goal.returns-then-ran-eq0
 returns-then-ran-eq0 c =
     let a = c.args in
     let t = a.terms in
-    let m = mesh_of a.vertices.now a.topology a.given a.indices.now in
-    let b = c.begin-begun in
-    let z = c.if-begun-ne0.false in
+    let m = mesh_in a.mesh in
+    let b = c.begin in
+    let z = c.in_ok-seeded.was in
     let q = c.clear in
     let r = c.run_row-ran in
     let e = c.close-answer in
-    done_with a.grid m t.sign t.limit t.edition a.field.now a.names.now a.crossings.now a.rows.now a.queue.now b.new.field b.new.names b.result b.ensures z
+    done_with a.grid m t.sign t.limit t.edition a.field.now a.names.now a.crossings.now a.rows.now a.queue.now b.new.field b.new.names b.result b.ensures _ z
     b.auto.field b.auto.names q.new.row q.auto.row q.ensures
     r.new.field r.new.names r.new.row r.result r.auto.field r.auto.names r.auto.row r.ensures
     e.new.field e.new.names e.new.crossings e.new.rows e.result e.ensures c.if-ran-eq0.true
@@ -62,13 +71,13 @@ pub returns : goal.returns
 returns c =
     let a = c.args in
     let t = a.terms in
-    let m = mesh_of a.vertices.now a.topology a.given a.indices.now in
-    let b = c.begin-begun in
-    let z = c.if-begun-ne0.false in
+    let m = mesh_in a.mesh in
+    let b = c.begin in
+    let z = c.in_ok-seeded.was in
     let q = c.clear in
     let r = c.run_row-ran in
     let e = c.close-answer in
-    cleared_after a.grid m t.sign t.limit t.edition a.field.now a.names.now a.crossings.now a.rows.now a.queue.now b.new.field b.new.names b.result b.ensures z
+    cleared_after a.grid m t.sign t.limit t.edition a.field.now a.names.now a.crossings.now a.rows.now a.queue.now b.new.field b.new.names b.result b.ensures _ z
     b.auto.field b.auto.names q.new.row q.auto.row q.ensures
     r.new.field r.new.names r.new.row r.result r.auto.field r.auto.names r.auto.row r.ensures
     e.new.field e.new.names e.new.crossings e.new.rows e.result e.ensures c.if-ran-eq0.false c.clear-2.new.row c.clear-2.ensures

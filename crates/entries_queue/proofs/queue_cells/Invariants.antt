@@ -1,12 +1,7 @@
 -- `entries_queue::queue_cells`: the first c cells are queued, each as its batch is. Assumes nothing.
-use Prim.Native.Nat.{◌-◌, ◌≤◌}
-use lib.ListN.{length}
 use Rattle.run.specs.Run.{queue_cell}
 use Rattle.entries_state.proofs.Loops.{AfterRow}
 use Rattle.entries_queue.proofs.queue_cells.Given as goal
 
 abbrev pub invariant-loop-c : goal.invariant-loop-c
-invariant-loop-c l = (l.c ≤ length l.field) × AfterRow queue_cell l.field l.names l.initial.row l.initial.reached l.c l.row l.reached
-
-abbrev pub decreases-loop-c : goal.decreases-loop-c
-decreases-loop-c l = length l.field - l.c
+invariant-loop-c l = AfterRow queue_cell l.field l.names l.initial.row l.initial.reached l.c l.row l.reached

@@ -6,21 +6,21 @@ use Rattle.facet_index.proofs.Told.{told_yes, told_no, tells_yes, tells_no}
 use Rattle.facet_stale.proofs.all_orderly.Goals as goal
 
 pub loop-facet-init : goal.loop-facet-init
-loop-facet-init c = (omega arith, λ k h. absurd (omega arith))
+loop-facet-init c = λ k h. absurd (omega arith)
 
 pub bounds-starts-k : goal.bounds-starts-k
 bounds-starts-k c = omega (arith, c.requires)
 
 pub overflow_cast-from : goal.overflow_cast-from
 overflow_cast-from c =
-    omega (arith, c.shared_slice_known-in-loop-facet-1.given c.loop-facet.facet)
+    omega (arith, c.type_inv.starts c.loop-facet.facet)
 
 pub bounds-starts-k-in-loop-facet : goal.bounds-starts-k-in-loop-facet
 bounds-starts-k-in-loop-facet c = omega (arith, c.requires)
 
 pub overflow_cast-to : goal.overflow_cast-to
 overflow_cast-to c =
-    omega (arith, c.shared_slice_known-in-loop-facet-2-1.given (c.loop-facet.facet + 1))
+    omega (arith, c.type_inv.starts (c.loop-facet.facet + 1))
 
 pub returns-then-to-from : goal.returns-then-to-from
 returns-then-to-from c =
@@ -38,11 +38,9 @@ returns-then-not-is_row c =
     tells_no (λ all. told_no _ c.is_row.ensures c.if-not-is_row.true (all c.loop-facet.facet c.loop-facet-test.true).row)
 
 pub loop-facet-preserved : goal.loop-facet-preserved
-loop-facet-preserved c = (
-  omega arith,
-  below_more _ _ c.loop-facet.invariant.1
-      (record { rising = c.if-to-from.false; within = c.if-list-to.false; row = told_yes _ c.is_row.ensures c.if-not-is_row.false }),
-)
+loop-facet-preserved c =
+    below_more _ _ c.loop-facet.invariant
+    (record { rising = c.if-to-from.false; within = c.if-list-to.false; row = told_yes _ c.is_row.ensures c.if-not-is_row.false })
 
 pub returns : goal.returns
-returns c = tells_yes (λ k h. c.loop-facet.invariant.1 k (omega arith))
+returns c = tells_yes (λ k h. c.loop-facet.invariant k (omega arith))

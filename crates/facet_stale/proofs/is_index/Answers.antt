@@ -1,8 +1,7 @@
 -- `facet_stale::is_index`: what the passes see is the index (`seen_index`), and of an index each sees what it looks for (`index_seen`). Assumes
 -- nothing.
 use native.Mathlib.Omega.{arith}
-use Rattle.facet_index.specs.Index.{index_of, IsIndex}
-use Rattle.facet_index.specs.Places.{Seen}
+use Rattle.facet_index.specs.Index.{index_of}
 use Rattle.facet_index.proofs.Told.{told_yes, told_no, tells_no, tells_same}
 use Rattle.facet_index.proofs.Sight.{index_seen, seen_index}
 use Rattle.facet_stale.proofs.is_index.Goals as goal
@@ -11,19 +10,15 @@ pub returns-then-starts-ne0 : goal.returns-then-starts-ne0
 returns-then-starts-ne0 c = tells_no (λ x. c.if-starts-ne0.true x.first)
 
 pub overflow_cast-end : goal.overflow_cast-end
-overflow_cast-end c = omega (arith, c.shared_slice_known-5-1.given c.args.triangles)
+overflow_cast-end c = omega (arith, c.type_inv.starts c.args.triangles)
 
 pub returns-then-end-count_named : goal.returns-then-end-count_named
 returns-then-end-count_named c =
-    let Is : Type 0 = IsIndex c.args.triangles c.args.names.now (index_of c.args.starts.now c.args.list.now) in
-    let seen : Is → Seen c.args.triangles c.args.names.now (index_of c.args.starts.now c.args.list.now) = λ x. index_seen c.args.triangles c.args.names.now (index_of c.args.starts.now c.args.list.now) x in
-    tells_no (λ x. absurd (omega (arith, c.if-end-count_named.true, (seen x).end, c.count_named.ensures)))
+    tells_no (λ x. absurd (omega (arith, c.if-end-count_named.true, (index_seen _ _ _ x).end, c.count_named.ensures)))
 
 pub returns-then-not-all_orderly : goal.returns-then-not-all_orderly
 returns-then-not-all_orderly c =
-    let Is : Type 0 = IsIndex c.args.triangles c.args.names.now (index_of c.args.starts.now c.args.list.now) in
-    let seen : Is → Seen c.args.triangles c.args.names.now (index_of c.args.starts.now c.args.list.now) = λ x. index_seen c.args.triangles c.args.names.now (index_of c.args.starts.now c.args.list.now) x in
-    tells_no (λ x. told_no _ c.all_orderly.ensures c.if-not-all_orderly.true (seen x).orderly)
+    tells_no (λ x. told_no _ c.all_orderly.ensures c.if-not-all_orderly.true (index_seen _ _ _ x).orderly)
 
 pub returns : goal.returns
 returns c =

@@ -12,7 +12,7 @@ bounds-list-p c = omega (arith, c.requires.to_in_bounds)
 
 pub overflow_cast-cell : goal.overflow_cast-cell
 overflow_cast-cell c =
-    omega (arith, c.shared_slice_known-1.given c.loop-p.p)
+    omega (arith, c.type_inv.list c.loop-p.p)
 
 pub returns-then-cell-least : goal.returns-then-cell-least
 returns-then-cell-least c =

@@ -6,4 +6,4 @@ use Rattle.run.specs.Run.{none}
 use Rattle.facet_stale.proofs.is_tail.Given as goal
 
 abbrev pub invariant-loop-p : goal.invariant-loop-p
-invariant-loop-p l = (l.end ≤ l.p) × ((q : ℕ) → q < l.p → l.end ≤ q → get_or l.list q 0 ≡ none)
+invariant-loop-p l = (q : ℕ) → q < l.p → l.end ≤ q → get_or l.list q 0 ≡ none

@@ -5,19 +5,20 @@ use Rattle.job_checks.specs.Refusals.{lengths_of}
 use Rattle.job_checks.proofs.Accepted.{accepted}
 use Rattle.job_outcome.proofs.Outcomes.{gives_cleared}
 use Rattle.job_accept.proofs.Accepts.{fresh, long}
+use Rattle.mesh.specs.Lent.{mesh_in}
 use Rattle.job_accept.proofs.accepted_job.Goals as goal
 
 pub cleared_job-requires : goal.cleared_job-requires
 cleared_job-requires c =
-    let job : Job = job_of c.args.grid c.args.vertices.now c.args.topology c.args.given c.args.indices.now c.args.terms in
+    let job : Job = job_of c.args.grid c.args.mesh.vertices.now c.args.mesh.topology c.args.mesh.given c.args.mesh.indices.now c.args.terms in
     let lent : Lent =
     let a = c.args in
     lent_of a.field.now a.names.now a.crossings.now a.rows.now a.distances.now a.cells.now a.triangles.now in
-    let mesh = mesh_of c.args.vertices.now c.args.topology c.args.given c.args.indices.now in record { fit = (accepted c.args.grid c.args.terms.edition mesh (lengths_of (lent)) c.requires).fit; fresh = fresh (job) (lent) c.requires c.clear_all.ensures; long = long (job) (lent) c.requires c.clear_all.ensures }
+    let mesh = mesh_in c.args.mesh in record { fit = (accepted c.args.grid c.args.terms.edition mesh (lengths_of (lent)) c.requires).fit; fresh = fresh (job) (lent) c.requires c.clear_all.ensures; long = long (job) (lent) c.requires c.clear_all.ensures }
 
 pub returns : goal.returns
 returns c =
-    let job : Job = job_of c.args.grid c.args.vertices.now c.args.topology c.args.given c.args.indices.now c.args.terms in
+    let job : Job = job_of c.args.grid c.args.mesh.vertices.now c.args.mesh.topology c.args.mesh.given c.args.mesh.indices.now c.args.terms in
     let lent : Lent =
     let a = c.args in
     lent_of a.field.now a.names.now a.crossings.now a.rows.now a.distances.now a.cells.now a.triangles.now in

@@ -1,5 +1,4 @@
 -- `gather`: after j turns the first j entries of each list are those of the first j steps. Assumes nothing.
-use Prim.Native.Nat.{◌-◌}
 use native.Mathlib.Omega.{arith}
 use mathlib.Core.Path.{◌≡◌, sym, ap, ◌∙◌}
 use lib.ListN.{length}
@@ -21,7 +20,7 @@ long : (l : After-get_cell_center-centre) →
 long l =
     let i = l.loop-j.invariant in
     let p = l.requires.to_len in
-    (i.1.long ∙ p.0, i.2.long ∙ p.1, i.3.long ∙ p.2, i.4.long ∙ p.3)
+    (i.0.long ∙ p.0, i.1.long ∙ p.1, i.2.long ∙ p.2, i.3.long ∙ p.3)
 
 -- what the calls found is the spot of step j and its centre
 spot_is : (c : After-get_cell_center-centre) →
@@ -36,7 +35,7 @@ centre_is : (c : After-get_cell_center-centre) →
 centre_is c = c.get_cell_center-centre.ensures ∙ ap (λ (v : Spot). centre_of c.args.grid v.cell) (spot_is c)
 
 pub loop-j-init : goal.loop-j-init
-loop-j-init c = (omega arith, filled_none 0 _ _, filled_none nan _ _, filled_none nan _ _, filled_none nan _ _)
+loop-j-init c = (filled_none 0 _ _, filled_none nan _ _, filled_none nan _ _, filled_none nan _ _)
 
 pub bounds-steps-j : goal.bounds-steps-j
 bounds-steps-j c = omega (arith, table_long _ c.requires.grid_value.2)
@@ -64,32 +63,31 @@ pub loop-j-preserved : goal.loop-j-preserved
 loop-j-preserved c =
     let p = c.requires.to_len in
     let l = c.loop-j.invariant in (
-      omega arith,
-      filled_more 0 _ _ _ _ _ (omega (arith, p.0)) (ap (λ (v : Spot). v.index) (spot_is c)) l.1,
-      filled_more nan _ _ _ _ _ (omega (arith, p.1)) (ap (λ (p : Point). p.x) (centre_is c)) l.2,
-      filled_more nan _ _ _ _ _ (omega (arith, p.2)) (ap (λ (p : Point). p.y) (centre_is c)) l.3,
-      filled_more nan _ _ _ _ _ (omega (arith, p.3)) (ap (λ (p : Point). p.z) (centre_is c)) l.4,
+      filled_more 0 _ _ _ _ _ (omega (arith, p.0)) (ap (λ (v : Spot). v.index) (spot_is c)) l.0,
+      filled_more nan _ _ _ _ _ (omega (arith, p.1)) (ap (λ (p : Point). p.x) (centre_is c)) l.1,
+      filled_more nan _ _ _ _ _ (omega (arith, p.2)) (ap (λ (p : Point). p.y) (centre_is c)) l.2,
+      filled_more nan _ _ _ _ _ (omega (arith, p.3)) (ap (λ (p : Point). p.z) (centre_is c)) l.3,
     )
 
 pub shape_of-to : goal.shape_of-to
-shape_of-to c = c.loop-j.invariant.1.long
+shape_of-to c = c.loop-j.invariant.0.long
 
 pub shape_of-xs : goal.shape_of-xs
-shape_of-xs c = c.loop-j.invariant.2.long
+shape_of-xs c = c.loop-j.invariant.1.long
 
 pub shape_of-ys : goal.shape_of-ys
-shape_of-ys c = c.loop-j.invariant.3.long
+shape_of-ys c = c.loop-j.invariant.2.long
 
 pub shape_of-zs : goal.shape_of-zs
-shape_of-zs c = c.loop-j.invariant.4.long
+shape_of-zs c = c.loop-j.invariant.3.long
 
 pub returns : goal.returns
 returns c =
     let p = c.requires.to_len in
     let l = c.loop-j.invariant in
     record {
-      leads = filled_all 0 _ _ _ _ 27 (sym p.0) c.loop-j-test.false l.1;
-      on_x = filled_all nan _ _ _ _ 27 (sym p.1) c.loop-j-test.false l.2;
-      on_y = filled_all nan _ _ _ _ 27 (sym p.2) c.loop-j-test.false l.3;
-      on_z = filled_all nan _ _ _ _ 27 (sym p.3) c.loop-j-test.false l.4;
+      leads = filled_all 0 _ _ _ _ 27 (sym p.0) c.loop-j-test.false l.0;
+      on_x = filled_all nan _ _ _ _ 27 (sym p.1) c.loop-j-test.false l.1;
+      on_y = filled_all nan _ _ _ _ 27 (sym p.2) c.loop-j-test.false l.2;
+      on_z = filled_all nan _ _ _ _ 27 (sym p.3) c.loop-j-test.false l.3;
     }

@@ -1,5 +1,5 @@
 -- `gather`: after j turns the first j entries of each list are those of the first j steps. Assumes nothing.
-use Prim.Native.Nat.{ℕ, ◌-◌, ◌≤◌}
+use Prim.Native.Nat.{ℕ}
 use lib.Ieee.{nan}
 use Rattle.point.specs.declared.Point.{Point}
 use Rattle.lists.specs.Table.{Filled}
@@ -20,11 +20,7 @@ centre g c j = centre_of g (spot g c j).cell
 
 abbrev pub invariant-loop-j : goal.invariant-loop-j
 invariant-loop-j l =
-    (l.j ≤ 27)
-    × Filled 0 (λ k. (spot l.grid l.cell k).index) l.initial.to l.j l.to
+    Filled 0 (λ k. (spot l.grid l.cell k).index) l.initial.to l.j l.to
     × Filled nan (λ k. (centre l.grid l.cell k).x) l.initial.xs l.j l.xs
     × Filled nan (λ k. (centre l.grid l.cell k).y) l.initial.ys l.j l.ys
     × Filled nan (λ k. (centre l.grid l.cell k).z) l.initial.zs l.j l.zs
-
-abbrev pub decreases-loop-j : goal.decreases-loop-j
-decreases-loop-j l = 27 - l.j

@@ -1,9 +1,6 @@
 -- `run_cross::cross_all`: after k triangles each entry is the number of those that cross there (`crates/run_cross_lines/proofs/Hits.antt`), and the total
 -- that of the rays that graze them (`crates/run_cross_lines/proofs/Grazing.antt`). Assumes nothing.
-use Prim.Native.Nat.{◌-◌, ◌≤◌}
 use mathlib.Core.Path.{◌≡◌}
-use lib.ListN.{length}
-use Rattle.grid.specs.Index.{total}
 use Rattle.mesh.specs.Mesh.{mesh_of}
 use Rattle.run_cross_lines.specs.Pass.{Counted}
 use Rattle.run_cross_lines.proofs.Grazing.{grazed_before}
@@ -12,13 +9,5 @@ use Rattle.run_cross.proofs.cross_all.Given as goal
 
 abbrev pub invariant-loop-k : goal.invariant-loop-k
 invariant-loop-k l =
-    (l.k ≤ l.n)
-    × (l.total ≡ grazed_before l.grid (mesh_in l.mesh) l.k)
-    × (length l.z0 ≡ length l.initial.z0)
-    × (length l.z1 ≡ length l.initial.z1)
-    × (length l.z2 ≡ length l.initial.z2)
-    × (length l.flags ≡ length l.initial.flags)
+    (l.total ≡ grazed_before l.grid (mesh_in l.mesh) l.k)
     × Counted l.pass l.grid (mesh_in l.mesh) l.k l.crossings
-
-abbrev pub decreases-loop-k : goal.decreases-loop-k
-decreases-loop-k l = l.n - l.k

@@ -1,5 +1,4 @@
 -- `run_cross::cross_along`: the parts that are worked out make up the ray test of document 01 (`crates/run_cross_lines/proofs/Hits.antt`). Assumes nothing.
-use native.Mathlib.Omega.{arith}
 use mathlib.Core.Path.{◌∙◌}
 use Rattle.geo_ray.specs.Ray.{cast_of}
 use Rattle.run_cross_lines.specs.Pass.{hit_on, cast_hit}
@@ -7,13 +6,6 @@ use Rattle.run_cross_lines.proofs.Grown.{axis_as}
 use Rattle.run_cross_lines.proofs.Hits.{cast_hits}
 use Rattle.run_cross_lines.proofs.Grazing.{axis_grazed_as}
 use Rattle.run_cross.proofs.cross_along.Goals as goal
-
-pub fill_across-requires : goal.fill_across-requires
-fill_across-requires c = record { grid_value = c.requires.grid_value; in_bounds = (c.requires.in_bounds.0, c.requires.in_bounds.1, c.requires.in_bounds.2) }
-
-pub cross_rows-requires : goal.cross_rows-requires
-cross_rows-requires c =
-    let long = c.requires.in_bounds in record { grid_value = c.requires.grid_value; in_bounds = omega (arith, c.fill_across.auto); crossings_len = c.requires.crossings_len; room = c.requires.room }
 
 pub returns : goal.returns
 returns c =
@@ -26,4 +18,8 @@ returns c =
     let z1 = c.fill_across.new.z1 in
     let z2 = c.fill_across.new.z2 in
     let same = cast_hits g t axis z0 z1 z2 (rw (c.second.ensures, cast) at c.fill_across.ensures) in
-    let parts = cast_hit g axis (cast_of axis t.a t.b t.c) z0 z1 z2 in record { grown = axis_as a.pass g axis parts (hit_on g t axis) same (rw cast at c.cross_rows.ensures.grown); value = (rw cast at c.cross_rows.ensures.result_value) ∙ axis_grazed_as g axis parts (hit_on g t axis) same }
+    let parts = cast_hit g axis (cast_of axis t.a t.b t.c) z0 z1 z2 in
+    record {
+      grown = axis_as a.pass g axis parts (hit_on g t axis) same (rw cast at c.cross_rows.ensures.grown);
+      value = (rw cast at c.cross_rows.ensures.result_value) ∙ axis_grazed_as g axis parts (hit_on g t axis) same;
+    }

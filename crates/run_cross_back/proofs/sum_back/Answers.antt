@@ -1,7 +1,7 @@
 -- `run_cross_back::sum_back`: the entries from number `at` on are summed, and the others as they were, whatever the list was at the beginning; each
 -- of the three loops carries that on. A cell's three entries follow each other, so that one turn sums one after the
 -- other (`proofs/Back.antt`). Assumes nothing.
-use Prim.Native.Nat.{ℕ, ◌+◌, ◌-◌, ◌*◌, ◌^◌, ◌≤◌, ◌<◌}
+use Prim.Native.Nat.{ℕ, ◌+◌, ◌-◌, ◌*◌, ◌^◌, ◌<◌}
 use native.Mathlib.Omega.{arith}
 use mathlib.Core.Path.{◌≡◌, refl, sym, ap, ◌∙◌, subst}
 use mathlib.Core.Bool.{Bool, true}
@@ -13,11 +13,9 @@ use Rattle.point.specs.declared.Axis.TheVariants.{X, Y, Z}
 use Rattle.grid.specs.declared.Cell.{Cell}
 use Rattle.grid.specs.Axes.{count_on, cell_numbered}
 use Rattle.grid.specs.Index.{Inside, index}
-use Rattle.grid.proofs.Laws.{index_below}
-use Rattle.grid.proofs.Facts.{bounds_of, on_axis}
 use Rattle.run_cross_lines.specs.Lines.{entry_of}
 use Rattle.run_cross_back.specs.Back.{SummedFrom, with_next, next_added}
-use Rattle.run_cross_back.proofs.Falling.{row_less, layer_less, none, entry_x, entry_y, entry_z}
+use Rattle.run_cross_back.proofs.Falling.{layer_less, none, entry_x, entry_y, entry_z}
 use Rattle.run_cross_back.proofs.Back.{OnLine, next_fits, summed_more, summed_none, summed_all}
 use Rattle.run_cross_back.proofs.sum_back.Goals as goal
 use Rattle.run_cross_back.proofs.sum_back.Goals.{After-add_next-arg-1, After-loop-x, After-struct_known-1, After-struct_known-in-loop-z-1, After-struct_known-in-loop-z-2-1, In-loop-z}
@@ -28,9 +26,9 @@ cell t = cell_numbered (t.loop-x.x - 1) (t.loop-y.y - 1) (t.loop-z.z - 1)
 
 inside : (t : In-loop-z) → Inside t.args.grid (cell t)
 inside t =
-    let lx = t.loop-x.invariant.0 in
-    let ly = t.loop-y.invariant.0 in
-    let lz = t.loop-z.invariant.0 in
+    let lx = t.loop-x.auto.x in
+    let ly = t.loop-y.auto.y in
+    let lz = t.loop-z.auto.z in
     record {
       x_below = omega (arith, lx, t.loop-x-test.true);
       y_below = omega (arith, ly, t.loop-y-test.true);
@@ -40,7 +38,7 @@ inside t =
 -- where a turn begins, from the cell's index
 begins : (t : In-loop-z) → let c = cell t in let g = t.args.grid in t.loop-z.at ≡ 3 * index (count_on Y g) (count_on Z g) c + 3
 unfolding index
-begins t = let h = t.loop-z in omega (arith, h.invariant.1, t.loop-z-test.true)
+begins t = let h = t.loop-z in omega (arith, h.invariant.0, t.loop-z-test.true)
 
 on_z : (t : After-struct_known-1) → let g = t.args.grid in let c = cell (search) in
     OnLine g Z c (t.loop-z.at - 3 + 2) t.step-far_z.result (ltb (c.z + 1) g.count_z)
@@ -59,7 +57,7 @@ found : (t : After-struct_known-1) → let a = t.args in SummedFrom a.grid a.cro
 found t =
     let a = t.args in
     let old = a.crossings.now in
-    t.loop-z.invariant.2 old (t.loop-y.invariant.2 old (t.loop-x.invariant.2 old (summed_none a.grid old _ (ap (λ (k : ℕ). 3 * k) t.get_total_cell_count.ensures))))
+    t.loop-z.invariant.1 old (t.loop-y.invariant.1 old (t.loop-x.invariant.1 old (summed_none a.grid old _ (ap (λ (k : ℕ). 3 * k) t.get_total_cell_count.ensures))))
 
 -- so a list of which the same is found has as many entries
 long : (t : After-struct_known-in-loop-z-1) (old : List ℕ) → SummedFrom t.args.grid old t.loop-z.at t.loop-z.crossings → length old ≡ length t.args.crossings.now
@@ -107,93 +105,29 @@ carried : (c : After-loop-x) → let a = c.args in
     SummedFrom a.grid a.crossings.now c.loop-x.at c.loop-x.crossings
 carried c =
     let a = c.args in
-    c.loop-x.invariant.2 a.crossings.now (summed_none a.grid a.crossings.now _ (ap (λ (k : ℕ). 3 * k) c.get_total_cell_count.ensures))
-
--- no number passes its type
-fits : (t : In-loop-z) → (t.loop-z.at < 4194304) × (3 ≤ t.loop-z.at)
-fits t =
-    let i = index_below (inside t) in
-    (omega (arith, begins t, i, (bounds_of t.args.grid t.requires.grid_value).total_few), omega (arith, begins t))
-
-few : (t : After-add_next-arg-1) (a : Axis) → count_on a t.args.grid ≤ 1024
-few t a = (on_axis (bounds_of t.args.grid t.requires.grid_value) a).few
-
-pub overflow_cast-at : goal.overflow_cast-at
-overflow_cast-at c = omega (arith, c.get_total_cell_count.ensures, (bounds_of c.args.grid c.requires.grid_value).total_few)
-
-pub overflow_mul-at : goal.overflow_mul-at
-overflow_mul-at c = omega (arith, c.get_total_cell_count.ensures, (bounds_of c.args.grid c.requires.grid_value).total_few)
-
--- ---- the three loops
-pub loop-x-init : goal.loop-x-init
-loop-x-init c = (omega arith, ap (λ (k : ℕ). 3 * k) c.get_total_cell_count.ensures, (λ old s. s))
+    c.loop-x.invariant.1 a.crossings.now (summed_none a.grid a.crossings.now _ (ap (λ (k : ℕ). 3 * k) c.get_total_cell_count.ensures))
 
 pub loop-y-init : goal.loop-y-init
 loop-y-init c =
     let g = c.args.grid in
     let x = c.loop-x.x in
-    (omega arith, c.loop-x.invariant.1 ∙ ap (λ (k : ℕ). 3 * k) (layer_less x (x - 1) (count_on Y g) (count_on Z g) (omega (arith, c.loop-x-test.true))), (λ old s. s))
-
-pub loop-x-preserved : goal.loop-x-preserved
-loop-x-preserved c =
-    let h = c.loop-y in
-    let r = c.loop-x in
-    let g = c.args.grid in
-    (omega (arith, r.invariant.0), omega (arith, h.invariant.1, none h.y (count_on Z g) c.loop-y-test.false), (λ old s. h.invariant.2 old (r.invariant.2 old s)))
-
-pub loop-z-init : goal.loop-z-init
-loop-z-init c =
-    let g = c.args.grid in
-    let y = c.loop-y.y in
-    (omega arith, c.loop-y.invariant.1 ∙ ap (λ (k : ℕ). 3 * k) (row_less y (y - 1) (count_on Z g) _ (omega (arith, c.loop-y-test.true))), (λ old s. s))
-
--- what the loop over a row has carried on, the loop over the rows has
-pub loop-y-preserved : goal.loop-y-preserved
-loop-y-preserved c =
-    let h = c.loop-z in
-    let r = c.loop-y in
-    (omega (arith, r.invariant.0), omega (arith, h.invariant.1, c.loop-z-test.false), (λ old s. h.invariant.2 old (r.invariant.2 old s)))
-
-pub overflow_sub-at : goal.overflow_sub-at
-overflow_sub-at c = omega (arith, (fits c).1)
-
-pub overflow_add-at : goal.overflow_add-at
-overflow_add-at c = omega (arith, (fits (search)).0)
-
-pub overflow_add-z : goal.overflow_add-z
-overflow_add-z c = omega (arith, (inside (search)).z_below, few c Z)
+    (c.loop-x.invariant.0 ∙ ap (λ (k : ℕ). 3 * k) (layer_less x (x - 1) (count_on Y g) (count_on Z g) (omega (arith, c.loop-x-test.true))), (λ old s. s))
 
 pub add_next-requires : goal.add_next-requires
 add_next-requires c = asks c Z c.loop-z.crossings (on_z c) (behind_z c _ (found c))
 
-pub overflow_add-at-in-loop-z : goal.overflow_add-at-in-loop-z
-overflow_add-at-in-loop-z c = omega (arith, (fits (search)).0)
-
-pub overflow_add-y : goal.overflow_add-y
-overflow_add-y c = omega (arith, (inside (search)).y_below, few (search) Y)
-
 pub add_next-requires-in-loop-z : goal.add_next-requires-in-loop-z
 add_next-requires-in-loop-z c = asks (search) Y c.add_next.new.numbers (on_y c) (behind_y c _ (found (search)))
-
-pub overflow_add-x : goal.overflow_add-x
-overflow_add-x c = omega (arith, (inside (search)).x_below, few (search) X)
 
 pub add_next-requires-in-loop-z-2 : goal.add_next-requires-in-loop-z-2
 add_next-requires-in-loop-z-2 c = asks (search) X c.add_next-in-loop-z.new.numbers (on_x c) (behind_x c _ (found (search)))
 
-pub loop-z-smaller : goal.loop-z-smaller
-loop-z-smaller c = omega (arith, c.loop-z-test.true)
-
 pub loop-z-preserved : goal.loop-z-preserved
 loop-z-preserved c =
     let h = c.loop-z in (
-      omega (arith, h.invariant.0),
-      omega (arith, h.invariant.1, c.loop-z-test.true),
-      (λ old s. let f = h.invariant.2 old s in leaves (search) X old c.add_next-in-loop-z.new.numbers c.add_next-in-loop-z-2.new.numbers f (on_x (search)) (behind_x (search) old f) c.add_next-in-loop-z-2.ensures),
+      omega (arith, h.invariant.0, c.loop-z-test.true),
+      (λ old s. let f = h.invariant.1 old s in leaves (search) X old c.add_next-in-loop-z.new.numbers c.add_next-in-loop-z-2.new.numbers f (on_x (search)) (behind_x (search) old f) c.add_next-in-loop-z-2.ensures),
     )
-
-pub shape_of-crossings : goal.shape_of-crossings
-shape_of-crossings c = (carried c).long
 
 pub returns : goal.returns
 returns c =
@@ -201,4 +135,4 @@ returns c =
     let a = c.args in
     let layers = none h.x (count_on Y a.grid) c.loop-x-test.false in
     let rows = none (h.x * count_on Y a.grid) (count_on Z a.grid) (omega (arith, layers)) in
-    summed_all a.grid a.crossings.now h.crossings h.at (omega (arith, h.invariant.1, rows)) (carried c)
+    summed_all a.grid a.crossings.now h.crossings h.at (omega (arith, h.invariant.0, rows)) (carried c)

@@ -1,10 +1,10 @@
 -- `run_cross_back::sum_back`: the entries from number `at` on are summed, and the others as they were, whatever the list was at the beginning; each
 -- of the three loops carries that on. A cell's three entries follow each other, so that one turn sums one after the
 -- other (`proofs/Back.antt`). Assumes nothing.
-use Prim.Native.Nat.{ℕ, ◌+◌, ◌-◌, ◌*◌, ◌≤◌}
+use Prim.Native.Nat.{ℕ, ◌+◌, ◌*◌}
 use mathlib.Core.Path.{◌≡◌}
 use mathlib.Core.List.{List}
-use Rattle.point.specs.declared.Axis.TheVariants.{X, Y, Z}
+use Rattle.point.specs.declared.Axis.TheVariants.{Y, Z}
 use Rattle.grid.specs.declared.Grid.{Grid}
 use Rattle.grid.specs.Axes.{count_on}
 use Rattle.run_cross_back.specs.Back.{SummedFrom}
@@ -16,22 +16,13 @@ Carried g from l to m = (old : List ℕ) → SummedFrom g old from l → SummedF
 
 abbrev pub invariant-loop-z : goal.invariant-loop-z
 invariant-loop-z l =
-    (l.z ≤ count_on Z l.grid) × (l.at ≡ 3 * (l.z + l.y * count_on Z l.grid + l.x * count_on Y l.grid * count_on Z l.grid)) × Carried l.grid l.initial.at l.initial.crossings l.at l.crossings
-
-abbrev pub decreases-loop-z : goal.decreases-loop-z
-decreases-loop-z l = l.z
+    (l.at ≡ 3 * (l.z + l.y * count_on Z l.grid + l.x * count_on Y l.grid * count_on Z l.grid)) × Carried l.grid l.initial.at l.initial.crossings l.at l.crossings
 
 abbrev pub invariant-loop-y : goal.invariant-loop-y
 invariant-loop-y l =
-    (l.y ≤ count_on Y l.grid) × (l.at ≡ 3 * (l.y * count_on Z l.grid + l.x * count_on Y l.grid * count_on Z l.grid)) × Carried l.grid l.initial.at l.initial.crossings l.at l.crossings
-
-abbrev pub decreases-loop-y : goal.decreases-loop-y
-decreases-loop-y l = l.y
+    (l.at ≡ 3 * (l.y * count_on Z l.grid + l.x * count_on Y l.grid * count_on Z l.grid)) × Carried l.grid l.initial.at l.initial.crossings l.at l.crossings
 
 -- so many cells lie before the place that a loop has come to
 abbrev pub invariant-loop-x : goal.invariant-loop-x
 invariant-loop-x l =
-    (l.x ≤ count_on X l.grid) × (l.at ≡ 3 * (l.x * count_on Y l.grid * count_on Z l.grid)) × Carried l.grid l.initial.at l.initial.crossings l.at l.crossings
-
-abbrev pub decreases-loop-x : goal.decreases-loop-x
-decreases-loop-x l = l.x
+    (l.at ≡ 3 * (l.x * count_on Y l.grid * count_on Z l.grid)) × Carried l.grid l.initial.at l.initial.crossings l.at l.crossings

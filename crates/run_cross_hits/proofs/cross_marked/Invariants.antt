@@ -1,10 +1,8 @@
 -- `run_cross_hits::cross_marked`: the lines before v are crossed and those of them that graze counted. A line that is not marked is missed
 -- (`crates/run_cross_lines/proofs/Hits.antt`), so that nothing is to be added there. Assumes nothing.
-use Prim.Native.Nat.{◌-◌, ◌≤◌}
 use mathlib.Core.Path.{◌≡◌}
 use mathlib.Core.Bool.{◌&&◌}
 use lib.Dec.{ltb}
-use lib.ListN.{length}
 use Rattle.run.specs.Grazed.{grazed_in_row}
 use Rattle.run_cross_lines.specs.Lines.{v_of}
 use Rattle.run_cross_lines.specs.Pass.{Grown, row_crossed, row_hit}
@@ -12,10 +10,5 @@ use Rattle.run_cross_hits.proofs.cross_marked.Given as goal
 
 abbrev pub invariant-loop-v : goal.invariant-loop-v
 invariant-loop-v l =
-    (l.v ≤ l.count)
-    × (l.grazed ≡ grazed_in_row l.v (row_hit l.z0 l.z1 l.z2 l.ys l.xs))
-    × (length l.crossings ≡ length l.initial.crossings)
+    (l.grazed ≡ grazed_in_row l.v (row_hit l.z0 l.z1 l.z2 l.ys l.xs))
     × Grown l.grid (λ a c. ltb (v_of l.axis c) l.v && row_crossed l.pass l.grid l.axis l.u (row_hit l.z0 l.z1 l.z2 l.ys l.xs) a c) l.initial.crossings l.crossings
-
-abbrev pub decreases-loop-v : goal.decreases-loop-v
-decreases-loop-v l = l.count - l.v

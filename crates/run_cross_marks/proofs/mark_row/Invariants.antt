@@ -1,14 +1,10 @@
 -- `run_cross_marks::mark_row`: the lines before v are marked, and while none is, none of them may be met (`crates/run_cross_lines/proofs/Marks.antt`). Assumes nothing.
-use Prim.Native.Nat.{ℕ, ◌-◌, ◌≤◌, ◌<◌}
+use Prim.Native.Nat.{ℕ, ◌<◌}
 use mathlib.Core.Path.{◌≡◌}
 use mathlib.Core.Bool.{false}
-use lib.ListN.{length}
 use Rattle.run_cross_lines.specs.Pass.{parts_at, may_meet, Marked}
 use Rattle.run_cross_marks.proofs.mark_row.Given as goal
 
 abbrev pub invariant-loop-v : goal.invariant-loop-v
 invariant-loop-v l =
-    (l.v ≤ l.count) × (length l.flags ≡ length l.initial.flags) × Marked l.z0 l.z1 l.z2 l.ys l.v l.flags × (l.any ≡ false → (i : ℕ) → i < l.v → may_meet (parts_at l.z0 l.z1 l.z2 i) l.ys ≡ false)
-
-abbrev pub decreases-loop-v : goal.decreases-loop-v
-decreases-loop-v l = l.count - l.v
+    Marked l.z0 l.z1 l.z2 l.ys l.v l.flags × (l.any ≡ false → (i : ℕ) → i < l.v → may_meet (parts_at l.z0 l.z1 l.z2 i) l.ys ≡ false)

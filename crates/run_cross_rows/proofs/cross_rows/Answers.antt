@@ -1,112 +1,73 @@
 -- `run_cross_rows::cross_rows`: the rows before u are crossed, and those of their lines that graze counted (`crates/run_cross_lines/proofs/Grown.antt`). Assumes nothing.
-use Prim.Native.Nat.{ℕ, ◌+◌, ◌-◌, ◌<◌}
+use Prim.Native.Nat.{ℕ, ◌+◌}
 use native.Mathlib.Omega.{arith}
 use mathlib.Core.Path.{◌≡◌, refl, sym, ap, ap₂, ◌∙◌, subst}
+use mathlib.Core.List.{List}
+use lib.Ieee.{Float}
+use Rattle.point.specs.declared.Axis.{Axis}
+use Rattle.terms.specs.declared.Pass.{Pass}
+use Rattle.grid.specs.declared.Grid.{Grid}
 use Rattle.grid.specs.Axes.{count_on, next}
 use Rattle.grid.proofs.Facts.{bounds_of, on_axis}
+use Rattle.geo_ray.specs.declared.Cast.{Cast}
 use Rattle.geo_ray.specs.declared.RayHit.{RayHit}
 use Rattle.geo_ray.specs.declared.Three.{Three}
 use Rattle.geo_ray.specs.Ray.{across_y, along_x}
-use Rattle.run.specs.Grazed.{grazed_in_row, grazed_in_rows}
+use Rattle.run.specs.Grazed.{grazed_in_row}
 use Rattle.run_cross_lines.specs.Lines.{centre_along}
 use Rattle.run_cross_lines.specs.Pass.{Grown, row_crossed, row_hit, cast_hit}
 use Rattle.run_cross_lines.proofs.Grown.{room_after, axis_none, axis_more, axis_all}
 use Rattle.run_cross_lines.proofs.Grazing.{rows_grazed_first, rows_grazed_more, rows_grazed_le}
 use Rattle.run_cross_rows.proofs.cross_rows.Goals as goal
 
+-- what a row leaves and tells by its two parts, it leaves and tells by the cast
+met : (pass : Pass) (g : Grid) (axis : Axis) (cast : Cast) (z0 z1 z2 : List Float) (u : ℕ) {told : ℕ} {old new : List ℕ} {across : Axis} {first last : Float} {ys xs : Three}
+    → ys ≡ across_y cast last → last ≡ centre_along g across u → across ≡ next axis → xs ≡ along_x cast first → first ≡ centre_along g axis 0
+    → Grown g (row_crossed pass g axis u (row_hit z0 z1 z2 ys xs)) old new → told ≡ grazed_in_row (count_on (next (next axis)) g) (row_hit z0 z1 z2 ys xs)
+    → let hit = cast_hit g axis cast z0 z1 z2 u in Grown g (row_crossed pass g axis u hit) old new × (told ≡ grazed_in_row (count_on (next (next axis)) g) hit)
+met pass g axis cast z0 z1 z2 u {told} {old} {new} y there on x here grown counted =
+    subst (λ (hit : ℕ → RayHit). Grown g (row_crossed pass g axis u hit) old new × (told ≡ grazed_in_row (count_on (next (next axis)) g) hit))
+    (ap₂ (λ (ys : Three) (xs : Three). row_hit z0 z1 z2 ys xs) (y ∙ ap (across_y cast) (there ∙ ap (λ (a : Axis). centre_along g a u) on)) (x ∙ ap (along_x cast) here))
+    (grown, counted)
+
 pub loop-u-init : goal.loop-u-init
 loop-u-init c =
-    let hits : ℕ → ℕ → RayHit = let a = c.args in cast_hit a.grid a.axis a.cast a.z0.now a.z1.now a.z2.now in
-    let a = c.args in (omega arith, rows_grazed_first a.grid a.axis (hits), refl, refl, axis_none a.pass a.grid a.axis (hits) a.crossings.now)
+    let a = c.args in
+    let hits = cast_hit a.grid a.axis a.cast a.z0.now a.z1.now a.z2.now in
+    (rows_grazed_first a.grid a.axis hits, axis_none a.pass a.grid a.axis hits a.crossings.now)
 
 pub centre-requires-in-loop-u : goal.centre-requires-in-loop-u
 centre-requires-in-loop-u c =
-    let counted : c.count_on-count.result ≡ count_on (next c.args.axis) c.args.grid = c.count_on-count.ensures ∙ ap (λ x. count_on x c.args.grid) c.next-across.ensures in
-    let short : c.loop-u.u < 1024 =
-    omega (arith, counted, (on_axis (bounds_of c.args.grid c.requires.grid_value) (next c.args.axis)).few) in
-    omega (arith, short)
+    let counted = c.count_on-count.ensures ∙ ap (λ x. count_on x c.args.grid) c.next-across.ensures in
+    omega (arith, counted, (on_axis (bounds_of c.args.grid c.requires.grid_value) (next c.args.axis)).few)
 
-pub cross_row-grazed-requires : goal.cross_row-grazed-requires
-cross_row-grazed-requires c =
-    let counted : c.count_on-count.result ≡ count_on (next c.args.axis) c.args.grid = c.count_on-count.ensures ∙ ap (λ x. count_on x c.args.grid) c.next-across.ensures in
-    let l = c.loop-u in
-    let long = c.requires.in_bounds in record { grid_value = c.requires.grid_value; u_bound = (omega (arith, counted), long.0, long.1, long.2, omega (arith, l.invariant.2)); crossings_len = l.invariant.3 ∙ c.requires.crossings_len; room = room_after 2 3 refl c.requires.crossings_len c.requires.room l.invariant.4 }
+pub cross_row-grazed-requires-clause-room : goal.cross_row-grazed-requires-clause-room
+cross_row-grazed-requires-clause-room c = room_after 2 3 refl c.requires.crossings_len c.requires.room c.loop-u.invariant.1
 
 pub overflow_add-grazed : goal.overflow_add-grazed
 overflow_add-grazed c =
-    let hits : ℕ → ℕ → RayHit = let a = c.args in cast_hit a.grid a.axis a.cast a.z0.now a.z1.now a.z2.now in
-    let counted : c.count_on-count.result ≡ count_on (next c.args.axis) c.args.grid = c.count_on-count.ensures ∙ ap (λ x. count_on x c.args.grid) c.next-across.ensures in
-    let short : c.loop-u.u < 1024 =
-    omega (arith, counted, (on_axis (bounds_of c.args.grid c.requires.grid_value) (next c.args.axis)).few) in
-    let met : (let l = c.loop-u in let a = c.args in
-    Grown a.grid (row_crossed a.pass a.grid a.axis l.u (hits l.u)) l.crossings c.cross_row-grazed.new.crossings
-    × (c.cross_row-grazed.result ≡ grazed_in_row (count_on (next (next a.axis)) a.grid) (hits l.u))) =
-    let u = c.loop-u.u in
     let a = c.args in
-    let ys = c.across_y-ys.ensures ∙ ap (across_y a.cast) (c.centre-in-loop-u.ensures ∙ ap (λ x. centre_along a.grid x u) c.next-across.ensures) in
-    let xs = c.along_x-xs.ensures ∙ ap (along_x a.cast) c.centre.ensures in
-    subst
-    (λ (hit : ℕ → RayHit). Grown a.grid (row_crossed a.pass a.grid a.axis u hit) c.loop-u.crossings c.cross_row-grazed.new.crossings
-    × (c.cross_row-grazed.result ≡ grazed_in_row (count_on (next (next a.axis)) a.grid) hit))
-    (ap₂ (λ (y' : Three) (x' : Three). row_hit a.z0.now a.z1.now a.z2.now y' x') ys xs)
-    (c.cross_row-grazed.ensures.grown, c.cross_row-grazed.ensures.result_value) in
-    let summed : (let l = c.loop-u in let a = c.args in
-    l.grazed + c.cross_row-grazed.result ≡ grazed_in_rows a.grid a.axis (l.u + 1) (hits)) =
     let l = c.loop-u in
-    let a = c.args in
-    ap₂ ◌+◌ l.invariant.1 (met).1 ∙ sym (rows_grazed_more a.grid a.axis (hits) l.u) in
-    omega (arith, summed, rows_grazed_le c.args.grid c.args.axis (hits) (c.loop-u.u + 1) c.requires.grid_value, short)
-
-pub overflow_add-u : goal.overflow_add-u
-overflow_add-u c =
-    let counted : c.count_on-count.result ≡ count_on (next c.args.axis) c.args.grid = c.count_on-count.ensures ∙ ap (λ x. count_on x c.args.grid) c.next-across.ensures in
-    let short : c.loop-u.u < 1024 =
-    omega (arith, counted, (on_axis (bounds_of c.args.grid c.requires.grid_value) (next c.args.axis)).few) in
-    omega (arith, short)
-
-pub loop-u-smaller : goal.loop-u-smaller
-loop-u-smaller c = omega arith
+    let hits = cast_hit a.grid a.axis a.cast a.z0.now a.z1.now a.z2.now in
+    let counted = c.count_on-count.ensures ∙ ap (λ x. count_on x a.grid) c.next-across.ensures in
+    let few = (on_axis (bounds_of a.grid c.requires.grid_value) (next a.axis)).few in
+    let row = met a.pass a.grid a.axis a.cast a.z0.now a.z1.now a.z2.now l.u c.across_y-ys.ensures c.centre-in-loop-u.ensures c.next-across.ensures c.along_x-xs.ensures c.centre.ensures
+    c.cross_row-grazed.ensures.grown c.cross_row-grazed.ensures.result_value in
+    let summed = ap₂ ◌+◌ l.invariant.0 row.1 ∙ sym (rows_grazed_more a.grid a.axis hits l.u) in
+    omega (arith, summed, rows_grazed_le a.grid a.axis hits (l.u + 1) c.requires.grid_value)
 
 pub loop-u-preserved : goal.loop-u-preserved
 loop-u-preserved c =
-    let hits : ℕ → ℕ → RayHit = let a = c.args in cast_hit a.grid a.axis a.cast a.z0.now a.z1.now a.z2.now in
-    let met : (let l = c.loop-u in let a = c.args in
-    Grown a.grid (row_crossed a.pass a.grid a.axis l.u (hits l.u)) l.crossings c.cross_row-grazed.new.crossings
-    × (c.cross_row-grazed.result ≡ grazed_in_row (count_on (next (next a.axis)) a.grid) (hits l.u))) =
-    let u = c.loop-u.u in
     let a = c.args in
-    let ys = c.across_y-ys.ensures ∙ ap (across_y a.cast) (c.centre-in-loop-u.ensures ∙ ap (λ x. centre_along a.grid x u) c.next-across.ensures) in
-    let xs = c.along_x-xs.ensures ∙ ap (along_x a.cast) c.centre.ensures in
-    subst
-    (λ (hit : ℕ → RayHit). Grown a.grid (row_crossed a.pass a.grid a.axis u hit) c.loop-u.crossings c.cross_row-grazed.new.crossings
-    × (c.cross_row-grazed.result ≡ grazed_in_row (count_on (next (next a.axis)) a.grid) hit))
-    (ap₂ (λ (y' : Three) (x' : Three). row_hit a.z0.now a.z1.now a.z2.now y' x') ys xs)
-    (c.cross_row-grazed.ensures.grown, c.cross_row-grazed.ensures.result_value) in
-    let summed : (let l = c.loop-u in let a = c.args in
-    l.grazed + c.cross_row-grazed.result ≡ grazed_in_rows a.grid a.axis (l.u + 1) (hits)) =
     let l = c.loop-u in
+    let hits = cast_hit a.grid a.axis a.cast a.z0.now a.z1.now a.z2.now in
+    let row = met a.pass a.grid a.axis a.cast a.z0.now a.z1.now a.z2.now l.u c.across_y-ys.ensures c.centre-in-loop-u.ensures c.next-across.ensures c.along_x-xs.ensures c.centre.ensures
+    c.cross_row-grazed.ensures.grown c.cross_row-grazed.ensures.result_value in
+    (ap₂ ◌+◌ l.invariant.0 row.1 ∙ sym (rows_grazed_more a.grid a.axis hits l.u), axis_more a.pass a.grid a.axis l.u hits l.invariant.1 row.0)
+
+pub returns-clause-grown : goal.returns-clause-grown
+returns-clause-grown c =
     let a = c.args in
-    ap₂ ◌+◌ l.invariant.1 (met).1 ∙ sym (rows_grazed_more a.grid a.axis (hits) l.u) in
     let l = c.loop-u in
-    let a = c.args in
-    let row = (met).0 in (
-      omega arith,
-      summed,
-      omega (arith, c.cross_row-grazed.auto, l.invariant.2),
-      row.long ∙ l.invariant.3,
-      axis_more a.pass a.grid a.axis l.u (hits) l.invariant.4 row,
-    )
-
-pub shape_of-flags : goal.shape_of-flags
-shape_of-flags c = c.loop-u.invariant.2
-
-pub shape_of-crossings : goal.shape_of-crossings
-shape_of-crossings c = c.loop-u.invariant.3
-
-pub returns : goal.returns
-returns c =
-    let hits : ℕ → ℕ → RayHit = let a = c.args in cast_hit a.grid a.axis a.cast a.z0.now a.z1.now a.z2.now in
-    let counted : c.count_on-count.result ≡ count_on (next c.args.axis) c.args.grid = c.count_on-count.ensures ∙ ap (λ x. count_on x c.args.grid) c.next-across.ensures in
-    let l = c.loop-u in
-    let a = c.args in
-    let all : l.u ≡ count_on (next a.axis) a.grid = omega (arith, counted, c.loop-u-test.false, l.invariant.0) in record { grown = axis_all a.pass a.grid a.axis l.u (hits) (omega arith) l.invariant.4; result_value = l.invariant.1 ∙ ap (λ (n : ℕ). grazed_in_rows a.grid a.axis n (hits)) all }
+    let counted = c.count_on-count.ensures ∙ ap (λ x. count_on x a.grid) c.next-across.ensures in
+    axis_all a.pass a.grid a.axis l.u (cast_hit a.grid a.axis a.cast a.z0.now a.z1.now a.z2.now) (omega arith) l.invariant.1

@@ -1,5 +1,5 @@
 -- `offer_around`: the loop's turns are the offers, one for each step. Assumes nothing.
-use Prim.Native.Nat.{ℕ, ◌-◌, ◌<◌}
+use Prim.Native.Nat.{ℕ}
 use native.Mathlib.Omega.{arith}
 use mathlib.Core.Path.{◌≡◌, ◌∙◌}
 use mathlib.Core.List.{List}
@@ -8,7 +8,7 @@ use lib.Ieee.{Float}
 use Rattle.run_around.specs.Around.{Passable}
 use Rattle.run_state.proofs.Loops.{begins, goes_on, stops, ends, Alike, alike}
 use Rattle.run_offer.proofs.offer_around.Goals as goal
-use Rattle.run_offer.proofs.offer_around.Goals.{After-loop-j, Else-reached-ne0, Then-reached-ne0}
+use Rattle.run_offer.proofs.offer_around.Goals.{After-loop-j, Then-reached-ne0}
 
 -- a place that fits at the entry fits at each turn
 passable : {to : ℕ} {field field₀ : List Float} {names names₀ : List ℕ} → length field ≡ length field₀ → length names ≡ length names₀
@@ -20,21 +20,18 @@ alike_at : (l : After-loop-j) →
     let o = l.loop-j in
     let a = l.args in
     Alike o.field a.field.now o.names o.distances o.cells o.triangles a.names.now a.distances.now a.cells.now a.triangles.now
-alike_at l = let a = l.loop-j.invariant.0 in alike a.field_long a.names_long a.long a.held l.requires.held
+alike_at l = let a = l.loop-j.invariant in alike a.field_long a.names_long a.long a.held l.requires.held
 
 alike_behind : (o : Then-reached-ne0) →
     let a = o.args in
     Alike o.offer_to-reached.new.field a.field.now o.offer_to-reached.new.names o.offer_to-reached.new.distances o.offer_to-reached.new.cells o.offer_to-reached.new.triangles
     a.names.now a.distances.now a.cells.now a.triangles.now
 alike_behind o =
-    let a = o.loop-j.invariant.0 in
+    let a = o.loop-j.invariant in
     alike (o.offer_to-reached.auto.field ∙ a.field_long) (o.offer_to-reached.auto.names ∙ a.names_long) (o.offer_to-reached.auto.distances ∙ a.long) o.offer_to-reached.ensures.held o.requires.held
 
-less : (c : Else-reached-ne0) → c.loop-j.j < 27
-less c = c.loop-j-test.true
-
 pub loop-j-init : goal.loop-j-init
-loop-j-init c = (begins _ c.requires.number_value.0 c.requires.held, omega arith)
+loop-j-init c = begins _ c.requires.number_value.0 c.requires.held
 
 pub bounds-to-j : goal.bounds-to-j
 bounds-to-j c = omega (arith, c.requires.number_value.1.to_long)
@@ -45,7 +42,7 @@ bounds-squares-j c = omega (arith, c.requires.number_value.1.squares_long)
 pub offer_to-reached-requires : goal.offer_to-reached-requires
 offer_to-reached-requires c =
     let l = c.loop-j in
-    let a = l.invariant.0 in record { held = a.held; number_value = (a.fine, passable a.field_long a.names_long (c.requires.number_value.1.each l.j c.loop-j-test.true)) }
+    let a = l.invariant in record { held = a.held; number_value = (a.fine, passable a.field_long a.names_long (c.requires.number_value.1.each l.j c.loop-j-test.true)) }
 
 pub shape_of-field-then-reached-ne0 : goal.shape_of-field-then-reached-ne0
 shape_of-field-then-reached-ne0 c = (alike_behind c).field_same
@@ -64,17 +61,11 @@ shape_of-triangles-then-reached-ne0 c = (alike_behind c).triangles_same
 
 pub returns-then-reached-ne0 : goal.returns-then-reached-ne0
 returns-then-reached-ne0 c =
-    stops _ c.loop-j.invariant.0 c.offer_to-reached.ensures 27 c.if-reached-ne0.true c.loop-j-test.true
-
-pub overflow_add-j : goal.overflow_add-j
-overflow_add-j c = omega (arith, less c)
-
-pub loop-j-smaller : goal.loop-j-smaller
-loop-j-smaller c = omega (arith, less c)
+    stops _ c.loop-j.invariant c.offer_to-reached.ensures 27 c.if-reached-ne0.true c.loop-j-test.true
 
 pub loop-j-preserved : goal.loop-j-preserved
 loop-j-preserved c =
-    (goes_on _ c.loop-j.invariant.0 c.offer_to-reached.ensures c.offer_to-reached.auto.field c.offer_to-reached.auto.names c.offer_to-reached.auto.distances c.if-reached-ne0.false, omega (arith, less c))
+    goes_on _ c.loop-j.invariant c.offer_to-reached.ensures c.offer_to-reached.auto.field c.offer_to-reached.auto.names c.offer_to-reached.auto.distances c.if-reached-ne0.false
 
 pub shape_of-field : goal.shape_of-field
 shape_of-field c = (alike_at c).field_same
@@ -93,5 +84,4 @@ shape_of-triangles c = (alike_at c).triangles_same
 
 pub returns : goal.returns
 returns c =
-    let i = c.loop-j.invariant in
-    ends _ 27 i.0 (omega (arith, i.1, c.loop-j-test.false))
+    ends _ 27 c.loop-j.invariant (omega arith)

@@ -1,5 +1,5 @@
 -- `offer_around`: the loop's turns are the offers, one for each step. Assumes nothing.
-use Prim.Native.Nat.{ℕ, ◌-◌, ◌≤◌}
+use Prim.Native.Nat.{ℕ}
 use mathlib.Core.List.{List}
 use lib.ListN.{get_or}
 use lib.Ieee.{Float, nan}
@@ -17,7 +17,3 @@ turn k to squares g j = offer_place (queue g) k (place_of (get_or to j 0)) (sign
 abbrev pub invariant-loop-j : goal.invariant-loop-j
 invariant-loop-j l =
     After (turn l.k l.to l.squares) l.initial.field l.initial.names l.initial.distances l.initial.cells l.initial.triangles l.initial.reached l.j l.field l.names l.distances l.cells l.triangles l.reached
-    × (l.j ≤ 27)
-
-abbrev pub decreases-loop-j : goal.decreases-loop-j
-decreases-loop-j l = 27 - l.j

@@ -1,5 +1,4 @@
 -- `queue_cells`: the loop's turns are those of queueing, one for each cell. Assumes nothing.
-use Prim.Native.Nat.{◌-◌}
 use native.Mathlib.Omega.{arith}
 use mathlib.Core.Path.{refl, ◌∙◌}
 use Rattle.run.specs.Run.{queue_cell}
@@ -13,21 +12,21 @@ alike_at : (l : After-loop-c) →
     let a = l.args in
     Alike a.field.now a.field.now a.names.now o.distances o.cells o.triangles
     a.names.now a.distances.now a.cells.now a.triangles.now
-alike_at l = alike refl refl l.loop-c.invariant.0.long l.loop-c.invariant.0.held l.requires.held
+alike_at l = alike refl refl l.loop-c.invariant.long l.loop-c.invariant.held l.requires.held
 
 alike_behind : (q : Then-reached-ne0) →
     let a = q.args in
     Alike a.field.now a.field.now a.names.now q.queue_cell-reached.new.distances q.queue_cell-reached.new.cells q.queue_cell-reached.new.triangles
     a.names.now a.distances.now a.cells.now a.triangles.now
 alike_behind q =
-    alike refl refl (q.queue_cell-reached.auto.distances ∙ q.loop-c.invariant.0.long) q.queue_cell-reached.ensures.held q.requires.held
+    alike refl refl (q.queue_cell-reached.auto.distances ∙ q.loop-c.invariant.long) q.queue_cell-reached.ensures.held q.requires.held
 
 pub loop-c-init : goal.loop-c-init
-loop-c-init c = (begins queue_cell c.requires.number_value.0 c.requires.held, omega arith)
+loop-c-init c = begins queue_cell c.requires.number_value.0 c.requires.held
 
 pub queue_cell-reached-requires : goal.queue_cell-reached-requires
 queue_cell-reached-requires c =
-    let a = c.loop-c.invariant.0 in record { held = a.held; number_value = (a.fine, c.loop-c-test.true, c.requires.number_value.1, omega (arith, c.loop-c-test.true, c.requires.number_value.2)) }
+    let a = c.loop-c.invariant in record { held = a.held; number_value = (a.fine, c.loop-c-test.true, c.requires.number_value.1, omega (arith, c.loop-c-test.true, c.requires.number_value.2)) }
 
 pub shape_of-distances-then-reached-ne0 : goal.shape_of-distances-then-reached-ne0
 shape_of-distances-then-reached-ne0 c = (alike_behind c).distances_same
@@ -40,18 +39,11 @@ shape_of-triangles-then-reached-ne0 c = (alike_behind c).triangles_same
 
 pub returns-then-reached-ne0 : goal.returns-then-reached-ne0
 returns-then-reached-ne0 c =
-    stops queue_cell c.loop-c.invariant.0 c.queue_cell-reached.ensures _ c.if-reached-ne0.true c.loop-c-test.true
-
-pub overflow_add-c : goal.overflow_add-c
-overflow_add-c c =
-    omega (arith, c.loop-c-test.true, c.requires.number_value.2)
-
-pub loop-c-smaller : goal.loop-c-smaller
-loop-c-smaller c = omega (arith, c.loop-c-test.true)
+    stops queue_cell c.loop-c.invariant c.queue_cell-reached.ensures _ c.if-reached-ne0.true c.loop-c-test.true
 
 pub loop-c-preserved : goal.loop-c-preserved
 loop-c-preserved c =
-    (goes_on queue_cell c.loop-c.invariant.0 c.queue_cell-reached.ensures refl refl c.queue_cell-reached.auto.distances c.if-reached-ne0.false, omega (arith, c.loop-c-test.true))
+    goes_on queue_cell c.loop-c.invariant c.queue_cell-reached.ensures refl refl c.queue_cell-reached.auto.distances c.if-reached-ne0.false
 
 pub shape_of-distances : goal.shape_of-distances
 shape_of-distances c = (alike_at c).distances_same
@@ -63,4 +55,4 @@ pub shape_of-triangles : goal.shape_of-triangles
 shape_of-triangles c = (alike_at c).triangles_same
 
 pub returns : goal.returns
-returns c = let i = c.loop-c.invariant in ends queue_cell _ i.0 (omega (arith, i.1, c.loop-c-test.false))
+returns c = ends queue_cell _ c.loop-c.invariant (omega arith)

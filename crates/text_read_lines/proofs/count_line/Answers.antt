@@ -4,24 +4,21 @@ use Rattle.text.specs.Reader.{count_line}
 use Rattle.text.proofs.Calls.{onward, stopped, passes, fails, kept_not}
 use Rattle.text_read_lines.proofs.count_line.Goals as goal
 
-pub returns-in_default : goal.returns-in_default
+pub returns-in_err-behind : goal.returns-in_err-behind
 unfolding count_line
-returns-in_default c = kept_not _ (stopped _ (rw c.in_default.is at c.after.ensures))
+returns-in_err-behind c = rw c.from_residual.ensures (kept_not _ (stopped _ c.in_err-behind.ensures))
 
-pub returns-in_default-three_values : goal.returns-in_default-three_values
+pub returns-in_err-count : goal.returns-in_err-count
 unfolding count_line
-returns-in_default-three_values c =
-    kept_not _
-    (rw c.in_default-three_values.is at c.three_values.ensures ∙ onward _ (rw c.in-At.is at c.after.ensures))
+returns-in_err-count c =
+    rw c.from_residual-in_err-count.ensures (kept_not _ (c.in_err-count.ensures ∙ onward _ c.in_ok-behind.ensures))
 
 pub returns-then-not-few : goal.returns-then-not-few
 unfolding count_line
 returns-then-not-few c =
-    fails _ (sym c.if-not-few.true ∙ c.few_cells-few.ensures)
-    (rw c.in-Are.is at c.three_values.ensures ∙ onward _ (rw c.in-At.is at c.after.ensures))
+    fails _ (sym c.if-not-few.true ∙ c.few_cells-few.ensures) (c.in_ok-count.ensures ∙ onward _ c.in_ok-behind.ensures)
 
 pub returns : goal.returns
 unfolding count_line
 returns c =
-    passes _ (sym c.if-not-few.false ∙ c.few_cells-few.ensures)
-    (rw c.in-Are.is at c.three_values.ensures ∙ onward _ (rw c.in-At.is at c.after.ensures))
+    passes _ (sym c.if-not-few.false ∙ c.few_cells-few.ensures) (c.in_ok-count.ensures ∙ onward _ c.in_ok-behind.ensures)

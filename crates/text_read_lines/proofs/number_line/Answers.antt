@@ -5,24 +5,21 @@ use Rattle.text.specs.Reader.{number_line}
 use Rattle.text.proofs.Calls.{onward, stopped, passes, fails, kept_not}
 use Rattle.text_read_lines.proofs.number_line.Goals as goal
 
-pub returns-in_default : goal.returns-in_default
+pub returns-in_err-behind : goal.returns-in_err-behind
 unfolding number_line
-returns-in_default c = kept_not _ (stopped _ (rw c.in_default.is at c.after.ensures))
+returns-in_err-behind c = rw c.from_residual.ensures (kept_not _ (stopped _ c.in_err-behind.ensures))
 
-pub returns-in_default-decimal : goal.returns-in_default-decimal
+pub returns-in_err-number : goal.returns-in_err-number
 unfolding number_line
-returns-in_default-decimal c =
-    kept_not _
-    (rw c.in_default-decimal.is at c.decimal.ensures ∙ onward _ (rw c.in-At.is at c.after.ensures))
+returns-in_err-number c =
+    rw c.from_residual-in_err-number.ensures (kept_not _ (c.in_err-number.ensures ∙ onward _ c.in_ok-behind.ensures))
 
-pub returns-then-most-value : goal.returns-then-most-value
+pub returns-then-most-number : goal.returns-then-most-number
 unfolding number_line
-returns-then-most-value c =
-    fails _ (sym (lt-leb _ _ c.if-most-value.true))
-    (rw c.in-Is.is at c.decimal.ensures ∙ onward _ (rw c.in-At.is at c.after.ensures))
+returns-then-most-number c =
+    fails _ (sym (lt-leb _ _ c.if-most-number.true)) (c.in_ok-number.ensures ∙ onward _ c.in_ok-behind.ensures)
 
 pub returns : goal.returns
 unfolding number_line
 returns c =
-    passes _ (sym (le-leb _ _ c.if-most-value.false))
-    (rw c.in-Is.is at c.decimal.ensures ∙ onward _ (rw c.in-At.is at c.after.ensures))
+    passes _ (sym (le-leb _ _ c.if-most-number.false)) (c.in_ok-number.ensures ∙ onward _ c.in_ok-behind.ensures)

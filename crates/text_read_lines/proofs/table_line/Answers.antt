@@ -4,11 +4,11 @@ use Rattle.text.specs.Reader.{optional, table_line}
 use Rattle.text.proofs.Calls.{onward, stopped, the_first, the_second}
 use Rattle.text_read_lines.proofs.table_line.Goals as goal
 
-pub returns-in-Is : goal.returns-in-Is
+pub returns-in-Some : goal.returns-in-Some
 unfolding optional table_line
-returns-in-Is c =
-    the_first _ (onward _ (rw c.in-Is.is at c.number_line.ensures))
+returns-in-Some c =
+    the_first _ (onward _ c.in-Some.ensures)
 
 pub returns : goal.returns
 unfolding optional table_line
-returns c = the_second (stopped _ (rw c.in_default.is at c.number_line.ensures)) refl
+returns c = the_second (stopped _ c.in_default.ensures) refl

@@ -2,19 +2,14 @@
 use Rattle.text.proofs.Calls.{three_not, three_not_2, three_not_3, three_are}
 use Rattle.text_read_lines.proofs.three_values.Goals as goal
 
-pub returns-in_default : goal.returns-in_default
-returns-in_default c = three_not _ (rw c.in_default.is at c.value.ensures)
+pub returns-in_err-x : goal.returns-in_err-x
+returns-in_err-x c = rw c.from_residual.ensures (three_not _ c.in_err-x.ensures)
 
-pub returns-in_default-value : goal.returns-in_default-value
-returns-in_default-value c =
-    three_not_2 _ (rw c.in-Is.is at c.value.ensures) (rw c.in_default-value.is at c.value-2.ensures)
+pub returns-in_err-y : goal.returns-in_err-y
+returns-in_err-y c = rw c.from_residual-in_err-y.ensures (three_not_2 _ c.in_ok-x.ensures c.in_err-y.ensures)
 
-pub returns-in_default-value-2 : goal.returns-in_default-value-2
-returns-in_default-value-2 c =
-    three_not_3 _ (rw c.in-Is.is at c.value.ensures) (rw c.in-Is-value.is at c.value-2.ensures)
-    (rw c.in_default-value-2.is at c.value-3.ensures)
+pub returns-in_err-z : goal.returns-in_err-z
+returns-in_err-z c = rw c.from_residual-in_err-z.ensures (three_not_3 _ c.in_ok-x.ensures c.in_ok-y.ensures c.in_err-z.ensures)
 
 pub returns : goal.returns
-returns c =
-    three_are _ (rw c.in-Is.is at c.value.ensures) (rw c.in-Is-value.is at c.value-2.ensures)
-    (rw c.in-Is-value-2.is at c.value-3.ensures)
+returns c = three_are _ c.in_ok-x.ensures c.in_ok-y.ensures c.in_ok-z.ensures

@@ -5,19 +5,18 @@ use Rattle.text.specs.Reader.{one_of, topology_line}
 use Rattle.text.proofs.Calls.{onward, stopped, the_first, the_second}
 use Rattle.text_read_lines.proofs.topology_line.Goals as goal
 
-pub returns-in-At : goal.returns-in-At
+pub returns-in-Some : goal.returns-in-Some
 unfolding topology_line one_of line
-returns-in-At c =
-    the_first _ (onward _ (rw c.in-At.is at c.after.ensures))
+returns-in-Some c =
+    the_first _ (onward _ c.in-Some.ensures)
 
-pub returns-in-At-after : goal.returns-in-At-after
+pub returns-in_err-next : goal.returns-in_err-next
 unfolding topology_line one_of line
-returns-in-At-after c =
-    the_second (stopped _ (rw c.in_default.is at c.after.ensures))
-    (the_first _ (onward _ (rw c.in-At-after.is at c.after-2.ensures)))
+returns-in_err-next c =
+    rw c.from_residual.ensures (the_second (stopped _ c.in_default.ensures) (the_second (stopped _ c.in_err-next.ensures) refl))
 
 pub returns : goal.returns
 unfolding topology_line one_of line
 returns c =
-    the_second (stopped _ (rw c.in_default.is at c.after.ensures))
-    (the_second (stopped _ (rw c.in_default-after.is at c.after-2.ensures)) refl)
+    the_second (stopped _ c.in_default.ensures)
+    (the_first _ (onward _ c.in_ok-next.ensures))

@@ -5,27 +5,27 @@ use Rattle.text.specs.Reader.{optional, one_of, upright_line}
 use Rattle.text.proofs.Calls.{onward, stopped, the_first, the_second}
 use Rattle.text_read_lines.proofs.upright_line.Goals as goal
 
-pub returns-in-At : goal.returns-in-At
+pub returns-in-Some : goal.returns-in-Some
 unfolding optional upright_line one_of line
-returns-in-At c =
-    the_first _ (the_first _ (onward _ (rw c.in-At.is at c.after.ensures)))
+returns-in-Some c =
+    the_first _ (the_first _ (onward _ c.in-Some.ensures))
 
-pub returns-in-At-after : goal.returns-in-At-after
+pub returns-in-Some-after : goal.returns-in-Some-after
 unfolding optional upright_line one_of line
-returns-in-At-after c =
-    the_first _ (the_second (stopped _ (rw c.in_default.is at c.after.ensures))
-    (the_first _ (onward _ (rw c.in-At-after.is at c.after-2.ensures))))
+returns-in-Some-after c =
+    the_first _ (the_second (stopped _ c.in_default.ensures)
+    (the_first _ (onward _ c.in-Some-after.ensures)))
 
-pub returns-in-At-after-2 : goal.returns-in-At-after-2
+pub returns-in-Some-after-2 : goal.returns-in-Some-after-2
 unfolding optional upright_line one_of line
-returns-in-At-after-2 c =
-    the_first _ (the_second (stopped _ (rw c.in_default.is at c.after.ensures))
-    (the_second (stopped _ (rw c.in_default-after.is at c.after-2.ensures))
-    (the_first _ (onward _ (rw c.in-At-after-2.is at c.after-3.ensures)))))
+returns-in-Some-after-2 c =
+    the_first _ (the_second (stopped _ c.in_default.ensures)
+    (the_second (stopped _ c.in_default-after.ensures)
+    (the_first _ (onward _ c.in-Some-after-2.ensures))))
 
 pub returns : goal.returns
 unfolding optional upright_line one_of line
 returns c =
-    the_second (the_second (stopped _ (rw c.in_default.is at c.after.ensures))
-    (the_second (stopped _ (rw c.in_default-after.is at c.after-2.ensures))
-    (the_second (stopped _ (rw c.in_default-after-2.is at c.after-3.ensures)) refl))) refl
+    the_second (the_second (stopped _ c.in_default.ensures)
+    (the_second (stopped _ c.in_default-after.ensures)
+    (the_second (stopped _ c.in_default-after-2.ensures) refl))) refl

@@ -4,19 +4,15 @@ use Rattle.text.specs.Reader.{tail_at}
 use Rattle.text.proofs.Calls.{onward, stopped}
 use Rattle.text_read_parts.proofs.tail.Goals as goal
 
-pub returns-in_default : goal.returns-in_default
+pub returns-in_err-room : goal.returns-in_err-room
 unfolding tail_at
-returns-in_default c = stopped _ (rw c.in_default.is at c.number_line.ensures)
+returns-in_err-room c = rw c.from_residual.ensures (stopped _ c.in_err-room.ensures)
 
-pub returns-in_default-number_line : goal.returns-in_default-number_line
+pub returns-in_err-limit : goal.returns-in_err-limit
 unfolding tail_at
-returns-in_default-number_line c =
-    stopped _ (rw c.in_default-number_line.is at c.number_line-2.ensures)
-    ∙ onward _ (rw c.in-Is.is at c.number_line.ensures)
+returns-in_err-limit c =
+    rw c.from_residual-in_err-limit.ensures (stopped _ c.in_err-limit.ensures ∙ onward _ c.in_ok-room.ensures)
 
 pub returns : goal.returns
 unfolding tail_at
-returns c =
-    onward _ c.table_line-edition.ensures
-    ∙ onward _ (rw c.in-Is-number_line.is at c.number_line-2.ensures)
-    ∙ onward _ (rw c.in-Is.is at c.number_line.ensures)
+returns c = onward _ c.table_line-table.ensures ∙ onward _ c.in_ok-limit.ensures ∙ onward _ c.in_ok-room.ensures

@@ -1,5 +1,4 @@
 -- `text_read_parts::vertex_lines`: each line's three numbers are stored behind those before them. Assumes nothing.
-use Prim.Native.Nat.{◌-◌}
 use Rattle.text.specs.Reader.{vertex_line_at}
 use Rattle.text_read_parts.specs.Told.{threes_in}
 use Rattle.text_read_parts.proofs.Stored.{Stored}
@@ -7,6 +6,3 @@ use Rattle.text_read_parts.proofs.vertex_lines.Given as goal
 
 abbrev pub invariant-loop-i : goal.invariant-loop-i
 invariant-loop-i l = Stored vertex_line_at threes_in l.text l.at l.n l.initial.out l.out l.k l.i
-
-abbrev pub decreases-loop-i : goal.decreases-loop-i
-decreases-loop-i l = l.n - l.i

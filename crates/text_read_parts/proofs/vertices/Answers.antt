@@ -5,21 +5,17 @@ use Rattle.text.specs.Reader.{vertices_at}
 use Rattle.text.proofs.Calls.{onward, stopped, bounded}
 use Rattle.text_read_parts.proofs.vertices.Goals as goal
 
-pub returns-in_default : goal.returns-in_default
+pub returns-in_err-count : goal.returns-in_err-count
 unfolding vertices_at
-returns-in_default c = stopped _ (rw c.in_default.is at c.number_line.ensures)
+returns-in_err-count c = rw c.from_residual.ensures (stopped _ c.in_err-count.ensures)
 
 pub vertex_lines-requires : goal.vertex_lines-requires
-vertex_lines-requires c =
-    let h = bounded _ _ _ (rw c.in-Is.is at c.number_line.ensures) in
-    omega arith
+vertex_lines-requires c = omega (arith, bounded _ _ _ c.in_ok-count.ensures)
 
-pub returns-in_default-vertex_lines : goal.returns-in_default-vertex_lines
+pub returns-in_err-next : goal.returns-in_err-next
 unfolding vertices_at
-returns-in_default-vertex_lines c =
-    rw c.in_default-vertex_lines.is at c.vertex_lines.ensures ∙ onward _ (rw c.in-Is.is at c.number_line.ensures)
+returns-in_err-next c = rw c.from_residual-in_err-next.ensures (c.in_err-next.ensures ∙ onward _ c.in_ok-count.ensures)
 
 pub returns : goal.returns
 unfolding vertices_at
-returns c =
-    rw c.in-At.is at c.vertex_lines.ensures ∙ onward _ (rw c.in-Is.is at c.number_line.ensures)
+returns c = c.in_ok-next.ensures ∙ onward _ c.in_ok-count.ensures

@@ -13,15 +13,18 @@ grown : (i v d : ℕ) → v < 16 ^ i → d < 16 → 16 * v + d < 16 ^ (i + 1)
 grown i v d w h = rw add-one (omega arith)
 
 fits : (l : Else-d-ge16) → l.loop-i.value < 2 ^ 32
-fits l = let p : 16 ^ l.loop-i.i ≤ 16 ^ 8 = pow-le-pow_right (omega arith) l.loop-i.invariant.0 in omega (arith, l.loop-i.invariant.1)
+fits l =
+    let few : l.loop-i.i ≤ 8 = omega arith in
+    let p : 16 ^ l.loop-i.i ≤ 16 ^ 8 = pow-le-pow_right (omega arith) few in
+    omega (arith, l.loop-i.invariant.0)
 
 pub returns-then-text-k : goal.returns-then-text-k
-returns-then-text-k c = sym (c.loop-i.invariant.2 ∙ hex_past _ _ _ _ _ c.if-text-k.true)
+returns-then-text-k c = sym (c.loop-i.invariant.1 ∙ hex_past _ _ _ _ _ c.if-text-k.true)
 
 pub returns-then-d-ge16 : goal.returns-then-d-ge16
 returns-then-d-ge16 c =
     let fewer : 8 - c.loop-i.i ≡ suc (8 - (c.loop-i.i + 1)) = omega (arith, c.loop-i-test.true) in
-    sym (c.loop-i.invariant.2 ∙ hex_not _ _ _ _ (fewer) c.if-text-k.false c.digit-d.ensures c.if-d-ge16.true)
+    sym (c.loop-i.invariant.1 ∙ hex_not _ _ _ _ (fewer) c.if-text-k.false c.digit-d.ensures c.if-d-ge16.true)
 
 pub overflow_mul-value : goal.overflow_mul-value
 overflow_mul-value c = omega (arith, fits c)
@@ -33,20 +36,19 @@ pub loop-i-preserved : goal.loop-i-preserved
 loop-i-preserved c =
     let fewer : 8 - c.loop-i.i ≡ suc (8 - (c.loop-i.i + 1)) = omega (arith, c.loop-i-test.true) in
     let l = c.loop-i in (
-      omega arith,
-      grown _ _ _ l.invariant.1 c.if-d-ge16.false,
-      l.invariant.2 ∙ hex_next _ _ _ _ (fewer) c.if-text-k.false c.digit-d.ensures c.if-d-ge16.false,
+      grown _ _ _ l.invariant.0 c.if-d-ge16.false,
+      l.invariant.1 ∙ hex_next _ _ _ _ (fewer) c.if-text-k.false c.digit-d.ensures c.if-d-ge16.false,
     )
 
 pub returns-then-text-k-2 : goal.returns-then-text-k-2
-returns-then-text-k-2 c = sym (c.loop-i.invariant.2 ∙ hex_past _ _ _ _ _ c.if-text-k-2.true)
+returns-then-text-k-2 c = sym (c.loop-i.invariant.1 ∙ hex_past _ _ _ _ _ c.if-text-k-2.true)
 
 pub returns-then-text-k-3 : goal.returns-then-text-k-3
 returns-then-text-k-3 c =
     let none_left : 8 - c.loop-i.i ≡ 0 = omega (arith, c.loop-i-test.false) in
-    sym (c.loop-i.invariant.2 ∙ hex_differs _ _ _ _ (none_left) c.if-text-k-2.false c.if-text-k-3.true)
+    sym (c.loop-i.invariant.1 ∙ hex_differs _ _ _ _ (none_left) c.if-text-k-2.false c.if-text-k-3.true)
 
 pub returns : goal.returns
 returns c =
     let none_left : 8 - c.loop-i.i ≡ 0 = omega (arith, c.loop-i-test.false) in
-    sym (c.loop-i.invariant.2 ∙ hex_stop _ _ _ _ (none_left) c.if-text-k-2.false c.if-text-k-3.false)
+    sym (c.loop-i.invariant.1 ∙ hex_stop _ _ _ _ (none_left) c.if-text-k-2.false c.if-text-k-3.false)

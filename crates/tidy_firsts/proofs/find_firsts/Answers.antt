@@ -1,6 +1,6 @@
 -- `tidy_firsts::find_firsts`: the invariant is that the vertices below v are entered and have their firsts. Assumes nothing.
 use native.Mathlib.Omega.{arith}
-use Prim.Native.Nat.{ℕ, ◌*◌, ◌-◌}
+use Prim.Native.Nat.{ℕ, ◌*◌}
 use mathlib.Core.Path.{◌≡◌, refl, sym, ap, ◌∙◌, subst}
 use lib.ListN.{length, replicate, length-map}
 use lib.Ieee.{binary32, to_bits}
@@ -17,8 +17,8 @@ pub loop-v-init : goal.loop-v-init
 loop-v-init c =
     let n = length c.args.firsts.now in
     let links = c.args.links.now in
-    let zeros : bits_of c.fill_floats.new.floats ≡ replicate (3 * n) 0 =
-    ap bits_of c.fill_floats.ensures ∙ zeros_bits (length links) ∙ ap (λ (k : ℕ). replicate k 0) (c.requires.links_len ∙ c.requires.vertices_len) in
+    let zeros : bits_of c.fill.new.self ≡ replicate (3 * n) 0 =
+    ap bits_of (c.fill.ensures.after (λ _ e. e)) ∙ zeros_bits (length links) ∙ ap (λ (k : ℕ). replicate k 0) (c.requires.links_len ∙ c.requires.vertices_len) in
     record {
       filled = filled_none 0 (first_in c.args.vertices.now) c.args.firsts.now;
       entered = subst (Entered (vertex_bits c.args.vertices.now) any n 0) (sym zeros) (none_entered (omega (arith, c.requires.firsts_len_bound)));

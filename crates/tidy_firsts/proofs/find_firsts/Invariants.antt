@@ -1,5 +1,5 @@
 -- `tidy_firsts::find_firsts`: the invariant is that the vertices below v are entered and have their firsts. Assumes nothing.
-use Prim.Native.Nat.{ℕ, ◌-◌}
+use Prim.Native.Nat.{ℕ}
 use mathlib.Core.List.{List}
 use lib.Ieee.{Float}
 use Rattle.lists.specs.Table.{Filled}
@@ -12,6 +12,3 @@ pub record Found (vs : List Float) (n v : ℕ) (links : List Float) (firsts₀ f
 
 abbrev pub invariant-loop-v : goal.invariant-loop-v
 invariant-loop-v l = Found l.vertices l.n l.v l.links l.initial.firsts l.firsts
-
-abbrev pub decreases-loop-v : goal.decreases-loop-v
-decreases-loop-v l = l.n - l.v

@@ -1,10 +1,8 @@
 -- `tidy_marks::mark_used`: the invariant is that the vertices of the kept triangles below k are marked, and no other. Assumes nothing.
-use Prim.Native.Nat.{ℕ, ◌*◌, ◌-◌, ◌≤◌}
-use mathlib.Core.Path.{◌≡◌}
+use Prim.Native.Nat.{ℕ}
 use mathlib.Core.Bool.{Bool, cond, ◌&&◌}
 use mathlib.Core.List.{List}
 use lib.ListN.{length}
-use lib.Ieee.{Float}
 use Rattle.picks.specs.Picks.{some}
 use Rattle.mesh_topology.specs.declared.Triangle.{Triangle}
 use Rattle.mesh_topology.specs.Topology.{triangles_of}
@@ -17,13 +15,7 @@ use Rattle.tidy_marks.proofs.mark_used.Given as goal
 abbrev pub has : List Triangle → List ℕ → List ℕ → ℕ → ℕ → Bool
 has ts firsts causes v k = kept_by causes k && has_number (merged_by ts firsts k) v
 
-pub record Marking (ts : List Triangle) (firsts causes : List ℕ) (words : List Float) (k : ℕ) : Type 0 where
-  pub within : k ≤ length causes
-  pub long : length words ≡ 3 * length firsts
-  pub marks : Marks (length firsts) (λ v. cond (some (has ts firsts causes v) k) 1 0) words
-
 abbrev pub invariant-loop-k : goal.invariant-loop-k
-invariant-loop-k l = Marking (triangles_of l.topology l.given l.indices (length l.firsts)) l.firsts l.causes l.words l.k
-
-abbrev pub decreases-loop-k : goal.decreases-loop-k
-decreases-loop-k l = length l.causes - l.k
+invariant-loop-k l =
+    let ts = triangles_of l.topology l.given l.indices (length l.firsts) in
+    Marks (length l.firsts) (λ v. cond (some (has ts l.firsts l.causes v) l.k) 1 0) l.words

@@ -1,7 +1,6 @@
 -- `tidy_marks::number_marked`: the invariant is that the marked vertices below v are numbered, and the marks from v on are as they were. Assumes
 -- nothing.
 use native.Mathlib.Omega.{arith}
-use Prim.Native.Nat.{◌-◌}
 use Rattle.lists.proofs.Range.{count_le}
 use Rattle.tidy_marks.specs.Marks.{is_marked}
 use Rattle.tidy_marks.proofs.Numbering.{numbering_begins, numbering_on, numbering_ends}

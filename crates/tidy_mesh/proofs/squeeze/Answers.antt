@@ -11,6 +11,7 @@ use Rattle.tidy_mesh.specs.declared.Kept.{Kept}
 use Rattle.tidy_mesh.specs.Outcome.{kept_counts}
 use Rattle.tidy_mesh.proofs.Parts.{squeezable, words_long}
 use Rattle.tidy_mesh.proofs.Whole.{kept_vertices_lem, kept_triangles_lem, listed_is, packed_is}
+use Rattle.mesh.specs.Lent.{mesh_in}
 use Rattle.tidy_mesh.proofs.squeeze.Goals as goal
 
 kept : (m : Mesh) {v t : ℕ} → v ≡ kept_vertices m → t ≡ kept_triangles m
@@ -19,13 +20,15 @@ kept m e f = λ i. record { vertices = e i; triangles = f i }
 
 pub mark_used-requires : goal.mark_used-requires
 mark_used-requires c =
-    let mesh : Mesh = mesh_of c.args.vertices.now c.args.topology c.args.given c.args.indices.now in
-    squeezable (mesh) c.requires.fact c.requires.found _ (words_long (mesh) c.requires.fact)
+    squeezable _ c.requires.fact c.requires.found _ (words_long _ c.requires.fact)
 
 pub list_kept-kept_triangles-requires : goal.list_kept-kept_triangles-requires
 list_kept-kept_triangles-requires c =
-    let mesh : Mesh = mesh_of c.args.vertices.now c.args.topology c.args.given c.args.indices.now in
-    let t = c.requires.fact in record { fact = squeezable (mesh) t c.requires.found _ (omega (arith, c.number_marked-kept_vertices.auto, c.mark_used.auto, words_long (mesh) t)); out_len = omega (arith, t.indices, t.causes) }
+    let t = c.requires.fact in
+    record {
+      fact = squeezable _ t c.requires.found _ (omega (arith, c.number_marked-kept_vertices.auto, c.mark_used.auto, words_long _ t));
+      out_len = omega (arith, t.indices, t.causes);
+    }
 
 pub overflow_cast-result : goal.overflow_cast-result
 overflow_cast-result c =
@@ -34,8 +37,7 @@ overflow_cast-result c =
 
 pub returns : goal.returns
 returns c =
-    let mesh : Mesh = mesh_of c.args.vertices.now c.args.topology c.args.given c.args.indices.now in
-    let m = mesh in
+    let m : Mesh = mesh_in c.args.mesh in
     let t = c.requires.fact in
     let e = c.requires.found in
     let marks = c.mark_used.ensures in record {

@@ -1,6 +1,6 @@
 -- `tidy_squeeze::list_kept`: a piece for each kept triangle, one behind the other, and zeros behind them. Assumes nothing.
 use native.Mathlib.Omega.{arith}
-use Prim.Native.Nat.{ℕ, ◌-◌, ◌≤◌}
+use Prim.Native.Nat.{ℕ, ◌≤◌}
 use mathlib.Core.Path.{refl, ◌∙◌}
 use mathlib.Core.List.{List}
 use lib.ListN.{length}
@@ -31,22 +31,22 @@ loop-k-preserved c =
 pub offset_bounds-out-at : goal.offset_bounds-out-at
 offset_bounds-out-at c = let w = within c in omega arith
 
-pub slice_bounds-fill_numbers-count : goal.slice_bounds-fill_numbers-count
-slice_bounds-fill_numbers-count c = within c
+pub slice_bounds-fill-count : goal.slice_bounds-fill-count
+slice_bounds-fill-count c = within c
 
-pub slice_bounds-fill_numbers-start : goal.slice_bounds-fill_numbers-start
-slice_bounds-fill_numbers-start c = let w = within c in omega arith
+pub slice_bounds-fill-start : goal.slice_bounds-fill-start
+slice_bounds-fill-start c = let w = within c in omega arith
 
-pub slice_bounds-fill_numbers-end : goal.slice_bounds-fill_numbers-end
-slice_bounds-fill_numbers-end c = let w = within c in omega arith
+pub slice_bounds-fill-end : goal.slice_bounds-fill-end
+slice_bounds-fill-end c = let w = within c in omega arith
 
 pub shape_of-out : goal.shape_of-out
 shape_of-out c =
     let put = c.loop-k.invariant.put in
-    (filled_behind 0 put c.fill_numbers.ensures).long ∙ put.long
+    (filled_behind 0 put (c.fill.ensures.after (λ _ e. e))).long ∙ put.long
 
 pub returns : goal.returns
 returns c =
     let numbers : ℕ → List ℕ = new_numbers (triangles_of c.args.topology c.args.given c.args.indices.now (length c.args.firsts.now)) c.args.firsts.now c.args.words.now in
     let put = (pieces_all _ _ _ _ _ c.loop-k.invariant c.loop-k-test.false).0 in
-    let all = packed (kept_by c.args.causes.now) (numbers) (λ k. refl) 0 (length c.args.causes.now) put (filled_behind 0 put c.fill_numbers.ensures) in record { value = omega (arith, all.0); out_after = all.1 }
+    let all = packed (kept_by c.args.causes.now) (numbers) (λ k. refl) 0 (length c.args.causes.now) put (filled_behind 0 put (c.fill.ensures.after (λ _ e. e))) in record { value = omega (arith, all.0); out_after = all.1 }

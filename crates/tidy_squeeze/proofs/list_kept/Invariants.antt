@@ -1,5 +1,5 @@
 -- `tidy_squeeze::list_kept`: a piece for each kept triangle, one behind the other, and zeros behind them. Assumes nothing.
-use Prim.Native.Nat.{ℕ, ◌-◌}
+use Prim.Native.Nat.{ℕ}
 use mathlib.Core.List.{List}
 use lib.ListN.{length}
 use lib.Ieee.{Float}
@@ -16,6 +16,3 @@ piece ts firsts causes words = piece_if (kept_by causes) (new_numbers ts firsts 
 abbrev pub invariant-loop-k : goal.invariant-loop-k
 invariant-loop-k l =
     Pieces (piece (triangles_of l.topology l.given l.indices (length l.firsts)) l.firsts l.causes l.words) 3 l.initial.out 0 (length l.causes) l.out l.k l.at
-
-abbrev pub decreases-loop-k : goal.decreases-loop-k
-decreases-loop-k l = length l.causes - l.k

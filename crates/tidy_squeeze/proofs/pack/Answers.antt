@@ -2,7 +2,7 @@
 -- are still to be read. Assumes nothing.
 use mathlib.Core.List.{[]}
 use native.Mathlib.Omega.{arith}
-use Prim.Native.Nat.{ℕ, ◌-◌, ◌≤◌}
+use Prim.Native.Nat.{ℕ, ◌≤◌}
 use mathlib.Core.Path.{◌≡◌, refl, ap, ◌∙◌}
 use mathlib.Core.Bool.{not, cond}
 use lib.Dec.{eqb}
@@ -43,23 +43,23 @@ loop-v-preserved c =
 pub offset_bounds-words-at : goal.offset_bounds-words-at
 offset_bounds-words-at c = let w = within c in omega arith
 
-pub slice_bounds-fill_floats-count : goal.slice_bounds-fill_floats-count
-slice_bounds-fill_floats-count c = within c
+pub slice_bounds-fill-count : goal.slice_bounds-fill-count
+slice_bounds-fill-count c = within c
 
-pub slice_bounds-fill_floats-start : goal.slice_bounds-fill_floats-start
-slice_bounds-fill_floats-start c = let w = within c in omega arith
+pub slice_bounds-fill-start : goal.slice_bounds-fill-start
+slice_bounds-fill-start c = let w = within c in omega arith
 
-pub slice_bounds-fill_floats-end : goal.slice_bounds-fill_floats-end
-slice_bounds-fill_floats-end c = let w = within c in omega arith
+pub slice_bounds-fill-end : goal.slice_bounds-fill-end
+slice_bounds-fill-end c = let w = within c in omega arith
 
 pub shape_of-words : goal.shape_of-words
 shape_of-words c =
     let put = c.loop-v.invariant.put in
-    (filled_behind plus_zero put c.fill_floats.ensures).long ∙ put.long
+    (filled_behind plus_zero put (c.fill.ensures.after (λ _ e. e))).long ∙ put.long
 
 pub returns : goal.returns
 returns c =
     let n = c.args.n in
     let put = (pieces_all _ _ _ _ _ c.loop-v.invariant c.loop-v-test.false).0 in
     (packed (is_marked n c.args.words.now) (coordinates_at c.args.vertices.now) (λ k. refl) plus_zero n put
-    (filled_behind plus_zero put c.fill_floats.ensures)).1
+    (filled_behind plus_zero put (c.fill.ensures.after (λ _ e. e)))).1

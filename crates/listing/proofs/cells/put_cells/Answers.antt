@@ -1,5 +1,4 @@
 -- `listing::cells::put_cells` meets its contract: a line for each cell, one after the other. Assumes nothing.
-use Prim.Native.Nat.{◌-◌}
 use Rattle.lists.proofs.Puts.{no_pieces, pieces_more, pieces_room, pieces_all}
 use Rattle.listing.proofs.cells.put_cells.Goals as goal
 

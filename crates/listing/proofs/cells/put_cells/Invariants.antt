@@ -1,5 +1,4 @@
 -- `listing::cells::put_cells` meets its contract: a line for each cell, one after the other. Assumes nothing.
-use Prim.Native.Nat.{◌-◌}
 use mathlib.Core.List.{[]}
 use lib.ListN.{length}
 use Rattle.lists.proofs.Puts.{Pieces}
@@ -9,6 +8,3 @@ use Rattle.listing.proofs.cells.put_cells.Given as goal
 
 abbrev pub invariant-loop-i : goal.invariant-loop-i
 invariant-loop-i l = Pieces (cell_line (shown l.field l.names [])) 36 l.initial.out l.at (length l.field) l.out l.i l.next
-
-abbrev pub decreases-loop-i : goal.decreases-loop-i
-decreases-loop-i l = length l.field - l.i

@@ -1,5 +1,4 @@
 -- `listing::cells::put_rows` meets its contract: a line for each layer, one after the other. Assumes nothing.
-use Prim.Native.Nat.{◌-◌}
 use native.Mathlib.Omega.{arith}
 use Rattle.text.specs.Words.{line}
 use Rattle.lists.proofs.Puts.{no_pieces, pieces_more, pieces_room, pieces_all}

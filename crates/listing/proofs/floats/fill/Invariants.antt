@@ -1,14 +1,9 @@
 -- `listing::floats::fill` meets its contract. The invariant: the floats of the patterns below i are there. Assumes nothing.
-use Prim.Native.Nat.{◌-◌, ◌≤◌}
-use mathlib.Core.Path.{◌≡◌}
-use lib.ListN.{length, get_or}
+use lib.ListN.{get_or}
 use lib.Ieee.{binary32, of_bits}
 use Rattle.float.specs.Arith.{f0}
 use Rattle.lists.specs.Table.{Filled}
 use Rattle.listing.proofs.floats.fill.Given as goal
 
 abbrev pub invariant-loop-i : goal.invariant-loop-i
-invariant-loop-i l = (length l.initial.floats ≡ length l.bits) × (l.i ≤ length l.bits) × Filled f0 (λ k. of_bits binary32 (get_or l.bits k 0)) l.initial.floats l.i l.floats
-
-abbrev pub decreases-loop-i : goal.decreases-loop-i
-decreases-loop-i l = length l.bits - l.i
+invariant-loop-i l = Filled f0 (λ k. of_bits binary32 (get_or l.bits k 0)) l.initial.floats l.i l.floats

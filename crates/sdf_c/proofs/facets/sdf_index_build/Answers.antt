@@ -2,4 +2,4 @@
 use Rattle.sdf_c.proofs.facets.sdf_index_build.Goals as goal
 
 pub returns : goal.returns
-returns c = c.index_build.ensures
+returns c = rw c.number_in.ensures c.index_build.ensures

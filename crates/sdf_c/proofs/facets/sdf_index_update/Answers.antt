@@ -2,4 +2,4 @@
 use Rattle.sdf_c.proofs.facets.sdf_index_update.Goals as goal
 
 pub returns : goal.returns
-returns c = c.index_update.ensures
+returns c = rw c.number_in.ensures c.index_update.ensures

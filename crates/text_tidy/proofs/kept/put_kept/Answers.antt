@@ -1,20 +1,14 @@
 -- `text_tidy::kept::put_kept` meets its contract: what is put into the lent part is the text of the job that the record and the slices
 -- hold. Assumes nothing.
-use Prim.Native.Nat.{ℕ, ◌+◌, ◌-◌}
+use Prim.Native.Nat.{ℕ}
 use native.Mathlib.Omega.{arith}
-use mathlib.Core.Path.{◌≡◌, refl, sym, ap, ap₂, ◌∙◌}
+use mathlib.Core.Path.{◌≡◌, sym, ap, ◌∙◌}
 use mathlib.Core.List.{List, ◌++◌}
 use lib.ListN.{length, take, drop}
 use lib.Seq.{length-take-le, length_front}
-use borrow.Rule.Slice.PartMut.{put_mid, mid_len}
-use Rattle.lists.specs.Put.{Put}
-use Rattle.text.specs.TextJob.{job_text}
-use Rattle.text_read_job.specs.declared.Asked.{Asked}
-use Rattle.text_read_job.specs.Told.{job_in}
-use Rattle.lists.proofs.Puts.{said, inside}
-use Rattle.text_tidy.specs.Parts.{kept_job}
-use Rattle.text_tidy.proofs.Within.{within}
-use Rattle.text_tidy.proofs.Held.{patterns, kept_is, kept_fits}
+use borrow.Rule.Slice.PartMut.{mid_len}
+use Rattle.lists.proofs.Puts.{inside}
+use Rattle.text_tidy.proofs.Held.{patterns, kept_fits, kept_put}
 use Rattle.text_tidy.proofs.kept.put_kept.Goals as goal
 use Rattle.text_tidy.proofs.kept.put_kept.Goals.{After-bits-1}
 
@@ -42,33 +36,8 @@ put_job-requires c =
 
 pub overflow_add-result : goal.overflow_add-result
 overflow_add-result c =
-    let behind : List ℕ = drop (length c.args.coordinates.now) c.coordinate_words-bits.result in
-    let filled : c.fill_bits.new.bits ++ behind ≡ patterns c.args.coordinates.now (behind) = ap (λ (l : List ℕ). l ++ behind) c.fill_bits.ensures in
-    let text_put : (let a = c.args in
-    Put a.out.now a.at (job_text (kept_job a.asked a.kept a.coordinates.now a.indices.now))
-    (put_mid a.at (length a.out.now - a.at) a.out.now c.put_job.new.out)
-    (a.at + c.put_job.result)) =
-    let a = c.args in
-    let is =
-    ap₂ (λ (z : Asked) (l : List ℕ). job_in z l a.indices.now) c.kept_asked-tidied.ensures (filled)
-    ∙ kept_is _ (behind) c.requires in
-    within a.out.now c.put_job.new.out _ a.at (length a.out.now - a.at) _ (omega (arith, c.requires.room))
-    (said (ap job_text is) refl c.put_job.ensures) in
-    let put = text_put in
+    let put = kept_put _ _ c.requires c.kept_asked-tidied.ensures c.fill_bits.ensures c.put_job.ensures in
     omega (arith, inside (omega (arith, c.requires.room)) put, put.long, c.well_formed)
 
 pub returns : goal.returns
-returns c =
-    let behind : List ℕ = drop (length c.args.coordinates.now) c.coordinate_words-bits.result in
-    let filled : c.fill_bits.new.bits ++ behind ≡ patterns c.args.coordinates.now (behind) = ap (λ (l : List ℕ). l ++ behind) c.fill_bits.ensures in
-    let text_put : (let a = c.args in
-    Put a.out.now a.at (job_text (kept_job a.asked a.kept a.coordinates.now a.indices.now))
-    (put_mid a.at (length a.out.now - a.at) a.out.now c.put_job.new.out)
-    (a.at + c.put_job.result)) =
-    let a = c.args in
-    let is =
-    ap₂ (λ (z : Asked) (l : List ℕ). job_in z l a.indices.now) c.kept_asked-tidied.ensures (filled)
-    ∙ kept_is _ (behind) c.requires in
-    within a.out.now c.put_job.new.out _ a.at (length a.out.now - a.at) _ (omega (arith, c.requires.room))
-    (said (ap job_text is) refl c.put_job.ensures) in
-    text_put
+returns c = kept_put _ _ c.requires c.kept_asked-tidied.ensures c.fill_bits.ensures c.put_job.ensures

@@ -1,5 +1,4 @@
 -- `text_tidy::lines::put_went` meets its contract: after i turns the lines of the first i numbers stand there. Assumes nothing.
-use Prim.Native.Nat.{◌-◌}
 use native.Mathlib.Omega.{arith}
 use Rattle.lists.proofs.Puts.{no_pieces, pieces_more, pieces_all}
 use Rattle.text_tidy.specs.Tidied.{went_line}

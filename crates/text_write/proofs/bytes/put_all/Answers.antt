@@ -1,11 +1,7 @@
--- `text_write::bytes::put_all` meets its contract. The invariant: the first i bytes of the word are put. Assumes nothing.
-use borrow.Author.Rules.{rules}
-use Prim.Native.Nat.{◌-◌}
+-- `text_write::bytes::put_all` meets its contract: the part of the slice that has the word's length is the word. Assumes nothing.
 use native.Mathlib.Omega.{arith}
-use Rattle.lists.proofs.Puts.{more}
+use Rattle.lists.proofs.Puts.{part}
 use Rattle.text_write.proofs.bytes.put_all.Goals as goal
 
-pub loop-i-preserved : goal.loop-i-preserved
-loop-i-preserved c =
-    let l = c.loop-i in
-    (omega arith, more 0 c.args.word.now (search rules) (omega (arith, l.invariant.1.long)) l.invariant.1)
+pub returns : goal.returns
+returns c = rw c.copy_from_slice.ensures.after (part _ _ _ _ (omega arith) (omega arith) (omega arith))

@@ -3,11 +3,11 @@ use Rattle.text.specs.Words.{line}
 use Rattle.lists.proofs.Puts.{nothing}
 use Rattle.text_write_job.proofs.parts.put_table.Goals as goal
 
-pub returns-in-Unsaid : goal.returns-in-Unsaid
-returns-in-Unsaid c =
-    rw c.in-Unsaid.is (nothing _ _)
+pub returns-in-None : goal.returns-in-None
+returns-in-None c =
+    rw c.in-None.is (nothing _ _)
 
-pub returns-in-Said : goal.returns-in-Said
+pub returns-in-Some : goal.returns-in-Some
 unfolding line
-returns-in-Said c =
-    rw c.in-Said.is c.put_number.ensures.put
+returns-in-Some c =
+    rw c.in-Some.is c.put_number.ensures.put

@@ -1,23 +1,10 @@
 -- `text_write_job::parts::put_upright` meets its contract, by what was said. Assumes nothing.
 use native.Mathlib.Omega.{arith}
-use mathlib.Core.Path.{ap}
-use Rattle.text.specs.Words.{line}
-use Rattle.text.specs.TextJob.{upright_text}
 use Rattle.lists.proofs.Puts.{nothing}
-use Rattle.text_write_job.proofs.Word.{word_put}
 use Rattle.text_write_job.proofs.parts.put_upright.Goals as goal
 
-pub returns-in-Unsaid : goal.returns-in-Unsaid
-returns-in-Unsaid c = record { put = rw c.in-Unsaid.is (nothing _ _); upper_bound = omega arith }
+pub returns-in-Some : goal.returns-in-Some
+returns-in-Some c = record { put = rw c.in-Some.is c.put_axis.ensures.put; upper_bound = c.put_axis.ensures.upper_bound }
 
-pub returns-in-X : goal.returns-in-X
-unfolding line
-returns-in-X c = let all = word_put _ 10 (ap upright_text c.in-X.is) (omega arith) c.put_all.ensures in record { put = all.0; upper_bound = all.1 }
-
-pub returns-in-Y : goal.returns-in-Y
-unfolding line
-returns-in-Y c = let all = word_put _ 10 (ap upright_text c.in-Y.is) (omega arith) c.put_all-in-Y.ensures in record { put = all.0; upper_bound = all.1 }
-
-pub returns-in-Z : goal.returns-in-Z
-unfolding line
-returns-in-Z c = let all = word_put _ 10 (ap upright_text c.in-Z.is) (omega arith) c.put_all-in-Z.ensures in record { put = all.0; upper_bound = all.1 }
+pub returns-in-None : goal.returns-in-None
+returns-in-None c = record { put = rw c.in-None.is (nothing _ _); upper_bound = omega arith }

@@ -1,5 +1,5 @@
 -- `text_write_job::parts::put_vertex_lines` meets its contract: a line for each vertex, one after the other. Assumes nothing.
-use Prim.Native.Nat.{ℕ, ◌+◌, ◌*◌, ◌-◌}
+use Prim.Native.Nat.{ℕ, ◌+◌, ◌*◌}
 use mathlib.Core.List.{List}
 use lib.ListN.{get_or}
 use Rattle.text.specs.declared.Three.{Three}
@@ -16,6 +16,3 @@ line_of vertices i = vertex_line (vertex_of vertices i)
 
 abbrev pub invariant-loop-i : goal.invariant-loop-i
 invariant-loop-i l = Pieces (line_of l.vertices) 29 l.initial.out l.at l.n l.out l.i l.next
-
-abbrev pub decreases-loop-i : goal.decreases-loop-i
-decreases-loop-i l = l.n - l.i

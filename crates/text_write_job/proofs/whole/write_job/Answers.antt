@@ -8,4 +8,4 @@ pub returns-then-asked : goal.returns-then-asked
 returns-then-asked c = (λ f. omega (arith, f.vertices_few, c.if-asked.true), refl)
 
 pub returns : goal.returns
-returns c = (search rules, c.put_job-n.ensures)
+returns c = (search rules, c.put_job.ensures)
