@@ -99,7 +99,7 @@ one_outcome_row field field' names names' crossings crossings' rows rows' queue 
 -- a job has no pass, so that two calls which differ in the pass alone ask for one job: over three buffers, and over a row of records
 pub pass_not_shown : (g : Grid) (vertices : List Float) (topology : Topology) (given : Indices) (indices : List ℕ) (limit : ℕ) (p q : Pass) (sign : SignMethod) (edition : ℕ) (b : Lent)
     {answer answer' : Answer} {left left' : Lent}
-    → Gives (outcome (job_of g vertices topology given indices (record { limit = limit; pass = p; sign = sign; edition = edition })) b) answer left
-    → Gives (outcome (job_of g vertices topology given indices (record { limit = limit; pass = q; sign = sign; edition = edition })) b) answer' left'
+    → Gives (outcome (job_of g (mesh_of vertices topology given indices) (record { limit = limit; pass = p; sign = sign; edition = edition })) b) answer left
+    → Gives (outcome (job_of g (mesh_of vertices topology given indices) (record { limit = limit; pass = q; sign = sign; edition = edition })) b) answer' left'
     → (answer ≡ answer') × (left ≡ left')
 pass_not_shown g vertices topology _ indices limit p q sign edition b = one_outcome

@@ -25,7 +25,7 @@ pub fn generate_grid_sdf_records(
     queue: &mut [Entry],
     terms: Terms,
 ) -> Answer
-    ensures { let job = job_in grid mesh.entry terms in
+    ensures { let job = job_of grid (mesh_in mesh.entry) terms in
         let lent = lent_row field.old names.old crossings.old rows.old queue.old in
         let left = lent_row field.new names.new crossings.new rows.new queue.new in
         Gives (outcome job lent) result left }
@@ -41,12 +41,8 @@ pub fn generate_grid_sdf_records(
         terms,
     )?;
     entries::clear(queue);
-    let ran = entries_run::run_row(
-        grid, mesh, field, names, queue, seeded, terms,
-    );
-    let answer = job_close::close(
-        grid, mesh, field, names, crossings, rows, terms, ran,
-    );
+    let ran = entries_run::run_row(grid, mesh, field, names, queue, seeded, terms);
+    let answer = job_close::close(grid, mesh, field, names, crossings, rows, terms, ran);
     if ran.number == 0 {
         return answer;
     }

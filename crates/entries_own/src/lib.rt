@@ -29,7 +29,7 @@ pub fn run_records(
     terms: Terms,
 ) -> Answer
     requires { room ≤ own_room }
-    ensures { let job = job_in grid mesh.entry terms in
+    ensures { let job = job_of grid (mesh_in mesh.entry) terms in
         let lent = lent_own field.old names.old crossings.old rows.old room in
         GivesFour (outcome job lent) result field.new names.new crossings.new rows.new }
 {

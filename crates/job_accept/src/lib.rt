@@ -32,19 +32,16 @@ fn cleared_job(
     requires fit { Fit grid (mesh_in mesh) }
     requires fresh { Fresh grid field.old names.old distances.old cells.old triangles.old }
     requires long { Long grid crossings.old rows.old }
-    ensures { let job = job_in grid mesh.entry terms in
+    ensures { let job = job_of grid (mesh_in mesh.entry) terms in
         let lent = lent_of field.old names.old crossings.old rows.old
         distances.old cells.old triangles.old in
         let left = lent_of field.new names.new crossings.new rows.new
         distances.new cells.new triangles.new in
         Gives (ended job lent (run_of job lent)) result left }
 {
-    let ran = run_field::run_field(
-        grid, mesh, field, names, distances, cells, triangles, terms,
-    );
+    let ran = run_field::run_field(grid, mesh, field, names, distances, cells, triangles, terms);
     job_conclude::conclude(
-        grid, mesh, field, names, crossings, rows, distances, cells,
-        triangles, terms, ran,
+        grid, mesh, field, names, crossings, rows, distances, cells, triangles, terms, ran,
     )
 }
 
@@ -61,10 +58,10 @@ pub fn accepted_job(
     triangles: &mut [u32],
     terms: Terms,
 ) -> Answer
-    requires { let job = job_in grid mesh terms in
+    requires { let job = job_of grid (mesh_in mesh) terms in
         let lent = lent_of field.old names.old crossings.old rows.old distances.old cells.old triangles.old in
         refusal job lent ≡ 0 }
-    ensures { let job = job_in grid mesh.entry terms in
+    ensures { let job = job_of grid (mesh_in mesh.entry) terms in
         let lent = lent_of field.old names.old crossings.old rows.old
         distances.old cells.old triangles.old in
         let left = lent_of field.new names.new crossings.new rows.new
@@ -73,7 +70,6 @@ pub fn accepted_job(
 {
     job_clear::clear_all(field, names, crossings, rows, distances, cells, triangles);
     cleared_job(
-        grid, mesh, field, names, crossings, rows, distances, cells,
-        triangles, terms,
+        grid, mesh, field, names, crossings, rows, distances, cells, triangles, terms,
     )
 }

@@ -1,11 +1,9 @@
 -- What a call is given: the job, and the buffers that are lent to it. Definitions only.
 use Rattle.std.specs.Prelude.{ℕ, List, Float}
 use Rattle.grid.specs.declared.Grid.{Grid}
-use Rattle.mesh_topology.specs.declared.Topology.{Topology}
-use Rattle.mesh_topology.specs.declared.Indices.{Indices}
 use Rattle.terms.specs.declared.SignMethod.{SignMethod}
 use Rattle.terms.specs.declared.Terms.{Terms}
-use Rattle.mesh.specs.Mesh.{Mesh, mesh_of}
+use Rattle.mesh.specs.Mesh.{Mesh}
 
 pub record Job : Type 0 where
   pub grid : Grid
@@ -17,11 +15,11 @@ pub record Job : Type 0 where
   pub edition : ℕ
 
 -- of the terms all but the pass: no job has a pass, so what a call promises of its answer and its buffers cannot show one
-abbrev pub job_of : Grid → List Float → Topology → Indices → List ℕ → Terms → Job
-job_of grid vertices topology given indices terms =
+abbrev pub job_of : Grid → Mesh → Terms → Job
+job_of grid mesh terms =
     record {
       grid = grid;
-      mesh = mesh_of vertices topology given indices;
+      mesh = mesh;
       sign = terms.sign;
       limit = terms.limit;
       edition = terms.edition;

@@ -91,9 +91,7 @@ fn edition_refusal(edition: u32) -> Result<(), Refusal>
 }
 
 // The first of 2, 13, 3 and 4 that applies to the mesh.
-pub fn mesh_refusal(
-    mesh: Mesh,
-) -> Result<(), Refusal>
+pub fn mesh_refusal(mesh: Mesh) -> Result<(), Refusal>
     ensures { let m = mesh_in mesh.entry in
         refusal_number result ≡ first_that_applies (mesh_checks m) }
 {
@@ -118,10 +116,7 @@ pub fn mesh_refusal(
 }
 
 // 10: a triangle lies off the grid.
-fn place_refusal(
-    grid: Grid,
-    mesh: Mesh,
-) -> Result<(), Refusal>
+fn place_refusal(grid: Grid, mesh: Mesh) -> Result<(), Refusal>
     requires { Sound (mesh_in mesh) }
     ensures { let m = mesh_in mesh.entry in
         refusal_number result ≡ first_that_applies (place_checks grid m) }
@@ -146,12 +141,7 @@ fn length_refusal(grid: Grid, l: Lengths) -> Result<(), Refusal>
 }
 
 // The first refusal that applies before the run.
-pub fn first_refusal(
-    grid: Grid,
-    edition: u32,
-    mesh: Mesh,
-    l: Lengths,
-) -> Result<(), Refusal>
+pub fn first_refusal(grid: Grid, edition: u32, mesh: Mesh, l: Lengths) -> Result<(), Refusal>
     ensures { let m = mesh_in mesh.entry in
         refusal_number result ≡ refusal_by grid edition m l }
 {

@@ -34,7 +34,7 @@ pub fn conclude(
     requires ran { Ran grid field.old names.old distances.old cells.old triangles.old ran }
     requires long { Long grid crossings.old rows.old }
     requires ends { RunEnds ran.number }
-    ensures { let job = job_in grid mesh.entry terms in
+    ensures { let job = job_of grid (mesh_in mesh.entry) terms in
         let lent = lent_of field.old names.old crossings.old rows.old
         distances.old cells.old triangles.old in
         let left = lent_of field.new names.new crossings.new rows.new
@@ -44,9 +44,7 @@ pub fn conclude(
         triangles.old ran in
         Gives (ended job lent (told ran.number state)) result left }
 {
-    let answer = job_close::close(
-        grid, mesh, field, names, crossings, rows, terms, ran,
-    );
+    let answer = job_close::close(grid, mesh, field, names, crossings, rows, terms, ran);
     if ran.number != 0 {
         queue::clear(distances, cells, triangles);
     }

@@ -25,7 +25,7 @@ pub fn generate_grid_sdf(
     triangles: &mut [u32],
     terms: Terms,
 ) -> Answer
-    ensures { let job = job_in grid mesh.entry terms in
+    ensures { let job = job_of grid (mesh_in mesh.entry) terms in
         let lent = lent_of field.old names.old crossings.old rows.old
         distances.old cells.old triangles.old in
         let left = lent_of field.new names.new crossings.new rows.new
@@ -44,7 +44,6 @@ pub fn generate_grid_sdf(
     let edition = terms.edition;
     job_checks::first_refusal(grid, edition, mesh, lengths)?;
     job_accept::accepted_job(
-        grid, mesh, field, names, crossings, rows, distances, cells,
-        triangles, terms,
+        grid, mesh, field, names, crossings, rows, distances, cells, triangles, terms,
     )
 }

@@ -25,7 +25,7 @@ use Rattle.text.proofs.Said.{saying, unsaid_is_z, saying_table, unsaid_is_one}
 use Rattle.listing.specs.Listing.{grid_of, terms_of, job_by, asked_job, listed, listing}
 
 pub asked_of_terms : (h : Head) (vertices : List Float) (given : Indices) (indices : List ℕ) (t : Tail) (pass : Pass)
-    → job_by h vertices given indices t ≡ job_of (grid_of h) vertices h.topology given indices (terms_of h t pass)
+    → job_by h vertices given indices t ≡ job_of (grid_of h) (mesh_of vertices h.topology given indices) (terms_of h t pass)
 asked_of_terms h vertices given indices t pass = refl
 
 -- ---- the upright axis

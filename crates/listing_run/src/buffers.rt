@@ -15,6 +15,7 @@ use job_generate::generate_grid_sdf;
 use job_outcome::Answer;
 use listing::{cells_of, coordinate_floats, fill, grid_of, rows_of, terms_of};
 use listing_whole::write_listing;
+use mesh::Mesh;
 use terms::{Pass, Terms};
 use text::{CROSSING_ROOM, ENTRY_ROOM, MOST_CELLS};
 use text_read_job::Asked;
@@ -55,14 +56,17 @@ fn list_outcome(
         Put out.old 0 (listed_of job entries) out.new result }
 {
     let head = asked.head;
-    let topology = head.topology;
-    let given = asked.given;
     let tail = asked.tail;
     let terms: Terms = terms_of(head, tail, pass);
     let grid = grid_of(head);
+    let mesh = Mesh {
+        vertices,
+        topology: head.topology,
+        given: asked.given,
+        indices,
+    };
     let answer = generate_grid_sdf(
-        grid, vertices, topology, given, indices, field, names, crossings, rows, distances, cells,
-        triangles, terms,
+        grid, mesh, field, names, crossings, rows, distances, cells, triangles, terms,
     );
     put_listing(answer, field, names, rows, out)
 }
@@ -87,14 +91,16 @@ fn list_records(
         Put out.old 0 (listed_of job lent) out.new result }
 {
     let head = asked.head;
-    let topology = head.topology;
-    let given = asked.given;
     let tail = asked.tail;
     let terms: Terms = terms_of(head, tail, pass);
     let grid = grid_of(head);
-    let answer = run_records(
-        grid, vertices, topology, given, indices, field, names, crossings, rows, room, terms,
-    );
+    let mesh = Mesh {
+        vertices,
+        topology: head.topology,
+        given: asked.given,
+        indices,
+    };
+    let answer = run_records(grid, mesh, field, names, crossings, rows, room, terms);
     put_listing(answer, field, names, rows, out)
 }
 

@@ -7,11 +7,12 @@ mod counting;
 mod trial;
 
 ghost use Rattle.std.specs.Prelude.{◌≡◌, ◌≤◌};
+ghost use Rattle.mesh.specs.Lent.{mesh_in};
 ghost use Rattle.job_checks.specs.Job.{job_of};
 ghost use Rattle.job_outcome.specs.Outcome.{outcome, number_of};
 ghost use Rattle.replay_bounds.specs.Trials.{lent_long, one_pop};
 
-use sdf::{Axis, Grid, Indices, Point, Topology};
+use sdf::{Axis, Grid, Indices, Mesh, Point, Topology};
 use std::io;
 
 fn tell(rt: &impl Print, name: &[u8], number: u32) -> io::Result<()> {
@@ -21,31 +22,15 @@ fn tell(rt: &impl Print, name: &[u8], number: u32) -> io::Result<()> {
 }
 
 // The number that a job over the buffers of one cell, with room for one entry, is answered by.
-fn one_cell(
-    grid: Grid,
-    vertices: &[f32],
-    topology: Topology,
-    given: Indices,
-    indices: &[u32],
-) -> u32
-    ensures { let job = job_of grid vertices.now topology given indices.now one_pop in
+fn one_cell(grid: Grid, mesh: Mesh) -> u32
+    ensures { let job = job_of grid (mesh_in mesh.entry) one_pop in
         result ≡ number_of (outcome job (lent_long 1 1 3 1 1 1 1)).answer }
 {
-    trial::asked(
-        grid, vertices, topology, given, indices, 1, 1, 3, 1, 1, 1, 1,
-    )
+    trial::asked(grid, mesh, 1, 1, 3, 1, 1, 1, 1)
 }
 
-fn try_job(
-    rt: &impl Print,
-    name: &[u8],
-    grid: Grid,
-    vertices: &[f32],
-    topology: Topology,
-    given: Indices,
-    indices: &[u32],
-) -> io::Result<()> {
-    tell(rt, name, one_cell(grid, vertices, topology, given, indices))
+fn try_job(rt: &impl Print, name: &[u8], grid: Grid, mesh: Mesh) -> io::Result<()> {
+    tell(rt, name, one_cell(grid, mesh))
 }
 
 // ---- 1: the grid. One cell is lent, so a grid of several cells that is not out of bounds is answered 5.
@@ -57,10 +42,12 @@ fn try_grid(rt: &impl Print, name: &[u8], grid: Grid) -> io::Result<()> {
         rt,
         name,
         grid,
-        &vertices,
-        Topology::TriangleList,
-        Indices::Given,
-        &indices,
+        Mesh {
+            vertices: &vertices,
+            topology: Topology::TriangleList,
+            given: Indices::Given,
+            indices: &indices,
+        },
     )
 }
 
@@ -162,16 +149,9 @@ fn uprights(rt: &impl Print) -> io::Result<()> {
 
 // ---- 2, 3 and 4: the vertices, how many triangles, and their indices. One cell, with room for one entry.
 
-fn try_mesh(
-    rt: &impl Print,
-    name: &[u8],
-    vertices: &[f32],
-    topology: Topology,
-    given: Indices,
-    indices: &[u32],
-) -> io::Result<()> {
+fn try_mesh(rt: &impl Print, name: &[u8], mesh: Mesh) -> io::Result<()> {
     let grid = trial::grid_of(1, 1, 1);
-    try_job(rt, name, grid, vertices, topology, given, indices)
+    try_job(rt, name, grid, mesh)
 }
 
 fn try_vertices(rt: &impl Print, name: &[u8], vertices: &[f32]) -> io::Result<()> {
@@ -179,10 +159,12 @@ fn try_vertices(rt: &impl Print, name: &[u8], vertices: &[f32]) -> io::Result<()
     try_mesh(
         rt,
         name,
-        vertices,
-        Topology::TriangleList,
-        Indices::Given,
-        &no_index[..0],
+        Mesh {
+            vertices,
+            topology: Topology::TriangleList,
+            given: Indices::Given,
+            indices: &no_index[..0],
+        },
     )
 }
 
@@ -232,7 +214,16 @@ fn try_indices(
 ) -> io::Result<()> {
     let vertices = [0.0f32; 3];
     let n = counting::indices(many, k);
-    try_mesh(rt, name, &vertices, topology, Indices::Given, &many[..n])
+    try_mesh(
+        rt,
+        name,
+        Mesh {
+            vertices: &vertices,
+            topology,
+            given: Indices::Given,
+            indices: &many[..n],
+        },
+    )
 }
 
 // The same with that vertex off the grid: 3 comes before 10.
@@ -242,10 +233,12 @@ fn try_indices_off(rt: &impl Print, name: &[u8], many: &[u32], k: usize) -> io::
     try_mesh(
         rt,
         name,
-        &vertices,
-        Topology::TriangleList,
-        Indices::Given,
-        &many[..n],
+        Mesh {
+            vertices: &vertices,
+            topology: Topology::TriangleList,
+            given: Indices::Given,
+            indices: &many[..n],
+        },
     )
 }
 
@@ -290,7 +283,16 @@ fn triangle_bounds(rt: &impl Print) -> io::Result<()> {
 // Three vertices, and indices of which the last may be out of bounds.
 fn try_index(rt: &impl Print, name: &[u8], topology: Topology, indices: &[u32]) -> io::Result<()> {
     let vertices = [0.0, 0.0, 0.0, 4.0, 0.0, 0.0, 0.0, 4.0, 0.0];
-    try_mesh(rt, name, &vertices, topology, Indices::Given, indices)
+    try_mesh(
+        rt,
+        name,
+        Mesh {
+            vertices: &vertices,
+            topology,
+            given: Indices::Given,
+            indices,
+        },
+    )
 }
 
 fn index_bounds(rt: &impl Print) -> io::Result<()> {
@@ -375,10 +377,12 @@ fn try_on(
     let vertices = [p.x, p.y, p.z, q.x, q.y, q.z, r.x, r.y, r.z];
     let number = one_cell(
         trial::grid_of(1, 1, 1),
-        &vertices,
-        Topology::TriangleList,
-        Indices::Given,
-        &[0, 1, 2],
+        Mesh {
+            vertices: &vertices,
+            topology: Topology::TriangleList,
+            given: Indices::Given,
+            indices: &[0, 1, 2],
+        },
     );
     print!(rt; "{number} ")?;
     rt.write_all(letter)?;
@@ -530,7 +534,17 @@ fn try_fourth(
 ) -> io::Result<()> {
     let vertices = [0.0, 0.0, 0.0, 0.25, 0.0, 0.0, 0.0, 0.25, 0.0, 0.0, 0.0, 9.0];
     let grid = trial::grid_of(cells, 1, 1);
-    try_job(rt, name, grid, &vertices, topology, Indices::Given, indices)
+    try_job(
+        rt,
+        name,
+        grid,
+        Mesh {
+            vertices: &vertices,
+            topology,
+            given: Indices::Given,
+            indices,
+        },
+    )
 }
 
 fn try_list(rt: &impl Print, name: &[u8], indices: &[u32]) -> io::Result<()> {
@@ -562,10 +576,12 @@ fn try_no_room(
     let vertices = [0.0, 0.0, 0.0, 0.25, 0.0, 0.0, 0.0, 0.25, 0.0, 0.0, 0.0, 9.0];
     let number = trial::asked(
         trial::grid_of(1, 1, 1),
-        &vertices,
-        topology,
-        Indices::Given,
-        indices,
+        Mesh {
+            vertices: &vertices,
+            topology,
+            given: Indices::Given,
+            indices,
+        },
         1,
         1,
         3,
@@ -581,7 +597,17 @@ fn try_no_room(
 fn try_hair(rt: &impl Print, name: &[u8], topology: Topology, indices: &[u32]) -> io::Result<()> {
     let vertices = [0.0, 0.0, 0.0, 7.888609e-31, 0.0, 0.0, 0.0, 0.0, 9.0];
     let grid = trial::grid_of(1, 1, 1);
-    try_job(rt, name, grid, &vertices, topology, Indices::Given, indices)
+    try_job(
+        rt,
+        name,
+        grid,
+        Mesh {
+            vertices: &vertices,
+            topology,
+            given: Indices::Given,
+            indices,
+        },
+    )
 }
 
 // After 1 to 4 (that it comes after 3 is shown with 3), and before 5, 6 and 7. One cell is lent: of two cells 5 is
@@ -716,10 +742,12 @@ fn try_lengths(
     let indices = [0u32; 1];
     let number = trial::asked(
         trial::grid_of(2, 1, 3),
-        &vertices,
-        Topology::TriangleList,
-        Indices::Given,
-        &indices,
+        Mesh {
+            vertices: &vertices,
+            topology: Topology::TriangleList,
+            given: Indices::Given,
+            indices: &indices,
+        },
         field,
         names,
         crossings,
@@ -761,10 +789,12 @@ fn try_rows(rt: &impl Print, name: &[u8], upright: u32, rows: usize) -> io::Resu
     let indices = [0u32; 1];
     let number = trial::asked(
         trial::standing_on(2, 1, 3, upright),
-        &vertices,
-        Topology::TriangleList,
-        Indices::Given,
-        &indices,
+        Mesh {
+            vertices: &vertices,
+            topology: Topology::TriangleList,
+            given: Indices::Given,
+            indices: &indices,
+        },
         6,
         6,
         18,
@@ -796,10 +826,12 @@ fn try_edge(rt: &impl Print, name: &[u8], x: f32) -> io::Result<()> {
     try_mesh(
         rt,
         name,
-        &vertices,
-        Topology::TriangleList,
-        Indices::Given,
-        &[0, 1, 2],
+        Mesh {
+            vertices: &vertices,
+            topology: Topology::TriangleList,
+            given: Indices::Given,
+            indices: &[0, 1, 2],
+        },
     )
 }
 

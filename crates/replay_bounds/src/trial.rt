@@ -1,12 +1,13 @@
 // One trial: the public job over lent buffers, and the number of its answer. One function asks the job, over
 // buffers of any lengths that a trial wants.
 ghost use Rattle.std.specs.Prelude.{◌≡◌, ◌≤◌};
+ghost use Rattle.mesh.specs.Lent.{mesh_in};
 ghost use Rattle.job_checks.specs.Job.{job_of};
 ghost use Rattle.refusals.specs.Numbers.{reply_of};
 ghost use Rattle.job_outcome.specs.Outcome.{outcome, number_of};
 ghost use Rattle.replay_bounds.specs.Trials.{unit_grid, lent_long, one_pop};
 
-use sdf::{Answer, Grid, Indices, Pass, Point, SignMethod, Terms, Topology};
+use sdf::{Answer, Grid, Indices, Mesh, Pass, Point, SignMethod, Terms, Topology};
 
 // A grid of cells of size 1, the first at the origin, with z upright.
 pub fn grid_of(x: u32, y: u32, z: u32) -> Grid
@@ -49,10 +50,7 @@ fn number_of(answer: Answer) -> u32
 // The number that a job with one pop is answered by, over lent zeros of these lengths.
 pub fn asked(
     grid: Grid,
-    vertices: &[f32],
-    topology: Topology,
-    given: Indices,
-    indices: &[u32],
+    mesh: Mesh,
     field: usize,
     names: usize,
     crossings: usize,
@@ -63,7 +61,7 @@ pub fn asked(
 ) -> u32
     requires field_bound { (field ≤ 7) × (names ≤ 7) × (crossings ≤ 19) × (rows ≤ 4) }
     requires distances_bound { (distances ≤ 5) × (cells ≤ 5) × (triangles ≤ 5) }
-    ensures { let job = job_of grid vertices.now topology given indices.now one_pop in
+    ensures { let job = job_of grid (mesh_in mesh.entry) one_pop in
         result ≡ number_of (outcome job (lent_long field names crossings rows distances cells triangles)).answer }
 {
     let mut f = [0.0f32; 7];
@@ -75,10 +73,7 @@ pub fn asked(
     let mut t = [0u32; 5];
     let answer = sdf::generate_grid_sdf(
         grid,
-        vertices,
-        topology,
-        given,
-        indices,
+        mesh,
         &mut f[..field],
         &mut n[..names],
         &mut k[..crossings],

@@ -35,6 +35,7 @@ pub use point::{Axis, Point};
 
 pub use entries_generate::generate_grid_sdf_records;
 pub use job_generate::{Answer, Tally, generate_grid_sdf};
+pub use mesh::Mesh;
 pub use mesh_topology::{Indices, Topology};
 pub use queue::Entry;
 pub use terms::{Pass, SignMethod, Terms};

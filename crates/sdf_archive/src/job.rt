@@ -1,5 +1,6 @@
 // The whole job, for C: the calls of `sdf_c::job`.
 ghost use Rattle.c_records.specs.C.{grid_in, terms_in};
+ghost use Rattle.mesh.specs.Mesh.{mesh_of};
 ghost use Rattle.job_checks.specs.Job.{job_of, lent_of};
 ghost use Rattle.job_outcome.specs.Outcome.{outcome};
 ghost use Rattle.entries_generate.specs.LentRow.{lent_row};
@@ -25,8 +26,8 @@ pub extern "C" fn sdf_generate_grid_sdf(
     triangles: &mut [u32],
     terms: SdfTerms,
 ) -> SdfJobAnswer
-    ensures { let job = job_of (grid_in grid) vertices.now (topology_in topology) (indices_in given)
-        indices.now (terms_in terms) in
+    ensures { let job = job_of (grid_in grid) (mesh_of vertices.now (topology_in topology) (indices_in given) indices.now)
+        (terms_in terms) in
         let lent = lent_of field.old names.old crossings.old rows.old
         distances.old cells.old triangles.old in
         let left = lent_of field.new names.new crossings.new rows.new
@@ -53,8 +54,8 @@ pub extern "C" fn sdf_generate_grid_sdf_records(
     queue: &mut [Entry],
     terms: SdfTerms,
 ) -> SdfJobAnswer
-    ensures { let job = job_of (grid_in grid) vertices.now (topology_in topology) (indices_in given)
-        indices.now (terms_in terms) in
+    ensures { let job = job_of (grid_in grid) (mesh_of vertices.now (topology_in topology) (indices_in given) indices.now)
+        (terms_in terms) in
         let lent = lent_row field.old names.old crossings.old rows.old queue.old in
         let left = lent_row field.new names.new crossings.new rows.new queue.new in
         GivesC (outcome job lent) result left }

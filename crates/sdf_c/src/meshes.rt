@@ -7,6 +7,7 @@ ghost use Rattle.c_tidy.specs.Tidy.{GivesTidyC};
 
 use c_job::{indices_in, topology_in};
 use c_tidy::{SdfTidyAnswer, tidy_out};
+use sdf::Mesh;
 
 // `topology` is 0 for a list and any other number for a strip, which is refused by 13; `given` is 0 where there are no
 // indices.
@@ -25,14 +26,11 @@ pub fn sdf_tidy_mesh(
         let left = tidy_lent_of coordinates.new listed.new firsts.new causes.new in
         GivesTidyC (tidy_outcome m lent) result left }
 {
-    tidy_out(sdf::tidy_mesh(
+    let mesh = Mesh {
         vertices,
-        topology_in(topology),
-        indices_in(given),
+        topology: topology_in(topology),
+        given: indices_in(given),
         indices,
-        coordinates,
-        listed,
-        firsts,
-        causes,
-    ))
+    };
+    tidy_out(sdf::tidy_mesh(mesh, coordinates, listed, firsts, causes))
 }

@@ -13,6 +13,7 @@ use crate::kept::put_kept;
 use crate::lines::put_went;
 use crate::{TIDY_ROOM, Went};
 use listing::{coordinate_floats, fill};
+use mesh::Mesh;
 use text::{INDEX_ROOM, MOST_VERTICES};
 use text_read_job::{Asked, coordinate_words, index_words, read_job};
 use text_write::put_number;
@@ -53,18 +54,13 @@ fn tidy_lent(
     ensures { Put out.old 0 (held_text asked vertices.now indices.now) out.new result }
 {
     let head = asked.head;
-    let topology = head.topology;
-    let given = asked.given;
-    let answer = tidy_mesh(
+    let mesh = Mesh {
         vertices,
-        topology,
-        given,
+        topology: head.topology,
+        given: asked.given,
         indices,
-        coordinates,
-        explicit,
-        firsts,
-        causes,
-    );
+    };
+    let answer = tidy_mesh(mesh, coordinates, explicit, firsts, causes);
     match answer {
         Ok(kept) => put_tidied(out, asked, kept, coordinates, explicit, firsts, causes),
         Err(refusal) => put_number(out, 0, b"answer=", refusal.number()),

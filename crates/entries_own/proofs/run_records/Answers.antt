@@ -9,6 +9,6 @@ pub returns : goal.returns
 returns c =
     let a = c.args in
     let new = c.generate_grid_sdf_records.new in
-    gives_four (job_of a.grid a.mesh.vertices.now a.mesh.topology a.mesh.given a.mesh.indices.now a.terms) a.field.now a.names.now a.crossings.now a.rows.now _ a.room
+    gives_four (job_of a.grid (mesh_in a.mesh) a.terms) a.field.now a.names.now a.crossings.now a.rows.now _ a.room
     (first_long own_room a.room blank c.requires)
     c.generate_grid_sdf_records.result new.field new.names new.crossings new.rows new.queue c.generate_grid_sdf_records.ensures

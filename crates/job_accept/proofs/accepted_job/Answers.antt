@@ -10,7 +10,7 @@ use Rattle.job_accept.proofs.accepted_job.Goals as goal
 
 pub cleared_job-requires : goal.cleared_job-requires
 cleared_job-requires c =
-    let job : Job = job_of c.args.grid c.args.mesh.vertices.now c.args.mesh.topology c.args.mesh.given c.args.mesh.indices.now c.args.terms in
+    let job : Job = job_of c.args.grid (mesh_in c.args.mesh) c.args.terms in
     let lent : Lent =
     let a = c.args in
     lent_of a.field.now a.names.now a.crossings.now a.rows.now a.distances.now a.cells.now a.triangles.now in
@@ -18,7 +18,7 @@ cleared_job-requires c =
 
 pub returns : goal.returns
 returns c =
-    let job : Job = job_of c.args.grid c.args.mesh.vertices.now c.args.mesh.topology c.args.mesh.given c.args.mesh.indices.now c.args.terms in
+    let job : Job = job_of c.args.grid (mesh_in c.args.mesh) c.args.terms in
     let lent : Lent =
     let a = c.args in
     lent_of a.field.now a.names.now a.crossings.now a.rows.now a.distances.now a.cells.now a.triangles.now in

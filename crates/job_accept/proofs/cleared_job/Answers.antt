@@ -11,7 +11,7 @@ use Rattle.job_accept.proofs.cleared_job.Goals as goal
 pub conclude-requires : goal.conclude-requires
 conclude-requires c =
     let a = c.args in
-    let job : Job = job_of a.grid a.mesh.vertices.now a.mesh.topology a.mesh.given a.mesh.indices.now a.terms in
+    let job : Job = job_of a.grid (mesh_in a.mesh) a.terms in
     let lent : Lent = lent_of a.field.now a.names.now a.crossings.now a.rows.now a.distances.now a.cells.now a.triangles.now in
     record {
       fit = c.requires.fit;
@@ -25,7 +25,7 @@ pub returns : goal.returns
 returns c =
     let a = c.args in
     let r = c.run_field-ran in
-    let job : Job = job_of a.grid a.mesh.vertices.now a.mesh.topology a.mesh.given a.mesh.indices.now a.terms in
+    let job : Job = job_of a.grid (mesh_in a.mesh) a.terms in
     let lent : Lent = lent_of a.field.now a.names.now a.crossings.now a.rows.now a.distances.now a.cells.now a.triangles.now in
     let left : Lent = lent_of r.new.field r.new.names a.crossings.now a.rows.now r.new.distances r.new.cells r.new.triangles in
     gives_run job left lent (lengths_same left lent r.auto.field r.auto.names refl refl r.auto.distances r.auto.cells r.auto.triangles)
