@@ -12,7 +12,7 @@ ghost use Rattle.job_outcome.specs.Outcome.{Gives, ended, run_of};
 ghost use Rattle.job_outcome.specs.Finished.{Long};
 
 use grid::Grid;
-use job_outcome::Answer;
+use job_outcome::{Answer, Ended};
 use mesh::Mesh;
 use terms::Terms;
 
@@ -41,7 +41,17 @@ fn cleared_job(
 {
     let ran = run_field::run_field(grid, mesh, field, names, distances, cells, triangles, terms);
     job_conclude::conclude(
-        grid, mesh, field, names, crossings, rows, distances, cells, triangles, terms, ran,
+        grid,
+        mesh,
+        field,
+        names,
+        crossings,
+        rows,
+        distances,
+        cells,
+        triangles,
+        terms,
+        Ended { ran },
     )
 }
 

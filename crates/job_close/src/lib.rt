@@ -9,24 +9,17 @@ ghost use Rattle.mesh.specs.Lent.{mesh_in};
 ghost use Rattle.run.specs.Method.{field_by, crossings_by, grazed_by};
 ghost use Rattle.run_state.specs.Told.{Fit};
 ghost use Rattle.job_outcome.specs.Finished.{Long, Finished, Closed};
-ghost use Rattle.job_outcome.specs.Numbers.{run_numbers, RunEnds};
+ghost use Rattle.job_outcome.specs.Numbers.{run_numbers};
 
 use grid::Grid;
-use job_outcome::{Answer, Tally};
+use job_outcome::{Answer, Ended, Tally};
 use mesh::Mesh;
 use refusals::Refusal;
-use run_state::Progress;
 use terms::{SignMethod, Terms};
 
 // The crossings and the signs, by the method. Tells how often a ray grazed a triangle. With Normal signs there are no rays:
 // the distances have their signs, and the crossings are left zero.
-fn sign_field(
-    grid: Grid,
-    mesh: Mesh,
-    field: &mut [f32],
-    crossings: &mut [u32],
-    terms: Terms,
-) -> u64
+fn sign_field(grid: Grid, mesh: Mesh, field: &mut [f32], crossings: &mut [u32], terms: Terms) -> u64
     requires fit { Fit grid (mesh_in mesh) }
     requires field_len { (length field.old ≡ total grid) × (length crossings.old ≡ 3 * total grid) }
     ensures { let m = mesh_in mesh.entry in
@@ -37,9 +30,7 @@ fn sign_field(
     match sign {
         SignMethod::Raycast => {
             let pass = terms.pass;
-            let grazed = run_cross::cross(
-                grid, mesh, crossings, pass,
-            );
+            let grazed = run_cross::cross(grid, mesh, crossings, pass);
             run_signs::sign(crossings, field);
             grazed
         }
@@ -67,9 +58,7 @@ fn finish(
         rows.new }
     ensures value { result ≡ grazed_by terms.sign grid (mesh_in mesh.entry) }
 {
-    let grazed = sign_field(
-        grid, mesh, field, crossings, terms,
-    );
+    let grazed = sign_field(grid, mesh, field, crossings, terms);
     let edition = terms.edition;
     run_rows::count_rows(edition, grid, field, rows);
     grazed
@@ -87,7 +76,7 @@ fn met_in_the_run(number: u32) -> Refusal
     }
 }
 
-// After the run, which came to `ran`: a refusal clears what it left, else the field is signed and counted. The queue
+// After the run, as it ended: a refusal clears what it left, else the field is signed and counted. The queue
 // is left to the caller.
 pub fn close(
     grid: Grid,
@@ -97,23 +86,21 @@ pub fn close(
     crossings: &mut [u32],
     rows: &mut [u32],
     terms: Terms,
-    ran: Progress,
+    run: Ended,
 ) -> Answer
-    requires lent { let m = mesh_in mesh in
+    requires { let m = mesh_in mesh in
         Fit grid m × (length field.old ≡ total grid) × Long grid crossings.old rows.old }
-    requires ends { RunEnds ran.number }
     ensures { let m = mesh_in mesh.entry in
-        Closed grid m terms.sign terms.edition ran field.old names.old crossings.old
+        Closed grid m terms.sign terms.edition run.ran field.old names.old crossings.old
         rows.old
         field.new names.new crossings.new rows.new result }
 {
+    let ran = run.ran;
     if ran.number != 0 {
         job_clear::clear_fields(field, names, crossings, rows);
         return Err(met_in_the_run(ran.number));
     }
-    let grazed = finish(
-        grid, mesh, field, crossings, rows, terms,
-    );
+    let grazed = finish(grid, mesh, field, crossings, rows, terms);
     Ok(Tally {
         pops: ran.pops,
         peak: ran.peak,

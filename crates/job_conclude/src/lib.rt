@@ -7,15 +7,13 @@ ghost use Rattle.run_state.specs.Told.{order_in, state_of, Fit, Ran};
 ghost use Rattle.job_checks.specs.Job.{job_of, lent_of};
 ghost use Rattle.job_outcome.specs.Outcome.{Gives, ended};
 ghost use Rattle.job_outcome.specs.Finished.{Long};
-ghost use Rattle.job_outcome.specs.Numbers.{RunEnds};
 
 use grid::Grid;
-use job_outcome::Answer;
+use job_outcome::{Answer, Ended};
 use mesh::Mesh;
-use run_state::Progress;
 use terms::Terms;
 
-// After the run, which came to `ran`: `close`, and the queue: a refusal clears it too, and a run that is done left it
+// After the run, as it ended: `close`, and the queue: a refusal clears it too, and a run that is done left it
 // empty.
 pub fn conclude(
     grid: Grid,
@@ -28,12 +26,11 @@ pub fn conclude(
     cells: &mut [u32],
     triangles: &mut [u32],
     terms: Terms,
-    ran: Progress,
+    run: Ended,
 ) -> Answer
     requires fit { Fit grid (mesh_in mesh) }
-    requires ran { Ran grid field.old names.old distances.old cells.old triangles.old ran }
+    requires ran { Ran grid field.old names.old distances.old cells.old triangles.old run.ran }
     requires long { Long grid crossings.old rows.old }
-    requires ends { RunEnds ran.number }
     ensures { let job = job_of grid (mesh_in mesh.entry) terms in
         let lent = lent_of field.old names.old crossings.old rows.old
         distances.old cells.old triangles.old in
@@ -41,10 +38,11 @@ pub fn conclude(
         distances.new cells.new triangles.new in
         let m = mesh_in mesh.entry in
         let state = state_of (order_in m) field.old names.old distances.old cells.old
-        triangles.old ran in
-        Gives (ended job lent (told ran.number state)) result left }
+        triangles.old run.ran in
+        Gives (ended job lent (told run.ran.number state)) result left }
 {
-    let answer = job_close::close(grid, mesh, field, names, crossings, rows, terms, ran);
+    let answer = job_close::close(grid, mesh, field, names, crossings, rows, terms, run);
+    let ran = run.ran;
     if ran.number != 0 {
         queue::clear(distances, cells, triangles);
     }

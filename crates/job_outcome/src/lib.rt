@@ -2,6 +2,9 @@
 // laws. A part of the port: users call `sdf`.
 #![tactic(auto)]
 
+mod ended;
+
+pub use ended::Ended;
 use refusals::Refusal;
 
 // What is counted of a job that is done: the entries taken, the most that waited at once, and how often a ray grazed a

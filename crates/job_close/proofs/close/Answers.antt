@@ -17,14 +17,14 @@ returns-then-ran-ne0 c =
     record { refused = λ z. (ap refused c.met_in_the_run.ensures, c.clear_fields.ensures); done = λ z. absurd (c.if-ran-ne0.true z) }
 
 pub met_in_the_run-requires : goal.met_in_the_run-requires
-met_in_the_run-requires c = refused_by_it c.args.ran.number c.requires.ends c.if-ran-ne0.true
+met_in_the_run-requires c = refused_by_it c.args.run.ran.number c.args.run.ends c.if-ran-ne0.true
 
 pub finish-grazed-requires : goal.finish-grazed-requires
-finish-grazed-requires c = record { fit = c.requires.lent.0; field_len = c.requires.lent.1; long = c.requires.lent.2 }
+finish-grazed-requires c = record { fit = c.requires.0; field_len = c.requires.1; long = c.requires.2 }
 
 pub returns : goal.returns
 returns c =
-    let ran = c.args.ran in
+    let ran = c.args.run.ran in
     record {
       refused = λ z. absurd (z c.if-ran-ne0.false);
       done = λ z. ((λ i. given (record { pops = ran.pops; peak = ran.peak; grazed = c.finish-grazed.ensures.value i })), refl, c.finish-grazed.ensures.fact);

@@ -6,18 +6,18 @@ use Rattle.job_conclude.proofs.conclude.Goals as goal
 
 pub close-answer-requires : goal.close-answer-requires
 close-answer-requires c =
-    record { lent = (c.requires.fit, c.requires.ran.holds.field_long, c.requires.long); ends = c.requires.ends }
+    (c.requires.fit, c.requires.ran.holds.field_long, c.requires.long)
 
 pub returns-then-ran-ne0 : goal.returns-then-ran-ne0
 returns-then-ran-ne0 c =
     let mesh : Mesh = mesh_in c.args.mesh in
     let a = c.args in
     gives_refused a.grid (mesh) a.terms.sign a.terms.limit a.terms.edition a.field.now a.names.now a.crossings.now a.rows.now
-    a.distances.now a.cells.now a.triangles.now a.ran c.close-answer.ensures c.if-ran-ne0.true c.clear.ensures
+    a.distances.now a.cells.now a.triangles.now a.run.ran c.close-answer.ensures c.if-ran-ne0.true c.clear.ensures
 
 pub returns-else-ran-ne0 : goal.returns-else-ran-ne0
 returns-else-ran-ne0 c =
     let mesh : Mesh = mesh_in c.args.mesh in
     let a = c.args in
     gives_done a.grid (mesh) a.terms.sign a.terms.limit a.terms.edition a.field.now a.names.now a.crossings.now a.rows.now
-    a.distances.now a.cells.now a.triangles.now a.ran c.close-answer.ensures c.if-ran-ne0.false c.requires.ran
+    a.distances.now a.cells.now a.triangles.now a.run.ran c.close-answer.ensures c.if-ran-ne0.false c.requires.ran
