@@ -4,7 +4,6 @@ use Rattle.mesh_topology.specs.declared.Topology.{Topology}
 use Rattle.mesh_topology.specs.declared.Topology.TheVariants.{TriangleList, TriangleStrip}
 use Rattle.mesh_topology.specs.declared.Indices.{Indices}
 use Rattle.mesh_topology.specs.declared.Indices.TheVariants.{Given}
-use Rattle.mesh_topology.specs.declared.Indices.TheVariants as Indices
 use Rattle.refusals.specs.Numbers.{Reply}
 use Rattle.job_outcome.specs.declared.Tally.{Tally}
 use Rattle.job_checks.specs.Job.{Lent}

@@ -1,4 +1,4 @@
--- Demand 3: what the field means, for each cell of a job answered Done. "Demand 3 is read over demand 2's distance and run" (document
+-- Demand 3: what the field means, for each cell of a job that is done. "Demand 3 is read over demand 2's distance and run" (document
 -- 01, "What the contracts owe"). Definitions only; proofs/Theorem.antt shows that it holds.
 use Rattle.std.specs.Prelude.{ℕ, ◌+◌, ◌*◌, ◌%◌, ◌≡◌, ◌⊎◌, true, false, List, leb, get_or, Float, if◌then◌else◌}
 use Rattle.std.specs.Float.{nan}

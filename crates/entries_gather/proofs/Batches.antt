@@ -17,8 +17,6 @@ use Rattle.queue.specs.declared.Entry.{Entry}
 use Rattle.run.specs.Run.{RunInput, State, queue, queued}
 use Rattle.run_around.specs.Around.{place_of, offer_place}
 use Rattle.entries_batch.specs.Batch.{stop_at, over}
-use Rattle.entries_consider.specs.Considered.{verdict}
-use Rattle.entries_gather.specs.Gathered.{counted_by}
 
 -- ---- queueing over another field and other names
 
@@ -87,7 +85,7 @@ module _ (k : ℕ) (to : List ℕ) (squares : List Float) (field₀ : List Float
     next g s = turns_next (step g) j (over field₀ names₀ s) ∙ ap (λ (t : Turn State). and_then t (step g j)) (h.is g s) ∙ under g field names f n s (step g j)
 
     -- the cell does not take it
-    passes : {field' : List Float} {names' : List ℕ} {f' : ℕ → Entry} → ((g : RunInput) (s : State) → step g j (over field names s) ≡ goes (over field' names' s)) → ((i : ℕ) → i < n → f i ≡ f' i)
+    pub passes : {field' : List Float} {names' : List ℕ} {f' : ℕ → Entry} → ((g : RunInput) (s : State) → step g j (over field names s) ≡ goes (over field' names' s)) → ((i : ℕ) → i < n → f i ≡ f' i)
         → Gathers (j + 1) field' names' f' n
     passes {field'} {names'} {f'} e same = record {
       is = λ g s.
@@ -99,7 +97,7 @@ module _ (k : ℕ) (to : List ℕ) (squares : List Float) (field₀ : List Float
     }
 
     -- the cell takes it: one entry more
-    takes_it_lem : {field' : List Float} {names' : List ℕ} {f' : ℕ → Entry} {x : Entry} → ((g : RunInput) (s : State) → step g j (over field names s) ≡ queue g x (over field' names' s))
+    pub takes_it_lem : {field' : List Float} {names' : List ℕ} {f' : ℕ → Entry} {x : Entry} → ((g : RunInput) (s : State) → step g j (over field names s) ≡ queue g x (over field' names' s))
         → ((i : ℕ) → i < n → f i ≡ f' i) → f' n ≡ x → Gathers (j + 1) field' names' f' (n + 1)
     takes_it_lem {field'} {names'} {f'} {x} e same new = record {
       is = λ g s.
@@ -131,33 +129,19 @@ module _ (k : ℕ) (to : List ℕ) (squares : List Float) (field₀ : List Float
         stays (goes u) w = turns_refused (step g) (j + 1) end (over field₀ names₀ s) (once ∙ ap (λ (t : Turn State). and_then t (λ u. refuses r)) w) (omega (arith, l)) ∙ sym (ap (λ (t : Turn State). and_then t (λ u. refuses r)) w)
         stays (refuses q) w = turns_refused (step g) (j + 1) end (over field₀ names₀ s) (once ∙ ap (λ (t : Turn State). and_then t (λ u. refuses r)) w) (omega (arith, l)) ∙ sym (ap (λ (t : Turn State). and_then t (λ u. refuses r)) w)
 
-    -- by a verdict
-    module _ (field' : List Float) (names' : List ℕ) (number : ℕ) (taken : Bool) (x : Entry)
-        (e : (also : Entry → State → Turn State) (s : State) → offered also j (over field names s) ≡ verdict number taken also x (over field' names' s)) where
-      pub goes_on : {f' : ℕ → Entry} → number ≡ 0 → ((i : ℕ) → i < n → f i ≡ f' i) → f' n ≡ x → Gathers (j + 1) field' names' f' (counted_by n taken)
-      unfolding verdict
-      goes_on {f'} z same new = go taken refl
-        where
-          go : (t : Bool) → taken ≡ t → Gathers (j + 1) field' names' f' (counted_by n t)
-          go true w = takes_it_lem (λ g s. e (queue g) s ∙ ap (λ (i : ℕ). verdict i taken (queue g) x (over field' names' s)) z ∙ ap (λ (t : Bool). verdict 0 t (queue g) x (over field' names' s)) w) same new
-          go false w = passes (λ g s. e (queue g) s ∙ ap (λ (i : ℕ). verdict i taken (queue g) x (over field' names' s)) z ∙ ap (λ (t : Bool). verdict 0 t (queue g) x (over field' names' s)) w) same
-
-      pub stops_here : (end : ℕ) → j < end → (number ≡ 0 → ⊥)
-          → (g : RunInput) (s : State) → turns (step g) end (over field₀ names₀ s) ≡ and_then (turns (λ i. queue g (f i)) n (over field' names' s)) (stop_at number)
-      unfolding verdict stop_at
-      stops_here end l z g s =
-          refused_here number end l (λ g s. e (queue g) s ∙ refuses_by number z (queue g) (over field' names' s)) z g s
-          ∙ under g field names f n s (stop_at number)
-          ∙ then_same (turns (λ i. queue g (f i)) n s) _ (λ u. stop_at number (over field' names' u)) (λ u. stopped number z (over field names u) (over field' names' u))
-          ∙ sym (under g field' names' f n s (stop_at number))
-        where
-          refuses_by : (r : ℕ) → (r ≡ 0 → ⊥) → (also : Entry → State → Turn State) (u : State) → verdict r taken also x u ≡ refuses r
-          refuses_by zero z also u = absurd (z refl)
-          refuses_by (suc r) z also u = refl
-
-          stopped : (r : ℕ) → (r ≡ 0 → ⊥) → (u v : State) → stop_at r u ≡ stop_at r v
-          stopped zero z u v = absurd (z refl)
-          stopped (suc r) z u v = refl
+    -- and so do the entries so far, queued and then refused
+    pub stops_here : (field' : List Float) (names' : List ℕ) (number : ℕ) (end : ℕ) → j < end → ((g : RunInput) (s : State) → step g j (over field names s) ≡ refuses number) → (number ≡ 0 → ⊥)
+        → (g : RunInput) (s : State) → turns (step g) end (over field₀ names₀ s) ≡ and_then (turns (λ i. queue g (f i)) n (over field' names' s)) (stop_at number)
+    unfolding stop_at
+    stops_here field' names' number end l e z g s =
+        refused_here number end l e z g s
+        ∙ under g field names f n s (stop_at number)
+        ∙ then_same (turns (λ i. queue g (f i)) n s) _ (λ u. stop_at number (over field' names' u)) (λ u. stopped number z (over field names u) (over field' names' u))
+        ∙ sym (under g field' names' f n s (stop_at number))
+      where
+        stopped : (r : ℕ) → (r ≡ 0 → ⊥) → (u v : State) → stop_at r u ≡ stop_at r v
+        stopped zero z u v = absurd (z refl)
+        stopped (suc r) z u v = refl
 
   -- after all
   pub all_made : {j end : ℕ} {field : List Float} {names : List ℕ} {f : ℕ → Entry} {n : ℕ} → j ≡ end → Gathers j field names f n

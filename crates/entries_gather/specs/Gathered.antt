@@ -1,5 +1,5 @@
 -- The offers of a pop over the field and the names alone. Definitions only.
-use Rattle.std.specs.Prelude.{ℕ, ◌+◌, ◌<◌, ◌≡◌, Bool, true, false, List, Float}
+use Rattle.std.specs.Prelude.{ℕ, ◌<◌, ◌≡◌, List, Float}
 use Rattle.terms.specs.declared.SignMethod.{SignMethod}
 use Rattle.grid.specs.declared.Grid.{Grid}
 use Rattle.mesh.specs.Mesh.{Mesh}
@@ -10,11 +10,6 @@ use Rattle.run.specs.Keys.{keyed}
 use Rattle.run_around.specs.Around.{offer_all}
 use Rattle.entries_batch.specs.declared.Batch.{Batch}
 use Rattle.entries_batch.specs.Batch.{queue_all, over}
-
--- one more, where it is taken
-abbrev pub counted_by : ℕ → Bool → ℕ
-counted_by n true = n + 1
-counted_by n false = n
 
 -- all offers of a pop: the field and the names are changed, and the batch has what is queued
 pub record BatchGathered (k : ℕ) (to : List ℕ) (squares : List Float) (field : List Float) (names : List ℕ) (field' : List Float) (names' : List ℕ) (b : Batch) : Type 0 where

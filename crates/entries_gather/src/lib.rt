@@ -2,27 +2,19 @@
 // of the port: users call `sdf`.
 #![tactic(auto)]
 
-ghost use Rattle.std.specs.Prelude.{◌≡◌, ◌<◌, length};
+ghost use Rattle.std.specs.Prelude.{◌≡◌, length};
 ghost use Rattle.grid.specs.Index.{total};
 ghost use Rattle.mesh.specs.Mesh.{triangles_in};
 ghost use Rattle.mesh.specs.Lent.{mesh_in};
 ghost use Rattle.run_state.specs.Told.{Ready, Known};
 ghost use Rattle.run_around.specs.Around.{PlacesFit};
-ghost use Rattle.entries_gather.specs.Gathered.{counted_by, BatchGathered, PopOffered};
+ghost use Rattle.entries_gather.specs.Gathered.{BatchGathered, PopOffered};
 
 use entries_batch::Batch;
 use grid::Grid;
 use mesh::Mesh;
 use queue::Entry;
 use terms::Terms;
-
-// One more, where it is taken.
-fn counted(n: usize, taken: bool) -> usize
-    requires { n < 27 }
-    ensures { result ≡ counted_by n taken }
-{
-    if taken { n + 1 } else { n }
-}
 
 // All offers of triangle k, to where the 27 steps lead.
 fn gather(field: &mut [f32], names: &mut [u32], k: u32, to: &[u32], squares: &[f32]) -> Batch
@@ -34,20 +26,23 @@ fn gather(field: &mut [f32], names: &mut [u32], k: u32, to: &[u32], squares: &[f
     let mut distances = [0u32; 27];
     let mut count = 0;
     for j in 0..27 {
-        let v = entries_consider::consider(field, names, k, to[j], squares[j]);
-        if v.number != 0 {
-            return Batch {
-                number: v.number,
-                count: count,
-                triangle: k,
-                cells: cells,
-                distances: distances,
-            };
+        let taken = match entries_consider::consider(field, names, k, to[j], squares[j]) {
+            Ok(taken) => taken,
+            Err(refusal) => {
+                return Batch {
+                    number: refusal.number(),
+                    count: count,
+                    triangle: k,
+                    cells: cells,
+                    distances: distances,
+                };
+            }
+        };
+        if let Some(distance) = taken {
+            cells[count] = to[j];
+            distances[count] = distance;
+            count += 1;
         }
-        // what is not taken is written over by the next
-        cells[count] = to[j];
-        distances[count] = v.distance;
-        count = counted(count, v.taken);
     }
     Batch {
         number: 0,

@@ -108,6 +108,7 @@ impl Grid {
     }
 
     // The source's comment says the centre of the last cell; what it gives is one cell further.
+    #[tactic(auto, unfolding(crate::specs::Place::last_cell))]
     pub fn get_last_cell(self) -> Result<Point, Refusal>
         ensures { reply_of result ≡ Reply.of_grid self (Place.last_cell self) }
     {

@@ -83,6 +83,7 @@ pub fn get_cell_integer_coordinates(grid: Grid, cell_idx: u32) -> Cell
 }
 
 // The centre of a cell.
+#[tactic(auto, unfolding(crate::specs::Place::centre_of))]
 pub fn get_cell_center(grid: Grid, cell: Cell) -> Point
     requires { (cell.x < 2 ^ 16) × (cell.y < 2 ^ 16) × (cell.z < 2 ^ 16) }
     ensures { result ≡ Place.centre_of grid cell }
@@ -97,6 +98,7 @@ pub fn get_cell_center(grid: Grid, cell: Cell) -> Point
 }
 
 // The corners of the box that the cells fill.
+#[tactic(auto, unfolding(crate::specs::Place::box_min, crate::specs::Place::box_max))]
 pub fn get_bounding_box(grid: Grid) -> BoundingBox
     ensures { result ≡ Place.grid_box grid }
 {

@@ -1,9 +1,9 @@
 -- `listing_run::buffers::answer_job` meets its contract: the floats stand at the front of their buffer. Assumes nothing.
 use Prim.Native.Nat.{ℕ}
 use native.Mathlib.Omega.{arith}
-use mathlib.Core.Path.{◌≡◌, refl, sym, ap, ◌∙◌}
+use mathlib.Core.Path.{refl, sym, ap, ◌∙◌}
 use mathlib.Core.List.{List}
-use lib.ListN.{length, take, drop, length-append, length-map}
+use lib.ListN.{length, drop, length-append, length-map}
 use lib.Ieee.{Float, binary32, of_bits}
 use Rattle.job_checks.specs.Job.{Job}
 use Rattle.text.specs.Limits.{coordinate_room}
@@ -13,17 +13,12 @@ use Rattle.lists.proofs.Puts.{said}
 use Rattle.listing_run.specs.Parts.{listed_of, held_job}
 use Rattle.listing_run.proofs.Same.{prefix, same_layers, front_of, long_as}
 use Rattle.listing_run.proofs.buffers.answer_job.Goals as goal
-use Rattle.listing_run.proofs.buffers.answer_job.Goals.{After-floats-1}
-
-front_long : (c : After-floats-1)
-    → length (take (length c.args.bits.now) c.coordinate_floats-floats.result) ≡ length c.args.bits.now
-front_long c = prefix c.coordinate_floats-floats.result (length c.args.bits.now) coordinate_room c.coordinate_floats-floats.ensures c.requires.coordinates_few
 
 pub slice_bounds-fill-end : goal.slice_bounds-fill-end
-slice_bounds-fill-end c = sym (front_long c)
+slice_bounds-fill-end c = sym (prefix _ _ coordinate_room c.coordinate_floats-floats.ensures c.requires.coordinates_few)
 
 pub fill-requires : goal.fill-requires
-fill-requires c = front_long c
+fill-requires c = prefix _ _ coordinate_room c.coordinate_floats-floats.ensures c.requires.coordinates_few
 
 pub slice_bounds-floats-end-2 : goal.slice_bounds-floats-end-2
 slice_bounds-floats-end-2 c =

@@ -17,30 +17,6 @@ put_listing-requires c =
     of_four (rw (c.grid_of-grid.ensures, c.terms_of-terms.ensures) at c.generate_grid_sdf-answer.ensures) in
     can_be_listed (gave) (omega (arith, peak_low (job) (lent), c.requires.distances_len_bound)) c.requires.room_to_list c.generate_grid_sdf-answer.auto.field c.generate_grid_sdf-answer.auto.names c.generate_grid_sdf-answer.auto.rows
 
-pub shape_of-field : goal.shape_of-field
-shape_of-field c = c.generate_grid_sdf-answer.auto.field
-
-pub shape_of-names : goal.shape_of-names
-shape_of-names c = c.generate_grid_sdf-answer.auto.names
-
-pub shape_of-crossings : goal.shape_of-crossings
-shape_of-crossings c = c.generate_grid_sdf-answer.auto.crossings
-
-pub shape_of-rows : goal.shape_of-rows
-shape_of-rows c = c.generate_grid_sdf-answer.auto.rows
-
-pub shape_of-distances : goal.shape_of-distances
-shape_of-distances c = c.generate_grid_sdf-answer.auto.distances
-
-pub shape_of-cells : goal.shape_of-cells
-shape_of-cells c = c.generate_grid_sdf-answer.auto.cells
-
-pub shape_of-triangles : goal.shape_of-triangles
-shape_of-triangles c = c.generate_grid_sdf-answer.auto.triangles
-
-pub shape_of-out : goal.shape_of-out
-shape_of-out c = c.put_listing.auto.out
-
 pub returns : goal.returns
 unfolding listed_of
 returns c =

@@ -20,21 +20,6 @@ put_listing-requires c =
     can_be_listed (gave) (omega (arith, peak_low (job) (lent), length-replicate {A = ℕ} c.args.room 0, c.requires.room_le_most_entries))
     c.requires.room_to_list c.run_records-answer.auto.field c.run_records-answer.auto.names c.run_records-answer.auto.rows
 
-pub shape_of-field : goal.shape_of-field
-shape_of-field c = c.run_records-answer.auto.field
-
-pub shape_of-names : goal.shape_of-names
-shape_of-names c = c.run_records-answer.auto.names
-
-pub shape_of-crossings : goal.shape_of-crossings
-shape_of-crossings c = c.run_records-answer.auto.crossings
-
-pub shape_of-rows : goal.shape_of-rows
-shape_of-rows c = c.run_records-answer.auto.rows
-
-pub shape_of-out : goal.shape_of-out
-shape_of-out c = c.put_listing.auto.out
-
 pub returns : goal.returns
 unfolding listed_of
 returns c =

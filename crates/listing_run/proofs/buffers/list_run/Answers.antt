@@ -1,5 +1,5 @@
 -- `listing_run::buffers::list_run` meets its contract, whichever queue is asked for: only the lengths of the buffers count. Assumes nothing.
-use Prim.Native.Nat.{ℕ, ◌*◌}
+use Prim.Native.Nat.{ℕ}
 use native.Mathlib.Omega.{arith}
 use mathlib.Core.Path.{◌≡◌, sym}
 use mathlib.Core.List.{List}
