@@ -1,30 +1,8 @@
-// Small steps on lent slices: all of them filled, and numbers that grow by one. A part of the port: users call `sdf`.
+// Small steps on lent slices: numbers that grow by one. A part of the port: users call `sdf`.
 #![tactic(auto)]
 
-ghost use Rattle.std.specs.Prelude.{◌≡◌, cond, ◌+◌, ◌*◌, ◌<◌, length, replicate};
+ghost use Rattle.std.specs.Prelude.{◌≡◌, cond, ◌+◌, ◌*◌, ◌<◌, length};
 ghost use Rattle.slices.specs.Counts.{Room, PlacesBelow, Stepped};
-
-// Every number becomes `with`.
-pub fn fill_numbers(numbers: &mut [u32], with: u32)
-    ensures { numbers.new ≡ replicate (length numbers.old) with }
-{
-    let mut i = 0;
-    while i < numbers.len() {
-        numbers[i] = with;
-        i += 1;
-    }
-}
-
-// Every float becomes `with`.
-pub fn fill_floats(floats: &mut [f32], with: f32)
-    ensures { floats.new ≡ replicate (length floats.old) with }
-{
-    let mut i = 0;
-    while i < floats.len() {
-        floats[i] = with;
-        i += 1;
-    }
-}
 
 // 1 where the test holds, to be added without a branch.
 pub fn one_if(test: bool) -> u32
