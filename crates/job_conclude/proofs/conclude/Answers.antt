@@ -3,10 +3,6 @@ use Rattle.mesh.specs.Mesh.{Mesh, mesh_of}
 use Rattle.job_outcome.proofs.Outcomes.{gives_refused, gives_done}
 use Rattle.job_conclude.proofs.conclude.Goals as goal
 
-pub close-answer-requires : goal.close-answer-requires
-close-answer-requires c =
-    record { lent = (c.requires.fit, c.requires.ran.holds.field_long, c.requires.long); ends = c.requires.ends }
-
 pub returns-then-ran-ne0 : goal.returns-then-ran-ne0
 returns-then-ran-ne0 c =
     let mesh : Mesh = mesh_of c.args.vertices.now c.args.topology c.args.given c.args.indices.now in
