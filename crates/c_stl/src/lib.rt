@@ -2,9 +2,10 @@
 #![tactic(auto)]
 
 ghost use Rattle.std.specs.Prelude.{◌≡◌};
+ghost use Rattle.refusals.specs.Numbers.{reply_of};
 ghost use Rattle.c_stl.specs.Stl.{stl_out};
 
-use stl::StlAnswer;
+use refusals::Refusal;
 
 // Document 02's number, 0 where nothing is refused, with the facets that were found, read or written; on a refusal 0.
 #[repr(C)]
@@ -14,17 +15,14 @@ pub struct SdfStlAnswer {
     pub facets: u32,
 }
 
-pub fn stl_out(a: StlAnswer) -> SdfStlAnswer
-    ensures { result ≡ stl_out a }
+pub fn stl_out(a: Result<u32, Refusal>) -> SdfStlAnswer
+    ensures { result ≡ stl_out (reply_of a) }
 {
     match a {
-        StlAnswer::Refused(n) => SdfStlAnswer {
-            number: n,
+        Err(refusal) => SdfStlAnswer {
+            number: refusal.number(),
             facets: 0,
         },
-        StlAnswer::Facets(n) => SdfStlAnswer {
-            number: 0,
-            facets: n,
-        },
+        Ok(facets) => SdfStlAnswer { number: 0, facets },
     }
 }

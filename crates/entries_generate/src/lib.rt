@@ -4,6 +4,7 @@
 // call `sdf`.
 #![tactic(auto)]
 
+ghost use Rattle.mesh.specs.Lent.{mesh_in};
 ghost use Rattle.job_checks.specs.Job.{job_of};
 ghost use Rattle.job_outcome.specs.Outcome.{Gives, outcome};
 ghost use Rattle.entries_generate.specs.LentRow.{lent_row};

@@ -3,6 +3,7 @@
 // `sdf`, or run the job program.
 #![tactic(auto)]
 
+ghost use Rattle.mesh.specs.Lent.{mesh_in};
 ghost use Rattle.std.specs.Prelude.{◌≤◌};
 ghost use Rattle.job_checks.specs.Job.{job_of};
 ghost use Rattle.job_outcome.specs.Outcome.{outcome};

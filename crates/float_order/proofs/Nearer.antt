@@ -16,6 +16,7 @@ use Rattle.float.specs.Arith.{◌≺◌, f_max}
 use Rattle.float.specs.Distance.{Distance}
 use Rattle.float.specs.Steps.{abs_of, sign_bit}
 use Rattle.float.proofs.Magnitude.{abs_distance}
+use Rattle.std.specs.Ordering.{is_lt}
 use Rattle.std.specs.declared.cmp.Ordering.{Ordering}
 use Rattle.std.specs.declared.cmp.Ordering.TheVariants.{Less, Equal, Greater}
 use Rattle.float_order.specs.Compare.{apart, alike, order}
@@ -118,3 +119,10 @@ nearer_below d h = go (sign_bit d) refl
     go : (s : Bool) → sign_bit d ≡ s → (d ≺ f_max) ≡ true
     go true e = negative_below d e
     go false e = sym (nearer_exactly d f_max e refl) ∙ h
+
+-- ---- the library's word for less
+
+pub lt_is_less : (o : Ordering) → is_lt o ≡ is_less o
+lt_is_less Less = refl
+lt_is_less Equal = refl
+lt_is_less Greater = refl

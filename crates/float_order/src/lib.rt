@@ -52,6 +52,7 @@ pub fn compare_distances(a: f32, b: f32) -> Ordering
 }
 
 // Whether a is nearer than b. A NaN is nearer than nothing, and nothing than a NaN.
+#[tactic(auto, using(crate::proofs::Nearer::lt_is_less), unfolding(crate::specs::Nearer::nearer))]
 pub fn is_nearer(a: f32, b: f32) -> bool
     ensures { result ≡ Nearer.nearer a b }
 {

@@ -3,6 +3,7 @@
 // users call `sdf`.
 #![tactic(auto)]
 
+ghost use Rattle.mesh.specs.Lent.{mesh_in};
 ghost use Rattle.job_checks.specs.Job.{job_of, lent_of};
 ghost use Rattle.job_outcome.specs.Outcome.{Gives, outcome};
 

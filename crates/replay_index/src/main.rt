@@ -41,10 +41,8 @@ fn next_length(input: &mut impl Read) -> io::Result<usize>
 fn read_words(input: &mut impl Read, list: &mut [u32]) -> io::Result<()>
     ensures { length list.new ≡ length list.old }
 {
-    let mut i = 0;
-    while i < list.len() {
-        list[i] = next_word(input)?;
-        i += 1;
+    for word in list.iter_mut() {
+        *word = next_word(input)?;
     }
     Ok(())
 }
@@ -59,13 +57,11 @@ fn print_number(rt: &impl Print, key: &[u8], number: u32) -> io::Result<()> {
 // A line of numbers, one space between.
 fn print_numbers(rt: &impl Print, key: &[u8], list: &[u32]) -> io::Result<()> {
     rt.write_all(key)?;
-    let mut i = 0;
-    while i < list.len() {
+    for (i, number) in list.iter().enumerate() {
         if 0 < i {
             rt.write_all(b" ")?;
         }
-        print_number(rt, b"", list[i])?;
-        i += 1;
+        print_number(rt, b"", *number)?;
     }
     rt.write_all(b"\n")
 }
@@ -79,12 +75,11 @@ fn show_facet(rt: &impl Print, facet: u32, starts: &[u32], list: &[u32]) -> io::
 fn show_facets(rt: &impl Print, starts: &[u32], list: &[u32]) -> io::Result<()>
     requires { length starts.now ≤ 64 }
 {
-    let mut facet: u32 = 0;
-    while (facet as usize) < starts.len() {
+    let facets = starts.len() as u32;
+    for facet in 0..facets {
         show_facet(rt, facet, starts, list)?;
-        facet += 1;
     }
-    show_facet(rt, facet, starts, list)?;
+    show_facet(rt, facets, starts, list)?;
     show_facet(rt, 4_294_967_295, starts, list)
 }
 
@@ -189,15 +184,13 @@ fn show_next(rt: &impl Print, input: &mut impl Read, i: u32, kind: u32) -> io::R
 
 fn main(rt: HostRuntime) -> io::Result<()> {
     let mut input = rt.stdin();
-    let mut i: u32 = 0;
     // A loop has to end, and nothing says that the input does.
-    while i < 1000000 {
+    for i in 0..1_000_000 {
         let kind = next_word(&mut input)?;
         if kind == 0 {
             return Ok(());
         }
         show_next(&rt, &mut input, i, kind)?;
-        i += 1;
     }
     Ok(())
 }

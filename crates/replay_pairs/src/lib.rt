@@ -18,6 +18,9 @@ use streams::{large_buffer, read_full};
 use terms::Pass;
 use text::{LISTING_ROOM, TEXT_ROOM};
 
+// A replay has to end, and nothing says that its input does: it is over after so many texts.
+const MOST_TEXTS: u64 = 1_000_000;
+
 // Which program's texts are replayed.
 #[derive(Clone, Copy)]
 pub enum Program {
@@ -55,8 +58,7 @@ fn line_room() -> [u8; 128]
 fn read_line(input: &mut impl Read, line: &mut [u8]) -> io::Result<usize>
     ensures { IfOk result (λ n. n ≤ length line.new) }
 {
-    let mut i = 0;
-    while i < line.len() {
+    for i in 0..line.len() {
         let mut one = [0u8; 1];
         let got = read_full(input, &mut one)?;
         if got == 0 {
@@ -67,9 +69,8 @@ fn read_line(input: &mut impl Read, line: &mut [u8]) -> io::Result<usize>
             return Ok(i);
         }
         line[i] = b;
-        i += 1;
     }
-    Ok(i)
+    Ok(line.len())
 }
 
 // Where the word begins that ends at `end`: behind the last space before it.
@@ -77,21 +78,17 @@ fn word_start(line: &[u8], end: usize) -> usize
     requires { end ≤ length line.now }
     ensures { result ≤ end }
 {
-    let mut i = end;
-    while 0 < i {
-        if line[i - 1] == 32 {
-            return i;
-        }
-        i -= 1;
+    match line[..end].iter().rposition(|&b| b == 32) {
+        Some(space) => space + 1,
+        None => 0,
     }
-    0
 }
 
 // Where the word ends that stands before the one that begins at `start`.
 fn before_space(start: usize) -> usize
     ensures { result ≤ start }
 {
-    if 0 < start { start - 1 } else { 0 }
+    start.saturating_sub(1)
 }
 
 // The number whose digits stand from `from` to `to`; 65,536 for any that is larger.
@@ -100,14 +97,12 @@ fn number_in(line: &[u8], from: usize, to: usize) -> usize
     ensures { result ≤ 65536 }
 {
     let mut value: usize = 0;
-    let mut i = from;
-    while i < to {
+    for i in from..to {
         let d = (line[i] % 16) as usize;
         value = value * 10 + d;
         if 65536 < value {
             return 65536;
         }
-        i += 1;
     }
     value
 }
@@ -244,18 +239,18 @@ fn replay_all(rt: &impl Print, input: &mut impl Read, program: Program) -> io::R
     ensures { IfOk result (λ tally. tally.differences ≤ 4 * tally.texts) }
 {
     let mut line = line_room();
-    let mut texts: u64 = 0;
     let mut differences: u64 = 0;
-    // A loop has to end, and nothing says that the input does.
-    while texts < 1000000 {
+    for texts in 0..MOST_TEXTS {
         let n = read_line(input, &mut line)?;
         if n == 0 {
             return Ok(Tally { texts, differences });
         }
         differences += differs(rt, input, &line, n, texts, program)?;
-        texts += 1;
     }
-    Ok(Tally { texts, differences })
+    Ok(Tally {
+        texts: MOST_TEXTS,
+        differences,
+    })
 }
 
 // Replays the texts of a program. Prints a line for each difference, and last how many texts there were, after `key`,

@@ -5,6 +5,7 @@
 
 ghost use Rattle.std.specs.Prelude.{◌≡◌, ◌+◌, ◌*◌, ◌<◌, ◌≤◌, length};
 
+use sdf::Refusal;
 use std::io;
 use std::io::Read;
 
@@ -17,23 +18,9 @@ fn numbers() -> [f32; 720]
     [0.0; 720]
 }
 
-fn hex_digit(d: u32) -> u8
-    requires { d < 16 }
-{
-    if d < 10 { 48 + d as u8 } else { 87 + d as u8 }
-}
-
 // The eight hex digits of a word.
 fn print_word(rt: &impl Print, w: u32) -> io::Result<()> {
-    let mut out = [48u8; 8];
-    let mut rest = w;
-    let mut i: usize = 8;
-    while 0 < i {
-        i -= 1;
-        out[i] = hex_digit(rest % 16);
-        rest = rest / 16;
-    }
-    rt.write_all(&out)
+    print!(rt; "{w:08x}")
 }
 
 // A key and words of four bytes, from the place `from` on.
@@ -47,23 +34,21 @@ fn print_words(
     requires { from + 4 * words ≤ length bytes.now }
 {
     rt.write_all(key)?;
-    let mut i = 0;
-    while i < words {
+    for i in 0..words {
         if 0 < i {
             rt.write_all(b" ")?;
         }
         print_word(rt, stl::word(bytes, from + 4 * i))?;
-        i += 1;
     }
     Ok(())
 }
 
 // A key and an answer: its number and its facets.
-fn print_answer(rt: &impl Print, key: &[u8], answer: sdf::StlAnswer) -> io::Result<()> {
+fn print_answer(rt: &impl Print, key: &[u8], answer: Result<u32, Refusal>) -> io::Result<()> {
     rt.write_all(key)?;
     match answer {
-        sdf::StlAnswer::Refused(number) => println!(rt; "{number} 0"),
-        sdf::StlAnswer::Facets(facets) => println!(rt; "0 {facets}"),
+        Err(refusal) => println!(rt; "{} 0", refusal.number()),
+        Ok(facets) => println!(rt; "0 {facets}"),
     }
 }
 
@@ -83,10 +68,8 @@ fn print_corner(rt: &impl Print, vertices: &[f32], at: usize) -> io::Result<()>
 fn print_corners(rt: &impl Print, vertices: &[f32], corners: usize) -> io::Result<()>
     requires { 3 * corners ≤ length vertices.now }
 {
-    let mut i = 0;
-    while i < corners {
+    for i in 0..corners {
         print_corner(rt, vertices, 3 * i)?;
-        i += 1;
     }
     Ok(())
 }
@@ -107,10 +90,8 @@ fn print_file(rt: &impl Print, file: &[u8], facets: usize) -> io::Result<()>
 {
     print_words(rt, b"h=", file, 0, 21)?;
     rt.write_all(b"\n")?;
-    let mut k = 0;
-    while k < facets {
+    for k in 0..facets {
         print_record(rt, file, 84 + 50 * k)?;
-        k += 1;
     }
     Ok(())
 }
@@ -148,7 +129,7 @@ fn show_read(rt: &impl Print, file: &[u8], facets: usize) -> io::Result<()>
 fn show(rt: &impl Print, file: &[u8]) -> io::Result<()> {
     let found = sdf::stl_count(file);
     print_answer(rt, b"facets=", found)?;
-    if let sdf::StlAnswer::Facets(facets) = found {
+    if let Ok(facets) = found {
         if facets <= MOST_FACETS {
             show_read(rt, file, facets as usize)?;
         }
@@ -156,26 +137,14 @@ fn show(rt: &impl Print, file: &[u8]) -> io::Result<()> {
     Ok(())
 }
 
-// Reads the length that stands before a file, four bytes; false where the input ends.
-#[derive(Clone, Copy)]
-struct Length {
-    read: bool,
-    bytes: u32,
-}
-
-fn next_length(input: &mut impl Read) -> io::Result<Length> {
+// Reads the length that stands before a file, four bytes; none where the input ends.
+fn next_length(input: &mut impl Read) -> io::Result<Option<u32>> {
     let mut four = [0u8; 4];
     let got = streams::read_full(input, &mut four)?;
     if got < 4 {
-        return Ok(Length {
-            read: false,
-            bytes: 0,
-        });
+        return Ok(None);
     }
-    Ok(Length {
-        read: true,
-        bytes: stl::word(&four, 0),
-    })
+    Ok(Some(stl::word(&four, 0)))
 }
 
 // Reads the next file, number i, into the lent bytes, which it fills, and shows it.
@@ -194,18 +163,15 @@ fn show_file(rt: &impl Print, input: &mut impl Read, i: u64, bytes: usize) -> io
 
 fn main(rt: HostRuntime) -> io::Result<()> {
     let mut input = rt.stdin();
-    let mut i: u64 = 0;
     // A loop has to end, and nothing says that the input does.
-    while i < 1000000 {
-        let next = next_length(&mut input)?;
-        if !next.read {
+    for i in 0..1_000_000 {
+        let Some(bytes) = next_length(&mut input)? else {
+            return Ok(());
+        };
+        if 4096 < bytes {
             return Ok(());
         }
-        if 4096 < next.bytes {
-            return Ok(());
-        }
-        show_file(&rt, &mut input, i, next.bytes as usize)?;
-        i += 1;
+        show_file(&rt, &mut input, i, bytes as usize)?;
     }
     Ok(())
 }

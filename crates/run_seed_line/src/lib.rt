@@ -42,6 +42,7 @@ pub fn seed_line(
         let t = seed_state field.new names.new in
         along_line grid sign f k x y lo hi s ≡ told (refusal_number result) t }
 {
+    // a piece begins behind the last cell of the one before: with `step_by(4)` the four would stand here and in `last_of_four`
     let mut z = lo;
     while z <= hi {
         let last = last_of_four(z, hi);

@@ -30,6 +30,7 @@ pub use grid::{
     GridAnswer, NumberAnswer, PointAnswer as GridPointAnswer, Snap, SnapAnswer, SnapResult,
 };
 pub use point::{Axis, Point};
+pub use refusals::Refusal;
 
 // ---- the whole job
 
@@ -42,7 +43,6 @@ pub use terms::{Pass, SignMethod, Terms};
 
 // ---- a scanner's file
 
-pub use stl::StlAnswer;
 pub use stl_read::{read_stl, stl_count};
 pub use stl_write::write_stl;
 

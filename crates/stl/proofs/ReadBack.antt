@@ -9,7 +9,7 @@ use lib.Ieee.{Float, binary32, to_bits}
 use Rattle.lists.specs.Checks.{first_that_applies}
 use Rattle.lists.specs.Joined.{joined}
 use Rattle.lists.proofs.Joined.{length_joined}
-use Rattle.stl.specs.declared.StlAnswer.TheVariants.{Facets}
+use Rattle.refusals.specs.Numbers.{given}
 use Rattle.float_bits.specs.Patterns.{bits_of}
 use Rattle.stl.specs.File.{count_in, length_for, head_of, record_of, nine_at, facets_in, stl_of, Binary32}
 use Rattle.stl.specs.Reply.{file_checks, buffer_checks, writing_checks, answer_by, left_by, outcome_by, reading, writing}
@@ -25,16 +25,16 @@ written_long ps =
     omega (arith, length-append (head_of n) (joined records n), head_long n, length_joined records 50 (λ j. record_long (nine_at ps j)) n)
 
 -- an answer with facets is no refusal
-answered : (n f g : ℕ) → answer_by n f ≡ Facets g → n ≡ 0
+answered : (n f g : ℕ) → answer_by n f ≡ given g → n ≡ 0
 answered zero f g e = refl
 answered (suc n) f g e = cc
 
-made_by : {A : Type 0} (n f g : ℕ) (made given lent : List A) → n ≡ 0 → f ≡ g → made ≡ given → outcome_by n f made lent ≡ record { answer = Facets g; left = given }
-made_by n f g made given lent z e h = rw (z, e, h)
+made_by : {A : Type 0} (n f g : ℕ) (made wanted lent : List A) → n ≡ 0 → f ≡ g → made ≡ wanted → outcome_by n f made lent ≡ record { answer = given g; left = wanted }
+made_by n f g made wanted lent z e h = rw (z, e, h)
 
 -- a call of `write_stl` that was answered with its facets, and then one of `read_stl` on what it left, with a buffer as long as the corners were
-pub read_back : (xs buffer : List Float) (file : List ℕ) → Binary32 xs → (writing xs file).answer ≡ Facets (facets_in xs) → length buffer ≡ length xs
-    → reading (writing xs file).left buffer ≡ record { answer = Facets (facets_in xs); left = xs }
+pub read_back : (xs buffer : List Float) (file : List ℕ) → Binary32 xs → (writing xs file).answer ≡ given (facets_in xs) → length buffer ≡ length xs
+    → reading (writing xs file).left buffer ≡ record { answer = given (facets_in xs); left = xs }
 read_back xs buffer file b w l =
     ap (λ (f : List ℕ). reading f buffer) (ap (λ (n : ℕ). left_by n s file) none) ∙ made_by _ _ _ _ _ _ passed count (round_trip_floats xs b fit.even (omega (arith, fit.few)))
   where

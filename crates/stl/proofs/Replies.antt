@@ -1,17 +1,19 @@
 -- Which number is given, by what a file and a buffer are: one law for each check, and what holds where none applies. Assumes nothing.
 use Prim.Native.Nat.{ℕ, zero, suc, ◌*◌, ◌/◌, ◌%◌, ◌≤◌, ◌<◌}
 use native.Mathlib.Omega.{arith}
-use mathlib.Core.Path.{◌≡◌, refl}
+use mathlib.Core.Path.{◌≡◌, refl, sym, ap}
 use mathlib.Core.Bool.{not}
 use mathlib.Core.List.{List, ◌++◌}
 use lib.Dec.{ltb, eqb}
 use lib.ListN.{length}
 use borrow.Author.Tests.{ltb-false, not-false, eqb-true, lt-ltb, le-ltb, eq-eqb, ne_eqb}
+use Rattle.std.specs.Prelude.{Ok, Err}
 use Rattle.lists.specs.Checks.{first_that_applies}
 use Rattle.lists.proofs.Checks.{neither, none_applies, past_group, by_group}
-use Rattle.stl.specs.declared.StlAnswer.TheVariants.{Refused, Facets}
+use Rattle.refusals.specs.declared.Refusal.{Refusal}
+use Rattle.refusals.specs.Numbers.{refused, number_of}
 use Rattle.stl.specs.File.{count_in, length_for}
-use Rattle.stl.specs.Reply.{file_checks, buffer_checks, writing_checks, answer_by, outcome_by, FileGives}
+use Rattle.stl.specs.Reply.{file_checks, buffer_checks, writing_checks, stl_number, stl_facets, answer_by, left_by, outcome_by, FileGives}
 
 -- ---- a file
 
@@ -92,18 +94,29 @@ module _ (numbers bytes : ℕ) where
 
 -- ---- the outcome by its number
 
-pub refused_is : (n facets : ℕ) → (n ≡ 0 → ⊥) → Refused n ≡ answer_by n facets
+-- 0 is no refusal's number
+pub numbered : (r : Refusal) → number_of r ≡ 0 → ⊥
+numbered r z = grind arith
+
+pub refused_is : (n facets : ℕ) → (n ≡ 0 → ⊥) → refused n ≡ answer_by n facets
 refused_is zero facets h = absurd (h refl)
 refused_is (suc n) facets h = refl
 
--- n is what the checks come to, r the number or the facets that the code gives
-module _ {A : Type 0} (facets : ℕ) (made lent : List A) {n : ℕ} where
-  pub refused_by_lem : {r : ℕ} → n ≡ r → (r ≡ 0 → ⊥) → FileGives (outcome_by n facets made lent) (Refused r) lent
-  refused_by_lem {r} e h = rw e (go r h)
-    where
-      go : (r : ℕ) → (r ≡ 0 → ⊥) → FileGives (outcome_by r facets made lent) (Refused r) lent
-      go zero h = absurd (h refl)
-      go (suc r) h = record { answers = refl; numbers = refl; facets = refl; leaves = refl }
+kept : {A : Type 0} (n : ℕ) (made lent : List A) → (n ≡ 0 → ⊥) → lent ≡ left_by n made lent
+kept zero made lent h = absurd (h refl)
+kept (suc n) made lent h = refl
 
-  pub done_by : {r : ℕ} {left : List A} → n ≡ 0 → r ≡ facets → left ≡ made → FileGives (outcome_by n facets made lent) (Facets r) left
+-- n is what the checks come to, r the refusal or the facets that the code gives
+module _ {A : Type 0} (facets : ℕ) (made lent : List A) {n : ℕ} where
+  pub refused_by_lem : (r : Refusal) → number_of r ≡ n → FileGives (outcome_by n facets made lent) (Err r) lent
+  refused_by_lem r e =
+      let some = numbered r in
+      rw (sym e) (record {
+        answers = refused_is (number_of r) facets some;
+        numbers = ap stl_number (refused_is (number_of r) facets some);
+        facets = ap stl_facets (refused_is (number_of r) facets some);
+        leaves = kept (number_of r) made lent some;
+      })
+
+  pub done_by : {r : ℕ} {left : List A} → n ≡ 0 → r ≡ facets → left ≡ made → FileGives (outcome_by n facets made lent) (Ok r) left
   done_by z e l = rw (z, e, l) (record { answers = refl; numbers = refl; facets = refl; leaves = refl })

@@ -1,9 +1,9 @@
 -- The replies of reading and writing (document 02, §1), in their order, and what a call comes to: its answer, and what the lent buffer then
 -- holds. Definitions only.
-use Rattle.std.specs.Prelude.{ℕ, zero, suc, ◌*◌, ◌/◌, ◌%◌, ◌≡◌, Bool, not, ◌||◌, List, [], ◌∷◌, ◌++◌, ltb, eqb, length, Float}
+use Rattle.std.specs.Prelude.{ℕ, zero, suc, ◌*◌, ◌/◌, ◌%◌, ◌≡◌, Bool, not, ◌||◌, List, [], ◌∷◌, ◌++◌, ltb, eqb, length, Float, Result}
 use Rattle.lists.specs.Checks.{Check, first_that_applies}
-use Rattle.stl.specs.declared.StlAnswer.{StlAnswer}
-use Rattle.stl.specs.declared.StlAnswer.TheVariants.{Refused, Facets}
+use Rattle.refusals.specs.declared.Refusal.{Refusal}
+use Rattle.refusals.specs.Numbers.{Reply, refused, given, reply_of, refusal_number}
 use Rattle.float_bits.specs.Patterns.{bits_of}
 use Rattle.stl.specs.File.{count_in, length_for, corners_in, facets_in, stl_of}
 
@@ -35,19 +35,19 @@ writing_checks numbers bytes =
 
 -- ---- the answer, and what the lent buffer then holds
 
--- an answer's number, 0 where nothing is refused; and its facets, 0 on a refusal
-abbrev pub stl_number : StlAnswer → ℕ
-stl_number (Refused n) = n
-stl_number (Facets n) = 0
+-- the number of a reply, 0 where nothing is refused; and the facets found, read or written, 0 on a refusal
+abbrev pub stl_number : Reply ℕ → ℕ
+stl_number (refused n) = n
+stl_number (given facets) = 0
 
-abbrev pub stl_facets : StlAnswer → ℕ
-stl_facets (Refused n) = 0
-stl_facets (Facets n) = n
+abbrev pub stl_facets : Reply ℕ → ℕ
+stl_facets (refused n) = 0
+stl_facets (given facets) = facets
 
 -- a refusal by n, or, where n is 0, so many facets
-abbrev pub answer_by : ℕ → ℕ → StlAnswer
-answer_by zero facets = Facets facets
-answer_by (suc n) facets = Refused (suc n)
+abbrev pub answer_by : ℕ → ℕ → Reply ℕ
+answer_by zero facets = given facets
+answer_by (suc n) facets = refused (suc n)
 
 -- "no buffer is changed" where n is not 0
 abbrev pub left_by : {A : Type 0} → ℕ → List A → List A → List A
@@ -55,14 +55,14 @@ left_by zero made lent = made
 left_by (suc n) made lent = lent
 
 pub record FileOutcome (A : Type 0) : Type 0 where
-  pub answer : StlAnswer
+  pub answer : Reply ℕ
   pub left : List A
 
 abbrev pub outcome_by : {A : Type 0} → ℕ → ℕ → List A → List A → FileOutcome A
 outcome_by n facets made lent = record { answer = answer_by n facets; left = left_by n made lent }
 
 -- how many facets a file has
-abbrev pub counting : List ℕ → StlAnswer
+abbrev pub counting : List ℕ → Reply ℕ
 counting file = answer_by (first_that_applies (file_checks file)) (count_in file)
 
 -- a file read into a lent buffer: "corners become vertices in order, with no indices"
@@ -75,8 +75,8 @@ writing vertices lent =
     outcome_by (first_that_applies (writing_checks (length vertices) (length lent))) (facets_in vertices) (stl_of (bits_of vertices)) lent
 
 -- what a call promises: its answer, with number and facets, and what it leaves in the lent buffer are those of the outcome
-pub record FileGives {A : Type 0} (o : FileOutcome A) (answer : StlAnswer) (left : List A) : Type 0 where
-  pub answers : answer ≡ o.answer
-  pub numbers : stl_number answer ≡ stl_number o.answer
-  pub facets : stl_facets answer ≡ stl_facets o.answer
+pub record FileGives {A : Type 0} (o : FileOutcome A) (answer : Result ℕ Refusal) (left : List A) : Type 0 where
+  pub answers : reply_of answer ≡ o.answer
+  pub numbers : refusal_number answer ≡ stl_number o.answer
+  pub facets : stl_facets (reply_of answer) ≡ stl_facets o.answer
   pub leaves : left ≡ o.left

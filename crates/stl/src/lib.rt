@@ -5,28 +5,14 @@
 ghost use Rattle.std.specs.Prelude.{◌+◌, ◌≤◌, ◌≡◌, length};
 ghost use Rattle.lists.specs.Put.{Put};
 ghost use Rattle.float_bits.specs.Patterns.{floats_of, bits_of};
-ghost use Rattle.stl.specs.File.{u32_of, u32_at, bytes_of, nine_of, record_of};
+ghost use Rattle.stl.specs.File.{u32_at, bytes_of, nine_of, record_of};
 
-// The number of a refusal, or how many facets were found, read or written.
-#[derive(Clone, Copy)]
-pub enum StlAnswer {
-    Refused(u32),
-    Facets(u32),
-}
-
-// Four bytes as a number, the least first.
-fn word_of(a: u8, b: u8, c: u8, d: u8) -> u32
-    ensures { result ≡ u32_of a b c d }
-{
-    (a as u32) + 256 * (b as u32) + 65536 * (c as u32) + 16777216 * (d as u32)
-}
-
-// The number that stands at `at`.
+// The number whose four bytes stand at `at`, the least first.
 pub fn word(bytes: &[u8], at: usize) -> u32
     requires { at + 4 ≤ length bytes.now }
     ensures { result ≡ u32_at bytes.now at }
 {
-    word_of(bytes[at], bytes[at + 1], bytes[at + 2], bytes[at + 3])
+    u32::from_le_bytes([bytes[at], bytes[at + 1], bytes[at + 2], bytes[at + 3]])
 }
 
 // Writes the four bytes of a number at `at`.
@@ -34,10 +20,7 @@ pub fn put_word(bytes: &mut [u8], at: usize, w: u32)
     requires { at + 4 ≤ length bytes.old }
     ensures { Put bytes.old at (bytes_of w) bytes.new (at + 4) }
 {
-    bytes[at] = (w % 256) as u8;
-    bytes[at + 1] = (w / 256 % 256) as u8;
-    bytes[at + 2] = (w / 65536 % 256) as u8;
-    bytes[at + 3] = (w / 16777216 % 256) as u8;
+    bytes[at..at + 4].copy_from_slice(&w.to_le_bytes());
 }
 
 // The patterns of a facet's nine numbers. They are all read before the first is stored: a compiler that cannot see that the

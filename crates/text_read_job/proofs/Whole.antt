@@ -1,9 +1,9 @@
 -- From what the reader on lists finds to what `whole_job` promises: what it took is the text of the job that the record and the slices hold,
 -- and what it refused is the text of no job within the limits.
-use Prim.Native.Nat.{ℕ, ◌*◌, ◌≤◌, ◌<◌}
+use Prim.Native.Nat.{ℕ, ◌≤◌, ◌<◌}
 use native.Mathlib.Omega.{arith}
 use mathlib.Core.Path.{◌≡◌, refl, sym, ap, ◌∙◌, subst}
-use mathlib.Core.List.{List, [], ◌∷◌}
+use mathlib.Core.List.{List, []}
 use lib.ListN.{length, take, drop}
 use Rattle.std.specs.Prelude.{Some}
 use Rattle.mesh_topology.specs.declared.Topology.{Topology}

@@ -9,7 +9,6 @@ use lib.ListN.{length, get_or, take, set, length-set, length-append}
 use lib.Seq.{get_or-set_same, get_or-set_other, take-suc}
 use Rattle.text.specs.declared.Three.{Three}
 use Rattle.text.specs.TextJob.{flat}
-use Rattle.text.specs.Reader.{three}
 use Rattle.text_read_parts.specs.Told.{threes_in}
 
 -- a store behind the first n

@@ -9,6 +9,11 @@ use Rattle.float_shortcut.proofs.Signed.{signed_nan}
 use Rattle.run.proofs.Ways.{is_number, no_nan, told_nearer}
 use Rattle.entries_consider.proofs.Considers.{was_off, was_nan, was_passed, was_taken}
 use Rattle.entries_consider.proofs.consider.Goals as goal
+use Rattle.entries_consider.proofs.consider.Goals.{Start}
+
+-- the square is a float of the field's kind
+single : (c : Start) → T (fits binary32 c.args.q)
+single c = subst T (sym c.well_formed.1.1.1.1.0.1) tt
 
 pub returns-then-to-eq-NOWHERE : goal.returns-then-to-eq-NOWHERE
 returns-then-to-eq-NOWHERE c = was_off _ _ _ _ _ c.if-to-eq-NOWHERE.true
@@ -20,14 +25,12 @@ bounds-field-i c =
 -- the square shows that the triangle is no nearer
 pub returns-then-not_nearer : goal.returns-then-not_nearer
 returns-then-not_nearer c =
-    let held_q : T (fits binary32 c.args.q) = subst T (sym c.well_formed.1.1.1.1.0.1) tt in
     let shown = c.not_nearer.ensures in
-    was_passed _ _ _ _ _ c.if-to-eq-NOWHERE.false held_q (shown.number c.if-not_nearer.true) (shown.not_nearer c.if-not_nearer.true)
+    was_passed _ _ _ _ _ c.if-to-eq-NOWHERE.false (single (goal.at.returns-then-not_nearer c).Start) (shown.number c.if-not_nearer.true) (shown.not_nearer c.if-not_nearer.true)
 
 pub returns-then-q : goal.returns-then-q
 returns-then-q c =
-    let held_q : T (fits binary32 c.args.q) = subst T (sym c.well_formed.1.1.1.1.0.1) tt in
-    was_nan _ _ _ _ _ c.if-to-eq-NOWHERE.false held_q c.if-q.true
+    was_nan _ _ _ _ _ c.if-to-eq-NOWHERE.false (single (goal.at.returns-then-q c).Start) c.if-q.true
 
 pub bounds-field-i-then-is_nearer : goal.bounds-field-i-then-is_nearer
 bounds-field-i-then-is_nearer c =
@@ -41,17 +44,14 @@ bounds-names-i c =
 -- what is nearer is a number
 pub key_of-requires : goal.key_of-requires
 key_of-requires c =
-    let held_q : T (fits binary32 c.args.q) = subst T (sym c.well_formed.1.1.1.1.0.1) tt in
-    no_nan _ (ap is_nan c.signed_root-d.ensures ∙ signed_nan c.args.q held_q ∙ is_number c.args.q c.if-q.false)
+    no_nan _ (ap is_nan c.signed_root-d.ensures ∙ signed_nan c.args.q (single (goal.at.key_of-requires c).Start) ∙ is_number c.args.q c.if-q.false)
 
 pub returns-then-is_nearer : goal.returns-then-is_nearer
 returns-then-is_nearer c =
-    let held_q : T (fits binary32 c.args.q) = subst T (sym c.well_formed.1.1.1.1.0.1) tt in
-    was_taken _ _ _ _ _ c.if-to-eq-NOWHERE.false held_q c.if-q.false c.signed_root-d.ensures
+    was_taken _ _ _ _ _ c.if-to-eq-NOWHERE.false (single (goal.at.returns-then-is_nearer c).Start) c.if-q.false c.signed_root-d.ensures
     (sym c.is_nearer.ensures ∙ c.if-is_nearer.true) c.key_of.ensures
 
 pub returns : goal.returns
 returns c =
-    let held_q : T (fits binary32 c.args.q) = subst T (sym c.well_formed.1.1.1.1.0.1) tt in
     let not_nearer = told_nearer _ c.signed_root-d.ensures c.is_nearer.ensures c.if-is_nearer.false in
-    was_passed _ _ _ _ _ c.if-to-eq-NOWHERE.false held_q (is_number c.args.q c.if-q.false) not_nearer
+    was_passed _ _ _ _ _ c.if-to-eq-NOWHERE.false (single (goal.at.returns c).Start) (is_number c.args.q c.if-q.false) not_nearer

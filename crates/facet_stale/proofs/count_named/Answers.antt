@@ -1,11 +1,10 @@
 -- `facet_stale::count_named`: n of the cells before this one name a triangle. Assumes nothing.
 use Prim.Native.Nat.{ℕ}
 use native.Mathlib.Omega.{arith}
-use mathlib.Core.Path.{◌≡◌, sym, ap, ◌∙◌}
+use mathlib.Core.Path.{sym}
 use mathlib.Core.Bool.{Bool}
-use lib.ListN.{length, get_or}
+use lib.ListN.{get_or}
 use borrow.Author.Tests.{lt-ltb, le-ltb}
-use Rattle.lists.specs.Range.{count_below}
 use Rattle.lists.proofs.Range.{count_none, count_passed, count_failed, count_le}
 use Rattle.facet_stale.proofs.count_named.Invariants.{names_one}
 use Rattle.facet_stale.proofs.count_named.Goals as goal
@@ -27,9 +26,3 @@ loop-name-preserved c =
       | then-name-triangles w ↦ omega (arith, l.invariant, count_passed test l.name-index (lt-ltb name c.args.triangles (omega arith)))
       | else-name-triangles w ↦ omega (arith, l.invariant, count_failed test l.name-index (le-ltb name c.args.triangles (omega arith)))
     ]
-
-pub returns : goal.returns
-returns c =
-    let l = c.loop-name in
-    let e : l.name-index ≡ length c.args.names.now = omega arith in
-    l.invariant ∙ ap (count_below (names_one c.args.triangles c.args.names.now)) e

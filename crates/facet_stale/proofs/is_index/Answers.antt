@@ -9,9 +9,6 @@ use Rattle.facet_stale.proofs.is_index.Goals as goal
 pub returns-then-starts-ne0 : goal.returns-then-starts-ne0
 returns-then-starts-ne0 c = tells_no (λ x. c.if-starts-ne0.true x.first)
 
-pub overflow_cast-end : goal.overflow_cast-end
-overflow_cast-end c = omega (arith, c.type_inv.starts c.args.triangles)
-
 pub returns-then-end-count_named : goal.returns-then-end-count_named
 returns-then-end-count_named c =
     tells_no (λ x. absurd (omega (arith, c.if-end-count_named.true, (index_seen _ _ _ x).end, c.count_named.ensures)))

@@ -1,18 +1,8 @@
 -- `facet_stale::is_row`: the places before p were read (`proofs/Rows.antt`). Assumes nothing.
 use native.Mathlib.Omega.{arith}
 use Rattle.facet_index.proofs.Told.{tells_yes, tells_no}
-use Rattle.facet_stale.proofs.Rows.{nothing_read, read_more, not_passed, not_cell, not_its_own, all_read}
+use Rattle.facet_stale.proofs.Rows.{read_more, not_passed, not_cell, not_its_own, all_read}
 use Rattle.facet_stale.proofs.is_row.Goals as goal
-
-pub loop-p-init : goal.loop-p-init
-loop-p-init c = nothing_read _ _ _ _ _ c.requires.from_le_to
-
-pub bounds-list-p : goal.bounds-list-p
-bounds-list-p c = omega (arith, c.requires.to_in_bounds)
-
-pub overflow_cast-cell : goal.overflow_cast-cell
-overflow_cast-cell c =
-    omega (arith, c.type_inv.list c.loop-p.p)
 
 pub returns-then-cell-least : goal.returns-then-cell-least
 returns-then-cell-least c =

@@ -19,9 +19,6 @@ returns-then-ran-ne0 c =
 pub met_in_the_run-requires : goal.met_in_the_run-requires
 met_in_the_run-requires c = refused_by_it c.args.run.ran.number c.args.run.ends c.if-ran-ne0.true
 
-pub finish-grazed-requires : goal.finish-grazed-requires
-finish-grazed-requires c = record { fit = c.requires.0; field_len = c.requires.1; long = c.requires.2 }
-
 pub returns : goal.returns
 returns c =
     let ran = c.args.run.ran in

@@ -5,9 +5,6 @@ use lib.Ieee.{Float}
 use Rattle.run.specs.Signs as Signs
 use Rattle.job_close.proofs.finish.Goals as goal
 
-pub sign_field-grazed-requires : goal.sign_field-grazed-requires
-sign_field-grazed-requires c = record { fit = c.requires.fit; field_len = (c.requires.field_len, c.requires.long.crossings_long) }
-
 pub returns : goal.returns
 returns c =
     let e = c.sign_field-grazed.ensures in record { fact = record { crossings = e.1; field = e.0; rows = c.count_rows.ensures ∙ ap (λ (l : List Float). Signs.rows c.args.terms.edition c.args.grid l) e.0 }; value = e.2 }

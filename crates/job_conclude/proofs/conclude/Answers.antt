@@ -4,10 +4,6 @@ use Rattle.job_outcome.proofs.Outcomes.{gives_refused, gives_done}
 use Rattle.mesh.specs.Lent.{mesh_in}
 use Rattle.job_conclude.proofs.conclude.Goals as goal
 
-pub close-answer-requires : goal.close-answer-requires
-close-answer-requires c =
-    (c.requires.fit, c.requires.ran.holds.field_long, c.requires.long)
-
 pub returns-then-ran-ne0 : goal.returns-then-ran-ne0
 returns-then-ran-ne0 c =
     let mesh : Mesh = mesh_in c.args.mesh in

@@ -1,6 +1,6 @@
 -- `text_read_parts::indices`: that there are none, or the count and as many lines, as in the reader on lists. Assumes nothing.
 use native.Mathlib.Omega.{arith}
-use mathlib.Core.Path.{◌≡◌, refl, ◌∙◌}
+use mathlib.Core.Path.{refl, ◌∙◌}
 use Rattle.text.specs.Reader.{indices_at}
 use Rattle.text.proofs.Job.{most_held}
 use Rattle.text.proofs.Calls.{onward, stopped, bounded, the_first, the_second}

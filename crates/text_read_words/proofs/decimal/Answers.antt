@@ -1,6 +1,5 @@
 -- `text_read_words::decimal`: the number that began at `at` is the one that goes on at k after digits of value `value`. Each way out is one step of the
 -- reader on lists. Assumes nothing.
-use Prim.Native.Nat.{◌-◌}
 use native.Mathlib.Omega.{arith}
 use mathlib.Core.Path.{sym, ◌∙◌}
 use Rattle.text.proofs.Places.{number_past, number_not, number_first, digits_past, digits_stop, digits_zero, digits_not, digits_large, digits_more}

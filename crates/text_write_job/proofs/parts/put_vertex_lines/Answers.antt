@@ -1,5 +1,4 @@
 -- `text_write_job::parts::put_vertex_lines` meets its contract: a line for each vertex, one after the other. Assumes nothing.
-use Prim.Native.Nat.{◌-◌}
 use native.Mathlib.Omega.{arith}
 use mathlib.Core.Path.{refl}
 use Rattle.text.specs.Words.{line}
