@@ -3,6 +3,7 @@ use Rattle.queue.specs.Queue.{blank}
 use Rattle.job_checks.specs.Job.{job_of}
 use Rattle.entries_own.specs.Own.{own_room}
 use Rattle.entries_own.proofs.Zeros.{first_long, gives_four}
+use Rattle.mesh.specs.Lent.{mesh_in}
 use Rattle.entries_own.proofs.run_records.Goals as goal
 
 pub returns : goal.returns

@@ -6,6 +6,7 @@ use Rattle.run_field.proofs.Runs.{run_over}
 use Rattle.job_clear.proofs.Lengths.{lengths_same}
 use Rattle.job_outcome.proofs.Numbers.{run_ends}
 use Rattle.job_outcome.proofs.Outcomes.{gives_run}
+use Rattle.mesh.specs.Lent.{mesh_in}
 use Rattle.job_accept.proofs.cleared_job.Goals as goal
 
 pub conclude-requires : goal.conclude-requires

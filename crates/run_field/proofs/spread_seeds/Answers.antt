@@ -8,13 +8,14 @@ use Rattle.run.specs.Run.{queueing}
 use Rattle.run.specs.Input.{run_input}
 use Rattle.run_field.specs.Running.{Leaves, seeded}
 use Rattle.run_field.proofs.Runs.{as_left, cells_told, queueing_states, rest_stops, rest_begins, rest_goes_on}
+use Rattle.mesh.specs.Lent.{mesh_in}
 use Rattle.run_field.proofs.spread_seeds.Goals as goal
 use Rattle.run_field.proofs.spread_seeds.Goals.{After-queue_cells-queued}
 
 -- what was queued is the run's queueing, from what was seeded
 all_queued : (c : After-queue_cells-queued) →
     let a = c.args in
-    let m = mesh_of a.vertices.now a.topology a.given a.indices.now in
+    let m = mesh_in a.mesh in
     let q = c.queue_cells-queued in
     Leaves a.grid m (λ any. queueing (run_input a.grid m a.terms.sign (length a.distances.now) any) (seeded m a.field.now a.names.now a.distances.now a.cells.now a.triangles.now))
     a.field.now a.names.now q.new.distances q.new.cells q.new.triangles q.result
