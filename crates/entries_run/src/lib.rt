@@ -57,7 +57,5 @@ pub fn run_row(
     if queued.number != 0 {
         return queued;
     }
-    entries_spread::spread(
-        grid, mesh, field, names, row, queued, terms,
-    )
+    entries_spread::spread(grid, mesh, field, names, row, queued, terms)
 }

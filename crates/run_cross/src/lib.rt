@@ -104,12 +104,7 @@ fn cross_all(
 // The whole pass, plain or quick: what it leaves and what it tells does not depend on which. Tells how many rays graze a
 // triangle, over all. The crossings may hold anything before. The room for a row of lines is made here, once, and lent
 // down.
-pub fn cross(
-    grid: Grid,
-    mesh: Mesh,
-    crossings: &mut [u32],
-    pass: Pass,
-) -> u64
+pub fn cross(grid: Grid, mesh: Mesh, crossings: &mut [u32], pass: Pass) -> u64
     requires grid_value { in_bounds grid ≡ true }
     requires sound { Sound (mesh_in mesh) }
     requires indices_len_bound { length (triangles_in (mesh_in mesh)) ≤ 131072 }
@@ -124,8 +119,7 @@ pub fn cross(
     let mut z2 = [0.0f32; 1024];
     let mut flags = [false; 1024];
     let grazed = cross_all(
-        grid, mesh, &mut z0, &mut z1, &mut z2, &mut flags, crossings,
-        pass,
+        grid, mesh, &mut z0, &mut z1, &mut z2, &mut flags, crossings, pass,
     );
     match pass {
         Pass::Plain => {}

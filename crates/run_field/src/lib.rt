@@ -47,8 +47,7 @@ fn spread_seeds(
         return queued;
     }
     run_spread::spread(
-        grid, mesh, field, names, distances, cells, triangles,
-        queued, terms,
+        grid, mesh, field, names, distances, cells, triangles, queued, terms,
     )
 }
 
@@ -71,10 +70,7 @@ pub fn run_field(
 {
     let sign = terms.sign;
     match run_seed::seed(field, names, grid, mesh, sign) {
-        Ok(()) => spread_seeds(
-            grid, mesh, field, names, distances, cells, triangles,
-            terms,
-        ),
+        Ok(()) => spread_seeds(grid, mesh, field, names, distances, cells, triangles, terms),
         Err(refusal) => Progress {
             number: refusal.number(),
             waiting: 0,

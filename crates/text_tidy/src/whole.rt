@@ -127,7 +127,7 @@ pub fn tidy_text(text: &[u8], out: &mut [u8]) -> usize
     let mut bits = coordinate_words();
     let mut indices = index_words();
     match read_job(text, &mut bits, &mut indices) {
-        Err(refusal) => put_number(out, 0, b"answer=", refusal.number()),
+        Err(no_job) => put_number(out, 0, b"answer=", no_job.number()),
         Ok(asked) => {
             let n = 3 * asked.vertices;
             let k = asked.indices;

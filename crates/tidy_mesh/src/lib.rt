@@ -30,10 +30,7 @@ pub struct Outputs {
 }
 
 // 5: a lent output of a wrong length.
-fn wrong_outputs(
-    mesh: Mesh,
-    l: Outputs,
-) -> bool
+fn wrong_outputs(mesh: Mesh, l: Outputs) -> bool
     requires { triangle_total (mesh_in mesh) ≤ 131072 }
     ensures { let m = mesh_in mesh.entry in
         result ≡ wrong_outputs m l }
@@ -61,7 +58,14 @@ fn squeeze(
     ensures fact_2 { let m = mesh_in mesh.entry in
         (coordinates.new ≡ (tidy_left m).coordinates) × (listed.new ≡ (tidy_left m).indices) }
 {
-    tidy_marks::mark_used(mesh.topology, mesh.given, mesh.indices, firsts, causes, coordinates);
+    tidy_marks::mark_used(
+        mesh.topology,
+        mesh.given,
+        mesh.indices,
+        firsts,
+        causes,
+        coordinates,
+    );
     let n = firsts.len();
     let kept_vertices = tidy_marks::number_marked(coordinates, n);
     let kept_triangles = tidy_squeeze::list_kept(
@@ -96,14 +100,15 @@ fn tidy_accepted(
         left ≡ tidy_left m }
 {
     tidy_firsts::find_firsts(mesh.vertices, coordinates, firsts);
-    tidy_causes::find_causes(mesh.topology, mesh.given, mesh.indices, firsts, listed, causes);
-    squeeze(
-        mesh,
+    tidy_causes::find_causes(
+        mesh.topology,
+        mesh.given,
+        mesh.indices,
         firsts,
-        causes,
-        coordinates,
         listed,
-    )
+        causes,
+    );
+    squeeze(mesh, firsts, causes, coordinates, listed)
 }
 
 // Tidies a mesh: merges vertices of identical bits into the first, drops triangles with two equal numbers and later ones
@@ -132,12 +137,6 @@ pub fn tidy_mesh(
     if wrong_outputs(mesh, l) {
         return Err(Refusal::WrongLength);
     }
-    let kept = tidy_accepted(
-        mesh,
-        coordinates,
-        listed,
-        firsts,
-        causes,
-    );
+    let kept = tidy_accepted(mesh, coordinates, listed, firsts, causes);
     Ok(kept)
 }
