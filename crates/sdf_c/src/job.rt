@@ -36,7 +36,7 @@ pub fn sdf_generate_grid_sdf(
         GivesC (outcome job lent) result left }
 {
     answer_out(sdf::generate_grid_sdf(
-        grid.grid(),
+        grid.into(),
         vertices,
         topology_in(topology),
         indices_in(given),
@@ -48,7 +48,7 @@ pub fn sdf_generate_grid_sdf(
         distances,
         cells,
         triangles,
-        terms.terms(),
+        terms.into(),
     ))
 }
 
@@ -72,10 +72,10 @@ pub fn sdf_generate_grid_sdf_records(
         let left = lent_row field.new names.new crossings.new rows.new queue.new in
         GivesC (outcome job lent) result left }
 {
-    let at = grid.grid();
+    let at = grid.into();
     let listed = topology_in(topology);
     let indexed = indices_in(given);
-    let asked = terms.terms();
+    let asked = terms.into();
     let answer = sdf::generate_grid_sdf_records(
         at, vertices, listed, indexed, indices, field, names, crossings, rows, queue, asked,
     );
