@@ -23,8 +23,8 @@ pub fn triangle_box_answer(a: Result<TriangleBox, Refusal>) -> SdfBoxAnswer
         },
         Ok(b) => SdfBoxAnswer {
             number: 0,
-            min: c_records::point_out(b.low),
-            max: c_records::point_out(b.high),
+            min: b.low.into(),
+            max: b.high.into(),
         },
     }
 }

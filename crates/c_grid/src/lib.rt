@@ -6,8 +6,7 @@ ghost use Rattle.refusals.specs.Numbers.{reply_of};
 ghost use Rattle.c_records.specs.C as C;
 
 use c_records::{
-    SdfBoxAnswer, SdfCell, SdfCellAnswer, SdfGridAnswer, SdfNumberAnswer, SdfPointAnswer,
-    SdfSnapAnswer,
+    SdfBoxAnswer, SdfCellAnswer, SdfGridAnswer, SdfNumberAnswer, SdfPointAnswer, SdfSnapAnswer,
 };
 use grid::{BoundingBox, Cell, Counts, Grid, Snap, SnapResult};
 use point::Point;
@@ -40,7 +39,7 @@ pub fn cell_answer(a: Result<Cell, Refusal>) -> SdfCellAnswer
         },
         Ok(c) => SdfCellAnswer {
             number: 0,
-            cell: c_records::cell_out(c),
+            cell: c.into(),
         },
     }
 }
@@ -56,11 +55,7 @@ pub fn counts_answer(a: Result<Counts, Refusal>) -> SdfCellAnswer
         },
         Ok(c) => SdfCellAnswer {
             number: 0,
-            cell: SdfCell {
-                x: c.x,
-                y: c.y,
-                z: c.z,
-            },
+            cell: c.into(),
         },
     }
 }
@@ -76,7 +71,7 @@ pub fn point_answer(a: Result<Point, Refusal>) -> SdfPointAnswer
         },
         Ok(p) => SdfPointAnswer {
             number: 0,
-            point: c_records::point_out(p),
+            point: p.into(),
         },
     }
 }
@@ -93,8 +88,8 @@ pub fn box_answer(a: Result<BoundingBox, Refusal>) -> SdfBoxAnswer
         },
         Ok(b) => SdfBoxAnswer {
             number: 0,
-            min: c_records::point_out(b.min),
-            max: c_records::point_out(b.max),
+            min: b.min.into(),
+            max: b.max.into(),
         },
     }
 }
@@ -121,7 +116,7 @@ pub fn snap_answer(a: Result<Snap, Refusal>) -> SdfSnapAnswer
         Ok(s) => SdfSnapAnswer {
             number: 0,
             inside: inside(s.result),
-            cell: c_records::cell_out(s.cell),
+            cell: s.cell.into(),
         },
     }
 }
@@ -137,7 +132,7 @@ pub fn grid_answer(a: Result<Grid, Refusal>) -> SdfGridAnswer
         },
         Ok(g) => SdfGridAnswer {
             number: 0,
-            grid: c_records::grid_out(g),
+            grid: g.into(),
         },
     }
 }

@@ -122,79 +122,72 @@ pub struct SdfOrderAnswer {
 
 // ---- handed in
 
-impl SdfPoint {
-    pub fn point(self) -> Point
-        ensures { result ≡ C.point_in self }
-    {
+impl From<SdfPoint> for Point {
+    ghost from_gives = { λ p q. q ≡ C.point_in p };
+
+    fn from(p: SdfPoint) -> Point {
         Point {
-            x: self.x,
-            y: self.y,
-            z: self.z,
+            x: p.x,
+            y: p.y,
+            z: p.z,
         }
     }
 }
 
-impl SdfCell {
-    pub fn cell(self) -> Cell
-        ensures { result ≡ C.cell_in self }
-    {
+impl From<SdfCell> for Cell {
+    ghost from_gives = { λ c d. d ≡ C.cell_in c };
+
+    fn from(c: SdfCell) -> Cell {
         Cell {
-            x: self.x,
-            y: self.y,
-            z: self.z,
-        }
-    }
-
-    pub fn counts(self) -> Counts
-        ensures { result ≡ C.counts_in self }
-    {
-        Counts {
-            x: self.x,
-            y: self.y,
-            z: self.z,
+            x: c.x,
+            y: c.y,
+            z: c.z,
         }
     }
 }
 
-impl SdfGrid {
-    pub fn grid(self) -> Grid
-        ensures { result ≡ C.grid_in self }
-    {
-        let first = self.first;
-        let size = self.size;
-        let count = self.count;
+impl From<SdfCell> for Counts {
+    ghost from_gives = { λ c n. n ≡ C.counts_in c };
+
+    fn from(c: SdfCell) -> Counts {
+        Counts {
+            x: c.x,
+            y: c.y,
+            z: c.z,
+        }
+    }
+}
+
+impl From<SdfGrid> for Grid {
+    ghost from_gives = { λ g h. h ≡ C.grid_in g };
+
+    fn from(asked: SdfGrid) -> Grid {
+        let count = asked.count;
         Grid {
-            first_cell: Point {
-                x: first.x,
-                y: first.y,
-                z: first.z,
-            },
-            cell_size: Point {
-                x: size.x,
-                y: size.y,
-                z: size.z,
-            },
+            first_cell: asked.first.into(),
+            cell_size: asked.size.into(),
             count_x: count.x,
             count_y: count.y,
             count_z: count.z,
-            upright: self.upright,
+            upright: asked.upright,
         }
     }
 }
 
-impl SdfTerms {
-    pub fn terms(self) -> Terms
-        ensures { result ≡ C.terms_in self }
-    {
+impl From<SdfTerms> for Terms {
+    ghost from_gives = { λ t u. u ≡ C.terms_in t };
+
+    fn from(t: SdfTerms) -> Terms {
         Terms {
-            limit: self.limit,
-            pass: pass_in(self.pass),
-            sign: sign_in(self.sign),
-            edition: self.edition,
+            limit: t.limit,
+            pass: pass_in(t.pass),
+            sign: sign_in(t.sign),
+            edition: t.edition,
         }
     }
 }
 
+// Functions, since a number and an enum of another crate take no `From` here.
 pub fn pass_in(pass: u32) -> Pass
     ensures { result ≡ C.pass_in pass }
 {
@@ -215,48 +208,56 @@ pub fn sign_in(sign: u32) -> SignMethod
 
 // ---- handed out
 
-pub fn point_out(p: Point) -> SdfPoint
-    ensures { result ≡ C.point_out p }
-{
-    SdfPoint {
-        x: p.x,
-        y: p.y,
-        z: p.z,
+impl From<Point> for SdfPoint {
+    ghost from_gives = { λ p q. q ≡ C.point_out p };
+
+    fn from(p: Point) -> SdfPoint {
+        SdfPoint {
+            x: p.x,
+            y: p.y,
+            z: p.z,
+        }
     }
 }
 
-pub fn cell_out(c: Cell) -> SdfCell
-    ensures { result ≡ C.cell_out c }
-{
-    SdfCell {
-        x: c.x,
-        y: c.y,
-        z: c.z,
+impl From<Cell> for SdfCell {
+    ghost from_gives = { λ c d. d ≡ C.cell_out c };
+
+    fn from(c: Cell) -> SdfCell {
+        SdfCell {
+            x: c.x,
+            y: c.y,
+            z: c.z,
+        }
     }
 }
 
-pub fn grid_out(g: Grid) -> SdfGrid
-    ensures { result ≡ C.grid_out g }
-{
-    let first = g.first_cell;
-    let size = g.cell_size;
-    SdfGrid {
-        first: SdfPoint {
-            x: first.x,
-            y: first.y,
-            z: first.z,
-        },
-        size: SdfPoint {
-            x: size.x,
-            y: size.y,
-            z: size.z,
-        },
-        count: SdfCell {
-            x: g.count_x,
-            y: g.count_y,
-            z: g.count_z,
-        },
-        upright: g.upright,
+impl From<Counts> for SdfCell {
+    ghost from_gives = { λ n c. c ≡ C.counts_out n };
+
+    fn from(n: Counts) -> SdfCell {
+        SdfCell {
+            x: n.x,
+            y: n.y,
+            z: n.z,
+        }
+    }
+}
+
+impl From<Grid> for SdfGrid {
+    ghost from_gives = { λ g h. h ≡ C.grid_out g };
+
+    fn from(g: Grid) -> SdfGrid {
+        SdfGrid {
+            first: g.first_cell.into(),
+            size: g.cell_size.into(),
+            count: SdfCell {
+                x: g.count_x,
+                y: g.count_y,
+                z: g.count_z,
+            },
+            upright: g.upright,
+        }
     }
 }
 

@@ -6,15 +6,15 @@ use Rattle.float.specs.Arith.{f1}
 use Rattle.float.specs.Case.{Case, ◌gives◌}
 use Rattle.float.specs.Steps.{abs_of}
 use Rattle.float_order.specs.Compare.{alike, order}
-use Rattle.float_order.specs.declared.Order.{Order}
-use Rattle.float_order.specs.declared.Order.TheVariants.{Less, Equal, Greater}
+use Rattle.std.specs.declared.cmp.Ordering.{Ordering}
+use Rattle.std.specs.declared.cmp.Ordering.TheVariants.{Less, Equal, Greater}
 
 -- -1.0
 abbrev pub minus_one : Float
 minus_one = of_bits binary32 0xbf80_0000
 
 -- less, equal and greater as numbers
-abbrev order_number : Order → ℕ
+abbrev order_number : Ordering → ℕ
 order_number Less = 0
 order_number Equal = 1
 order_number Greater = 2

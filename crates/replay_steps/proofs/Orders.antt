@@ -5,9 +5,10 @@ use lib.IntN.{ℤ, pos, negsuc}
 use mir.Syntax.{w32}
 use mir.Val.{SFits, to_z, of_z}
 use mir.Facts.{to_z-of_z}
-use Rattle.float_order.specs.declared.Comparison.{Comparison}
-use Rattle.float_order.specs.declared.Comparison.TheVariants.{NotANumber, Is}
-use Rattle.float_order.specs.declared.Order.TheVariants.{Less, Equal, Greater}
+use Rattle.std.specs.Prelude.{Result, Ok, Err}
+use Rattle.std.specs.declared.cmp.Ordering.{Ordering}
+use Rattle.std.specs.declared.cmp.Ordering.TheVariants.{Less, Equal, Greater}
+use Rattle.refusals.specs.declared.Refusal.{Refusal}
 use Rattle.c_records.specs.C.{comparison}
 use Rattle.replay_steps.specs.Geometry.{order_word}
 
@@ -21,9 +22,9 @@ other_word (pos (suc (suc n))) h k = refl
 other_word (negsuc n) h k = refl
 
 -- an order comes back out of its bits
-pub order_kept : (c : Comparison) → to_z w32 (of_z w32 (comparison c).order) ≡ (comparison c).order
+pub order_kept : (a : Result Ordering Refusal) → to_z w32 (of_z w32 (comparison a).order) ≡ (comparison a).order
 unfolding comparison
-order_kept NotANumber = refl
-order_kept (Is Less) = refl
-order_kept (Is Equal) = refl
-order_kept (Is Greater) = refl
+order_kept (Err r) = refl
+order_kept (Ok Less) = refl
+order_kept (Ok Equal) = refl
+order_kept (Ok Greater) = refl

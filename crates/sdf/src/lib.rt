@@ -1,5 +1,5 @@
-// The public face of the port: this is what users call. No function of it has a `requires`: what is out
-// of bounds is refused, by a number of document 01. The crates below it are its parts.
+// The public face of the port: this is what users call. No function of it has a `requires`: what is out of bounds is
+// refused, by a `Refusal`, which has its number of document 01. The crates below it are its parts.
 //
 //   generate_grid_sdf          the whole job, over lent buffers (its contract stands in crate `job_generate`)
 //   generate_grid_sdf_records  the same with the queue as a lent row of records (crate `entries_generate`)
@@ -20,15 +20,8 @@ mod questions;
 
 // ---- what is asked about, and answered with
 
-pub use ask_geo::asked::{
-    BoxAnswer as TriangleBoxAnswer, DistanceAnswer, PointAnswer as ClosestPointAnswer, RayAnswer,
-};
 pub use ask_geo::{RayHit, TriangleBox};
-pub use float_order::{Comparison, Order};
-pub use grid::{
-    BoundingBox, BoxAnswer as GridBoxAnswer, Cell, CellAnswer, Counts, CountsAnswer, Grid,
-    GridAnswer, NumberAnswer, PointAnswer as GridPointAnswer, Snap, SnapAnswer, SnapResult,
-};
+pub use grid::{BoundingBox, Cell, Counts, Grid, Snap, SnapResult};
 pub use point::{Axis, Point};
 pub use refusals::Refusal;
 

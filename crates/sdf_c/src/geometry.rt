@@ -31,13 +31,13 @@ pub fn sdf_compare_distances(a: f32, b: f32) -> SdfOrderAnswer
 pub fn sdf_triangle_bounding_box(a: SdfPoint, b: SdfPoint, c: SdfPoint) -> SdfBoxAnswer
     ensures { result ≡ C.triangle_box_for_c (asked_box (point_in a) (point_in b) (point_in c)) }
 {
-    c_geo::triangle_box_answer(sdf::triangle_bounding_box(a.point(), b.point(), c.point()))
+    c_geo::triangle_box_answer(sdf::triangle_bounding_box(a.into(), b.into(), c.into()))
 }
 
 pub fn sdf_closest_point_segment(p: SdfPoint, a: SdfPoint, b: SdfPoint) -> SdfPointAnswer
     ensures { result ≡ C.closest_for_c (asked_segment (point_in p) (point_in a) (point_in b)) }
 {
-    c_geo::closest_answer(sdf::closest_point_segment(p.point(), a.point(), b.point()))
+    c_grid::point_answer(sdf::closest_point_segment(p.into(), a.into(), b.into()))
 }
 
 pub fn sdf_closest_point_triangle(
@@ -48,7 +48,7 @@ pub fn sdf_closest_point_triangle(
 ) -> SdfPointAnswer
     ensures { result ≡ C.closest_for_c (asked_triangle (point_in p) (point_in a) (point_in b) (point_in c)) }
 {
-    c_geo::closest_answer(sdf::closest_point_triangle(p.point(), a.point(), b.point(), c.point()))
+    c_grid::point_answer(sdf::closest_point_triangle(p.into(), a.into(), b.into(), c.into()))
 }
 
 pub fn sdf_point_triangle_distance(
@@ -59,7 +59,7 @@ pub fn sdf_point_triangle_distance(
 ) -> SdfDistanceAnswer
     ensures { result ≡ C.distance_for_c (asked_distance (point_in p) (point_in a) (point_in b) (point_in c)) }
 {
-    c_geo::distance_answer(sdf::point_triangle_distance(p.point(), a.point(), b.point(), c.point()))
+    c_geo::distance_answer(sdf::point_triangle_distance(p.into(), a.into(), b.into(), c.into()))
 }
 
 pub fn sdf_point_triangle_signed_distance(
@@ -71,10 +71,10 @@ pub fn sdf_point_triangle_signed_distance(
     ensures { result ≡ C.distance_for_c (asked_signed_distance (point_in p) (point_in a) (point_in b) (point_in c)) }
 {
     c_geo::distance_answer(sdf::point_triangle_signed_distance(
-        p.point(),
-        a.point(),
-        b.point(),
-        c.point(),
+        p.into(),
+        a.into(),
+        b.into(),
+        c.into(),
     ))
 }
 
@@ -89,10 +89,10 @@ pub fn sdf_ray_triangle_intersection_aligned(
     ensures { result ≡ C.ray_for_c (asked_ray (point_in o) (point_in v0) (point_in v1) (point_in v2) (axis_numbered axis)) }
 {
     c_geo::ray_answer(sdf::ray_triangle_intersection_aligned(
-        o.point(),
-        v0.point(),
-        v1.point(),
-        v2.point(),
+        o.into(),
+        v0.into(),
+        v1.into(),
+        v2.into(),
         point::axis_numbered(axis),
     ))
 }

@@ -43,7 +43,7 @@ pub fn sdf_generate_grid_sdf(
         indices,
     };
     answer_out(sdf::generate_grid_sdf(
-        grid.grid(),
+        grid.into(),
         mesh,
         field,
         names,
@@ -52,7 +52,7 @@ pub fn sdf_generate_grid_sdf(
         distances,
         cells,
         triangles,
-        terms.terms(),
+        terms.into(),
     ))
 }
 
@@ -76,14 +76,14 @@ pub fn sdf_generate_grid_sdf_records(
         let left = lent_row field.new names.new crossings.new rows.new queue.new in
         GivesC (outcome job lent) result left }
 {
-    let at = grid.grid();
+    let at = grid.into();
     let mesh = Mesh {
         vertices,
         topology: topology_in(topology),
         given: indices_in(given),
         indices,
     };
-    let asked = terms.terms();
+    let asked = terms.into();
     let answer = sdf::generate_grid_sdf_records(
         at, mesh, field, names, crossings, rows, queue, asked,
     );

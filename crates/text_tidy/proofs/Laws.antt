@@ -24,7 +24,7 @@ use Rattle.tidy.specs.Meaning.{NothingGoes}
 use Rattle.tidy.specs.Tidy.{vertex_total, triangle_total, first_of, cause, kept_vertices, kept_triangles, vertex_from, tidied_triangles, tidied}
 use Rattle.tidy.proofs.Numbers.{On, on_of}
 use Rattle.tidy.proofs.Tidied.{triangles_are, triangles_long, vertices_in_turn, tidied_below}
-use Rattle.tidy.proofs.Again.{no_more_vertices, no_more_triangles, vertices_fit}
+use Rattle.tidy.proofs.Again.{no_more_vertices, no_more_triangles}
 use Rattle.tidy.proofs.Twice.{nothing_more, counts_stay, twice}
 use Rattle.tidy_mesh.proofs.Passes.{tidied_passes}
 use Rattle.text.specs.Limits.{most_vertices, most_indices}

@@ -1,10 +1,13 @@
 -- `run_seed_four::offer_four`: the state is the one after i offers in a row, and these are the offers along the line. Assumes nothing.
-use Prim.Native.Nat.{◌+◌, ◌-◌, ◌≤◌, ◌<◌}
+use Prim.Native.Nat.{ℕ, ◌+◌, ◌-◌, ◌≤◌, ◌<◌}
 use native.Mathlib.Omega.{arith}
 use mathlib.Core.Path.{◌≡◌, refl, ◌∙◌}
 use Rattle.std.proofs.lemmas.Result.{err_from_is_err_and}
 use Rattle.lists.specs.Turns.{turns}
 use Rattle.lists.proofs.Turns.{turns_none, turns_on, turns_stop, turns_end}
+use Rattle.grid.specs.declared.Grid.{Grid}
+use Rattle.grid.specs.declared.Cell.{Cell}
+use Rattle.grid.specs.Axes.{cell_numbered}
 use Rattle.grid.specs.Index.{Inside, total}
 use Rattle.grid.proofs.Laws.{index_below}
 use Rattle.run_seed_cells.specs.Parts.{seed_state, along_line}
@@ -12,6 +15,10 @@ use Rattle.run_seed_cells.proofs.Told.{never_none}
 use Rattle.run_seed_four.proofs.Fours.{in_row, index_behind, inside_behind, row_is_line}
 use Rattle.run_seed_four.proofs.offer_four.Goals as goal
 use Rattle.run_seed_four.proofs.offer_four.Goals.{After-offer-arg-in-loop-i-1, At-loop-i}
+
+-- the first cell is on the grid where the last is
+inside_at : (g : Grid) (at : Cell) (last : ℕ) → Inside g (cell_numbered at.x at.y last) → at.z ≤ last → Inside g at
+inside_at g at last h l = record { x_below = h.x_below; y_below = h.y_below; z_below = omega (arith, h.z_below, l) }
 
 -- the cell that turn i offers to is on the grid, and has its index
 below : (c : After-offer-arg-in-loop-i-1) → c.get_cell_idx-c.result + c.loop-i.i < total c.args.grid
@@ -35,13 +42,11 @@ line l =
 
 pub squares_from-squares-requires : goal.squares_from-squares-requires
 squares_from-squares-requires c =
-    let inside_at_lem : Inside c.args.grid c.args.at = record { x_below = c.requires.grid_value.1.x_below; y_below = c.requires.grid_value.1.y_below; z_below = omega (arith, c.requires.grid_value.1.z_below, c.requires.grid_value.2) } in
-    (c.requires.grid_value.0, inside_at_lem)
+    (c.requires.grid_value.0, inside_at c.args.grid c.args.at c.args.last c.requires.grid_value.1 c.requires.grid_value.2)
 
 pub get_cell_idx-c-requires : goal.get_cell_idx-c-requires
 get_cell_idx-c-requires c =
-    let inside_at_lem : Inside c.args.grid c.args.at = record { x_below = c.requires.grid_value.1.x_below; y_below = c.requires.grid_value.1.y_below; z_below = omega (arith, c.requires.grid_value.1.z_below, c.requires.grid_value.2) } in
-    (c.requires.grid_value.0, inside_at_lem)
+    (c.requires.grid_value.0, inside_at c.args.grid c.args.at c.args.last c.requires.grid_value.1 c.requires.grid_value.2)
 
 pub loop-i-init : goal.loop-i-init
 loop-i-init c = (refl, refl, turns_none _ _)

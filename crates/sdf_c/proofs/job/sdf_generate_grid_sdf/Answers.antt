@@ -9,9 +9,9 @@ returns c =
     c.args.vertices.now
     c.args.indices.now
     (lent_of c.args.field.now c.args.names.now c.args.crossings.now c.args.rows.now c.args.distances.now c.args.cells.now c.args.triangles.now)
-    c.grid.ensures
+    c.into.ensures
     c.topology_in.ensures
     c.indices_in.ensures
-    c.terms.ensures
+    c.into-2.ensures
     c.answer_out.ensures
     c.generate_grid_sdf.ensures
