@@ -7,6 +7,8 @@ ghost use Rattle.run_state.specs.Told.{refused_by};
 
 // How far a run has come: 0, or the number of the refusal that ended it; how many entries wait; how many
 // were taken; the most that waited at once.
+// A refused run still tells its counts, so that the refusal is a number beside them, as `refused_by` of specs/Told.antt
+// has it.
 #[derive(Clone, Copy)]
 pub struct Progress {
     pub number: u32,
