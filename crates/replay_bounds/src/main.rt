@@ -176,7 +176,7 @@ fn try_coordinate(rt: &impl Print, name: &[u8], x: f32) -> io::Result<()> {
 
 // The first k of the coordinates.
 fn try_coordinates(rt: &impl Print, name: &[u8], many: &[f32], k: usize) -> io::Result<()> {
-    let n = counting::coordinates(many, k);
+    let n = counting::as_far_as(many, k);
     try_vertices(rt, name, &many[..n])
 }
 
@@ -213,7 +213,7 @@ fn try_indices(
     k: usize,
 ) -> io::Result<()> {
     let vertices = [0.0f32; 3];
-    let n = counting::indices(many, k);
+    let n = counting::as_far_as(many, k);
     try_mesh(
         rt,
         name,
@@ -229,7 +229,7 @@ fn try_indices(
 // The same with that vertex off the grid: 3 comes before 10.
 fn try_indices_off(rt: &impl Print, name: &[u8], many: &[u32], k: usize) -> io::Result<()> {
     let vertices = [9.0f32; 3];
-    let n = counting::indices(many, k);
+    let n = counting::as_far_as(many, k);
     try_mesh(
         rt,
         name,
@@ -648,7 +648,7 @@ fn off_grid(rt: &impl Print) -> io::Result<()> {
 // A strip of the first k of the coordinates, without indices.
 fn try_unindexed(rt: &impl Print, name: &[u8], many: &[f32], k: usize) -> io::Result<()> {
     let no_index = [0u32; 1];
-    let n = counting::coordinates(many, k);
+    let n = counting::as_far_as(many, k);
     try_mesh(
         rt,
         name,
