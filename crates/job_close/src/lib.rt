@@ -1,15 +1,13 @@
 // What follows the run (document 01, "The run", 4), but for the queue. A part of the port: users call `sdf`.
 #![tactic(auto)]
 
-ghost use mathlib.Core.List.{Memᴰ};
-ghost use Rattle.std.specs.Prelude.{◌≡◌, ◌*◌, length};
+ghost use Rattle.std.specs.Prelude.{◌≡◌, ◌*◌, ◌≤◌, length};
 ghost use Rattle.refusals.specs.Numbers.{number_of};
 ghost use Rattle.grid.specs.Index.{total};
 ghost use Rattle.mesh.specs.Lent.{mesh_in};
 ghost use Rattle.run.specs.Method.{field_by, crossings_by, grazed_by};
 ghost use Rattle.run_state.specs.Told.{Fit};
 ghost use Rattle.job_outcome.specs.Finished.{Long, Finished, Closed};
-ghost use Rattle.job_outcome.specs.Numbers.{run_numbers};
 
 use grid::Grid;
 use job_outcome::{Answer, Ended, Tally};
@@ -66,7 +64,7 @@ fn finish(
 
 // The refusal that a run told by its number, which is 6, 7 or 8.
 fn met_in_the_run(number: u32) -> Refusal
-    requires { Memᴰ number run_numbers }
+    requires { (6 ≤ number) × (number ≤ 8) }
     ensures { number_of result ≡ number }
 {
     match number {

@@ -37,12 +37,12 @@ run_given j b =
 
 -- so what a run tells is 0, or one of these
 pub run_ends : (j : Job) (b : Lent) (n : ℕ) (s : State) → run_of j b ≡ told n s → RunEnds n
-unfolding told
+unfolding told every
 run_ends j b n s e = go n (subst (OnlyBy (λ k. Memᴰ k run_numbers)) e (run_given j b))
   where
     go : (k : ℕ) → OnlyBy (λ i. Memᴰ i run_numbers) (told k s) → RunEnds k
-    go zero h = inl refl
-    go (suc k) h = inr h
+    go zero h = (λ z. absurd (z refl), omega arith)
+    go (suc k) h = (λ z. leb-true 6 (suc k) (every_member (leb 6) (suc k) run_numbers refl h), leb-true (suc k) 8 (every_member (λ i. leb i 8) (suc k) run_numbers refl h))
 
 pub replies : (j : Job) (b : Lent) → Replies j b (outcome j b)
 unfolding outcome unless_refused ended

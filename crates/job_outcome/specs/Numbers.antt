@@ -1,7 +1,7 @@
 -- "Reply numbers. Checked in this order; the first that applies is given, and no number is given otherwise." (document 01; document
 -- 02 adds 10, 13 and 14). Which numbers a job may be answered, and what each leaves in the lent buffers. Definitions only; proofs/Numbers.antt
 -- shows it of every job (`replies`).
-use Rattle.std.specs.Prelude.{ℕ, ◌≡◌, ◌⊎◌}
+use Rattle.std.specs.Prelude.{ℕ, ◌≡◌, ◌≢◌, ◌≤◌}
 use mathlib.Core.List.{List, [], ◌∷◌, Memᴰ}
 use Rattle.job_checks.specs.Job.{Job, Lent}
 use Rattle.lists.specs.Checks.{numbers_of}
@@ -19,9 +19,9 @@ check_numbers j b = numbers_of (checks j.grid j.edition j.mesh (lengths_of b))
 abbrev pub run_numbers : List ℕ
 run_numbers = 6 ∷ 7 ∷ 8 ∷ []
 
--- how a run ends: done, which it tells by 0, or refused by one of its numbers
+-- how a run ends: done, which it tells by 0, or refused by one of its numbers, which are those from 6 to 8
 abbrev pub RunEnds : ℕ → Type 0
-RunEnds n = (n ≡ 0) ⊎ Memᴰ n run_numbers
+RunEnds n = (n ≢ 0 → 6 ≤ n) × (n ≤ 8)
 
 -- all of them: those of the checks in their order, then those of the run
 abbrev pub refusal_numbers : List ℕ
