@@ -14,6 +14,7 @@ use Rattle.queue.specs.declared.Entry.{Entry}
 use Rattle.queue.specs.Queue.{entries}
 use Rattle.entries.specs.Row.{row_distances, row_cells, row_triangles}
 use Rattle.entries.proofs.Projections.{row_entries}
+use Rattle.mesh.specs.Mesh.{mesh_of}
 use Rattle.job_checks.specs.Job.{Job, Lent, job_of, lent_of}
 use Rattle.job_checks.specs.Refusals.{refusal, refusal_by, lengths_of}
 use Rattle.job_outcome.proofs.OneReply.{one_reply}

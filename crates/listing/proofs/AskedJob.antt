@@ -12,6 +12,7 @@ use Rattle.mesh_topology.specs.declared.Indices.{Indices}
 use Rattle.grid.specs.Layers.{stood}
 use Rattle.job_checks.specs.Job.{Job, job_of}
 use Rattle.job_checks.specs.Refusals.{wrong_grid, wrong_edition, refusal_by}
+use Rattle.mesh.specs.Mesh.{mesh_of}
 use Rattle.job_outcome.specs.Outcome.{unless_refused, outcome}
 use Rattle.job_outcome.proofs.SameMesh.{job_with}
 use Rattle.text.specs.declared.Head.{Head}
