@@ -35,20 +35,27 @@ close-answer-requires c =
     let b = c.begin in
     let z = c.in_ok-seeded.was in
     let q = c.clear in
-    let r = c.run_row-ran in
-    record {
-      lent = (
-        fits a.grid m t.sign t.limit t.edition a.field.now a.names.now a.crossings.now a.rows.now a.queue.now b.new.field b.new.names b.result b.ensures _ z,
-        field_long a.grid m t.sign t.limit t.edition a.field.now a.names.now a.crossings.now a.rows.now a.queue.now b.new.field b.new.names b.result b.ensures _ z
-            b.auto.field b.auto.names q.new.row q.auto.row q.ensures
-            r.new.field r.new.names r.new.row r.result r.auto.field r.auto.names r.auto.row r.ensures,
-        is_long a.grid m t.sign t.limit t.edition a.field.now a.names.now a.crossings.now a.rows.now a.queue.now b.new.field b.new.names b.result b.ensures _ z,
-      );
-      ends =
-          ends a.grid m t.sign t.limit t.edition a.field.now a.names.now a.crossings.now a.rows.now a.queue.now b.new.field b.new.names b.result b.ensures _ z
+    let r = c.run_row-ran in (
+      fits a.grid m t.sign t.limit t.edition a.field.now a.names.now a.crossings.now a.rows.now a.queue.now b.new.field b.new.names b.result b.ensures _ z,
+      field_long a.grid m t.sign t.limit t.edition a.field.now a.names.now a.crossings.now a.rows.now a.queue.now b.new.field b.new.names b.result b.ensures _ z
           b.auto.field b.auto.names q.new.row q.auto.row q.ensures
-          r.new.field r.new.names r.new.row r.result r.auto.field r.auto.names r.auto.row r.ensures;
-    }
+          r.new.field r.new.names r.new.row r.result r.auto.field r.auto.names r.auto.row r.ensures,
+      is_long a.grid m t.sign t.limit t.edition a.field.now a.names.now a.crossings.now a.rows.now a.queue.now b.new.field b.new.names b.result b.ensures _ z,
+    )
+
+-- the run's number is one that a run may end by
+pub invariant_of-close-answer : goal.invariant_of-close-answer
+invariant_of-close-answer c =
+    let a = c.args in
+    let t = a.terms in
+    let m = mesh_in a.mesh in
+    let b = c.begin in
+    let z = c.in_ok-seeded.was in
+    let q = c.clear in
+    let r = c.run_row-ran in
+    ends a.grid m t.sign t.limit t.edition a.field.now a.names.now a.crossings.now a.rows.now a.queue.now b.new.field b.new.names b.result b.ensures _ z
+    b.auto.field b.auto.names q.new.row q.auto.row q.ensures
+    r.new.field r.new.names r.new.row r.result r.auto.field r.auto.names r.auto.row r.ensures
 
 -- nothing waits
 pub returns-then-ran-eq0 : goal.returns-then-ran-eq0

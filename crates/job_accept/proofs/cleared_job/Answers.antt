@@ -12,14 +12,18 @@ use Rattle.job_accept.proofs.cleared_job.Goals as goal
 pub conclude-requires : goal.conclude-requires
 conclude-requires c =
     let a = c.args in
-    let job : Job = job_of a.grid (mesh_in a.mesh) a.terms in
-    let lent : Lent = lent_of a.field.now a.names.now a.crossings.now a.rows.now a.distances.now a.cells.now a.triangles.now in
     record {
       fit = c.requires.fit;
       ran = run_over a.terms.sign (length a.distances.now) a.terms.limit c.run_field-ran.ensures;
       long = c.requires.long;
-      ends = run_ends job lent _ _ (c.run_field-ran.ensures.is 0);
     }
+
+pub invariant_of-conclude : goal.invariant_of-conclude
+invariant_of-conclude c =
+    let a = c.args in
+    let job : Job = job_of a.grid (mesh_in a.mesh) a.terms in
+    let lent : Lent = lent_of a.field.now a.names.now a.crossings.now a.rows.now a.distances.now a.cells.now a.triangles.now in
+    run_ends job lent _ _ (c.run_field-ran.ensures.is 0)
 
 -- what the run leaves is as long as what is lent
 pub returns : goal.returns
