@@ -53,9 +53,12 @@ invariant_of-close-answer c =
     let z = c.in_ok-seeded.was in
     let q = c.clear in
     let r = c.run_row-ran in
-    ends a.grid m t.sign t.limit t.edition a.field.now a.names.now a.crossings.now a.rows.now a.queue.now b.new.field b.new.names b.result b.ensures _ z
-    b.auto.field b.auto.names q.new.row q.auto.row q.ensures
-    r.new.field r.new.names r.new.row r.result r.auto.field r.auto.names r.auto.row r.ensures
+    record {
+      ends =
+          ends a.grid m t.sign t.limit t.edition a.field.now a.names.now a.crossings.now a.rows.now a.queue.now b.new.field b.new.names b.result b.ensures _ z
+          b.auto.field b.auto.names q.new.row q.auto.row q.ensures
+          r.new.field r.new.names r.new.row r.result r.auto.field r.auto.names r.auto.row r.ensures;
+    }
 
 -- nothing waits
 pub returns-then-ran-eq0 : goal.returns-then-ran-eq0

@@ -23,7 +23,7 @@ invariant_of-conclude c =
     let a = c.args in
     let job : Job = job_of a.grid (mesh_in a.mesh) a.terms in
     let lent : Lent = lent_of a.field.now a.names.now a.crossings.now a.rows.now a.distances.now a.cells.now a.triangles.now in
-    run_ends job lent _ _ (c.run_field-ran.ensures.is 0)
+    record { ends = run_ends job lent _ _ (c.run_field-ran.ensures.is 0) }
 
 -- what the run leaves is as long as what is lent
 pub returns : goal.returns
