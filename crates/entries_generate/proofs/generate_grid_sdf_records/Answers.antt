@@ -44,8 +44,8 @@ close-answer-requires c =
     )
 
 -- the run's number is one that a run may end by
-pub invariant_of-close-answer : goal.invariant_of-close-answer
-invariant_of-close-answer c =
+pub invariant_of-close : goal.invariant_of-close
+invariant_of-close c =
     let a = c.args in
     let t = a.terms in
     let m = mesh_in a.mesh in
