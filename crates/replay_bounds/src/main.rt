@@ -333,10 +333,12 @@ fn try_triangle(rt: &impl Print, name: &[u8], grid: Grid, vertices: &[f32]) -> i
         rt,
         name,
         grid,
-        vertices,
-        Topology::TriangleList,
-        Indices::Given,
-        &[0, 1, 2],
+        Mesh {
+            vertices,
+            topology: Topology::TriangleList,
+            given: Indices::Given,
+            indices: &[0, 1, 2],
+        },
     )
 }
 
@@ -652,10 +654,12 @@ fn try_unindexed(rt: &impl Print, name: &[u8], many: &[f32], k: usize) -> io::Re
     try_mesh(
         rt,
         name,
-        &many[..n],
-        Topology::TriangleStrip,
-        Indices::None,
-        &no_index,
+        Mesh {
+            vertices: &many[..n],
+            topology: Topology::TriangleStrip,
+            given: Indices::None,
+            indices: &no_index,
+        },
     )
 }
 
