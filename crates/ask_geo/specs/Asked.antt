@@ -61,3 +61,14 @@ asked_signed_distance p a b c = answered (within p && within a && within b && wi
 
 abbrev pub asked_ray : Point → Point → Point → Point → Axis → Reply RayHit
 asked_ray o v0 v1 v2 axis = answered (within o && within v0 && within v1 && within v2) ray_nan (ray_aligned o v0 v1 v2 axis)
+
+-- ---- a box and a ray's reply hold no NaN: these two questions are refused by 2, and never by 6
+
+abbrev pub or_2 : {A : Type 0} → Bool → A → Reply A
+or_2 inside x = if inside then given x else refused 2
+
+abbrev pub box_or_2 : Point → Point → Point → Reply TriangleBox
+box_or_2 a b c = or_2 (within a && within b && within c) (padded_box a b c)
+
+abbrev pub ray_or_2 : Point → Point → Point → Point → Axis → Reply RayHit
+ray_or_2 o v0 v1 v2 axis = or_2 (within o && within v0 && within v1 && within v2) (ray_aligned o v0 v1 v2 axis)

@@ -1,5 +1,6 @@
 // The geometry's questions asked by themselves. None has a `requires`: a coordinate that is not finite or
-// is above 2,097,152 in magnitude is refused by 2, and then a NaN in the result by 6.
+// is above 2,097,152 in magnitude is refused by 2, and then a NaN in the result by 6. A box and a ray's reply
+// hold no NaN, so they are refused by 2 alone.
 ghost use Rattle.std.specs.Prelude.{◌≡◌};
 ghost use Rattle.refusals.specs.Numbers.{reply_of};
 ghost use Rattle.ask_geo.specs.Asked as Asked;
@@ -39,7 +40,8 @@ fn answer<T: Copy>(inside: bool, nan: bool, x: T) -> Result<T, Refusal>
 }
 
 pub fn triangle_bounding_box(a: Point, b: Point, c: Point) -> Result<TriangleBox, Refusal>
-    ensures { reply_of result ≡ Asked.asked_box a b c }
+    ensures answered { reply_of result ≡ Asked.asked_box a b c }
+    ensures never_6 { reply_of result ≡ Asked.box_or_2 a b c }
 {
     let inside = within(a) & within(b) & within(c);
     if !inside {
@@ -92,7 +94,8 @@ pub fn ray_triangle_intersection_aligned(
     v2: Point,
     axis: Axis,
 ) -> Result<RayHit, Refusal>
-    ensures { reply_of result ≡ Asked.asked_ray o v0 v1 v2 axis }
+    ensures answered { reply_of result ≡ Asked.asked_ray o v0 v1 v2 axis }
+    ensures never_6 { reply_of result ≡ Asked.ray_or_2 o v0 v1 v2 axis }
 {
     let inside = within(o) & within(v0) & within(v1) & within(v2);
     if !inside {

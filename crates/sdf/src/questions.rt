@@ -1,7 +1,7 @@
 // The questions asked by themselves (document 01, "Reply numbers", its last paragraph). None has a
 // `requires`. The grid refuses by 1 a grid out of bounds, then by 4 a cell or an index outside
 // the counts; the geometry by 2 a coordinate that is not finite or above 2,097,152 in magnitude, then by 6
-// a NaN in its result; the comparison by 6 a NaN. The root takes any number.
+// a NaN in its result, which a box and a ray's reply never hold; the comparison by 6 a NaN. The root takes any number.
 ghost use Rattle.std.specs.Prelude.{◌≡◌};
 ghost use Rattle.float.specs.RootOf.{IsRoot, root_bits};
 ghost use Rattle.float_order.specs.Asked.{Compared};
@@ -113,7 +113,8 @@ pub fn from_bounding_box(
 // ---- the geometry
 
 pub fn triangle_bounding_box(a: Point, b: Point, c: Point) -> Result<TriangleBox, Refusal>
-    ensures { reply_of result ≡ Asked.asked_box a b c }
+    ensures answered { reply_of result ≡ Asked.asked_box a b c }
+    ensures never_6 { reply_of result ≡ Asked.box_or_2 a b c }
 {
     ask_geo::asked::triangle_bounding_box(a, b, c)
 }
@@ -154,7 +155,8 @@ pub fn ray_triangle_intersection_aligned(
     v2: Point,
     axis: Axis,
 ) -> Result<RayHit, Refusal>
-    ensures { reply_of result ≡ Asked.asked_ray o v0 v1 v2 axis }
+    ensures answered { reply_of result ≡ Asked.asked_ray o v0 v1 v2 axis }
+    ensures never_6 { reply_of result ≡ Asked.ray_or_2 o v0 v1 v2 axis }
 {
     ask_geo::asked::ray_triangle_intersection_aligned(o, v0, v1, v2, axis)
 }

@@ -1,9 +1,10 @@
 -- "Refusals: 2, 13, 3, 4, then 5 for lent lengths, all before any change" (document 02, §10), of a call; and one outcome. Definitions only;
--- proofs/Theorem.antt shows that they hold (`refused_after_call`, `one_outcome_tidy`, and both from C).
-use Rattle.std.specs.Prelude.{ℕ, ◌≡◌}
+-- proofs/Theorem.antt shows that they hold (`refused_after_call`, `one_outcome_by_replies`, `one_outcome_tidy`, and from C).
+use Rattle.std.specs.Prelude.{ℕ, ◌≡◌, Result}
 use mathlib.Core.List.{List, [], ◌∷◌, Memᴰ}
 use Rattle.mesh.specs.Mesh.{Mesh}
-use Rattle.refusals.specs.Numbers.{Reply, refused}
+use Rattle.refusals.specs.declared.Refusal.{Refusal}
+use Rattle.refusals.specs.Numbers.{Reply, refused, reply_of}
 use Rattle.tidy_mesh.specs.declared.Kept.{Kept}
 use Rattle.tidy_mesh.specs.Outcome.{TidyLent, outputs_of, tidy_refusal, tidy_number, vertices_kept, triangles_kept, tidy_outcome, GivesTidy}
 use Rattle.c_tidy.specs.declared.SdfTidyAnswer.{SdfTidyAnswer}
@@ -40,11 +41,17 @@ pub record SameTidying {A : Type 0} (answer answer' : A) (number : ℕ) (b left 
   pub tidied_alike : number ≡ 0 → left ≡ left'
   pub lent_alike : b ≡ b' → left ≡ left'
 
--- so it is of calls with one mesh and outputs of the same lengths, whatever the outputs held
-abbrev pub OneOutcomeTidy : Mesh → TidyLent → Reply Kept → TidyLent → TidyLent → Reply Kept → TidyLent → Type 0
-OneOutcomeTidy m b answer left b' answer' left' =
+-- so it is of the replies of calls with one mesh and outputs of the same lengths, whatever the outputs held
+abbrev pub OneOutcomeByReplies : Mesh → TidyLent → Reply Kept → TidyLent → TidyLent → Reply Kept → TidyLent → Type 0
+OneOutcomeByReplies m b answer left b' answer' left' =
     GivesTidy (tidy_outcome m b) answer left → GivesTidy (tidy_outcome m b') answer' left' → outputs_of b ≡ outputs_of b'
     → SameTidying answer answer' (tidy_number answer) b left b' left'
+
+-- and of the answers of such calls of the public function, by its contract
+abbrev pub OneOutcomeTidy : Mesh → TidyLent → Result Kept Refusal → TidyLent → TidyLent → Result Kept Refusal → TidyLent → Type 0
+OneOutcomeTidy m b answer left b' answer' left' =
+    GivesTidy (tidy_outcome m b) (reply_of answer) left → GivesTidy (tidy_outcome m b') (reply_of answer') left' → outputs_of b ≡ outputs_of b'
+    → SameTidying answer answer' (tidy_number (reply_of answer)) b left b' left'
 
 abbrev pub OneOutcomeTidyFromC : Mesh → TidyLent → SdfTidyAnswer → TidyLent → TidyLent → SdfTidyAnswer → TidyLent → Type 0
 OneOutcomeTidyFromC m b answer left b' answer' left' =

@@ -1,13 +1,14 @@
 -- "and tidying twice changes nothing" (document 02, §10), of two calls: the second is given the mesh that the first left. Definitions only;
--- proofs/Theorem.antt shows that they hold (`twice_after_calls`, `only_for_lengths`, and both from C), proofs/Second.antt the last
--- (`not_refused`).
-use Rattle.std.specs.Prelude.{ℕ, ◌*◌, ◌≡◌, length, replicate}
+-- proofs/Theorem.antt shows that they hold (`twice_by_replies`, `twice_after_calls`, `only_for_lengths`, and from C), proofs/Second.antt the
+-- last (`not_refused`).
+use Rattle.std.specs.Prelude.{ℕ, ◌*◌, ◌≡◌, length, replicate, Result, Ok}
 use Rattle.lists.specs.Checks.{first_that_applies}
 use Rattle.lists.specs.Table.{table}
 use Rattle.mesh.specs.Mesh.{Mesh}
 use Rattle.job_checks.specs.Refusals.{mesh_checks}
 use Rattle.tidy.specs.Tidy.{tidied}
-use Rattle.refusals.specs.Numbers.{Reply, refused, given}
+use Rattle.refusals.specs.declared.Refusal.{Refusal}
+use Rattle.refusals.specs.Numbers.{Reply, refused, given, reply_of}
 use Rattle.tidy_mesh.specs.declared.Kept.{Kept}
 use Rattle.tidy_mesh.specs.Outcome.{TidyLent, tidy_outcome, GivesTidy}
 use Rattle.c_tidy.specs.declared.SdfTidyAnswer.{SdfTidyAnswer}
@@ -29,12 +30,19 @@ pub record NothingChanged (n : Mesh) (k : Kept) (left : TidyLent) : Type 0 where
   pub none_merged : left.firsts ≡ table (λ v. v) k.vertices
   pub none_dropped : left.causes ≡ replicate k.triangles 0
 
--- The first call, with m and b, was answered the kept counts and left a mesh; the second was given that mesh and outputs c of its lengths. It
--- answers the same, both counts too, and nothing has changed.
-abbrev pub TwiceAfterCalls : Mesh → TidyLent → Reply Kept → TidyLent → TidyLent → Reply Kept → TidyLent → Type 0
-TwiceAfterCalls m b answer left c again second =
+-- The first call, with m and b, was answered the kept counts and left a mesh; the second was given that mesh and outputs c of its lengths. Its
+-- reply is the same, both counts too, and nothing has changed.
+abbrev pub TwiceByReplies : Mesh → TidyLent → Reply Kept → TidyLent → TidyLent → Reply Kept → TidyLent → Type 0
+TwiceByReplies m b answer left c again second =
     GivesTidy (tidy_outcome m b) answer left → (k : Kept) → answer ≡ given k
     → OutputsFor k c → GivesTidy (tidy_outcome (mesh_left k left) c) again second
+    → (again ≡ answer) × NothingChanged (mesh_left k left) k second
+
+-- So it is of the answers of two calls of the public function, by its contract: the second answers the same.
+abbrev pub TwiceAfterCalls : Mesh → TidyLent → Result Kept Refusal → TidyLent → TidyLent → Result Kept Refusal → TidyLent → Type 0
+TwiceAfterCalls m b answer left c again second =
+    GivesTidy (tidy_outcome m b) (reply_of answer) left → (k : Kept) → answer ≡ Ok k
+    → OutputsFor k c → GivesTidy (tidy_outcome (mesh_left k left) c) (reply_of again) second
     → (again ≡ answer) × NothingChanged (mesh_left k left) k second
 
 abbrev pub TwiceAfterCallsFromC : Mesh → TidyLent → SdfTidyAnswer → TidyLent → TidyLent → SdfTidyAnswer → TidyLent → Type 0

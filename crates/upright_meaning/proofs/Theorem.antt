@@ -27,6 +27,7 @@ use Rattle.job_checks.specs.Refusals.{refusal_by, wrong_lengths, lengths_of, wro
 use Rattle.job_checks.proofs.Accepted.{Fits, accepted}
 use Rattle.refusals.specs.Numbers.{given}
 use Rattle.job_outcome.specs.Outcome.{Answer, ended, run_of, unless_refused, outcome}
+use Rattle.job_outcome.proofs.OneReply.{one_reply}
 use Rattle.upright_meaning.specs.Upright.{other_table, SameButRows, IsAccepted, BothAccepted, OnlyRowsDiffer, OnlyRowsDifferAfterCalls, LentAlike, RefusedAlike}
 
 -- ---- both accepted
@@ -93,7 +94,8 @@ only_rows_differ j u e b c both = same_but_rows j u e b c both
 pub only_rows_differ_after_calls : (j : Job) (u e : ℕ) (b c : Lent) (answer : Answer) (left : Lent) (answer' : Answer) (left' : Lent)
     → OnlyRowsDifferAfterCalls j u e b c answer left answer' left'
 only_rows_differ_after_calls j u e b c answer left answer' left' both g h =
-    rw (g.answers, g.leaves, h.answers, h.leaves) (same_but_rows j u e b c both)
+    let s = same_but_rows j u e b c both in
+    (one_reply answer answer' (g.answers ∙ s.answer ∙ sym h.answers), rw (g.answers, g.leaves, h.answers, h.leaves) s)
 
 -- ---- refused alike
 

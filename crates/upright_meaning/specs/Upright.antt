@@ -39,11 +39,11 @@ pub record BothAccepted (j : Job) (u e : ℕ) (b c : Lent) : Type 0 where
 abbrev pub OnlyRowsDiffer : Job → ℕ → ℕ → Lent → Lent → Type 0
 OnlyRowsDiffer j u e b c = BothAccepted j u e b c → SameButRows (outcome j b) (outcome (other_table u e j) c)
 
--- the same of two calls of the public function, by its contract
+-- The same of two calls of the public function, by its contract. What they answer is one answer, a refusal too.
 abbrev pub OnlyRowsDifferAfterCalls : Job → ℕ → ℕ → Lent → Lent → Answer → Lent → Answer → Lent → Type 0
 OnlyRowsDifferAfterCalls j u e b c answer left answer' left' =
     BothAccepted j u e b c → Gives (outcome j b) answer left → Gives (outcome (other_table u e j) c) answer' left'
-    → SameButRows (record { answer = reply_of answer; left = left }) (record { answer = reply_of answer'; left = left' })
+    → (answer ≡ answer') × SameButRows (record { answer = reply_of answer; left = left }) (record { answer = reply_of answer'; left = left' })
 
 -- ---- and which jobs are accepted
 

@@ -4,8 +4,8 @@ use Rattle.geo_ray.specs.Ray.{ray_aligned}
 use Rattle.ask_geo.proofs.Answers.{given, ray_no_nan}
 use Rattle.ask_geo.proofs.asked.ray_triangle_intersection_aligned.Goals as goal
 
-pub returns : goal.returns
-returns c =
+pub returns-clause-answered : goal.returns-clause-answered
+returns-clause-answered c =
     let h = rw (c.within-4.ensures, c.within-3.ensures, c.within-2.ensures, c.within.ensures) at c.if-not-inside.false in
     let s = c.args in
     rw c.ray_triangle_intersection_aligned.ensures
