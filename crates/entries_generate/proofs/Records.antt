@@ -15,7 +15,7 @@ use Rattle.queue.proofs.Uses as Queue
 use Rattle.std.specs.Prelude.{Result, Ok}
 use Rattle.std.specs.Result.{IsErrAnd}
 use Rattle.refusals.specs.declared.Refusal.{Refusal}
-use Rattle.refusals.specs.Numbers.{number_of, refusal_number}
+use Rattle.refusals.specs.Numbers.{number_of, reply_of, refusal_number}
 use Rattle.run.specs.Run.{run}
 use Rattle.run.specs.Input.{run_input}
 use Rattle.lists.specs.Turns.{told}
@@ -31,11 +31,12 @@ use Rattle.run_field.proofs.Runs.{run_over}
 use Rattle.job_begin.specs.Begins.{Begun, lengths_with, Begins}
 use Rattle.entries_run.specs.Seeded.{Seeded}
 use Rattle.entries_run.proofs.Rows.{LeavesRow}
-use Rattle.job_outcome.specs.Outcome.{Answer, Gives, outcome}
+use Rattle.job_outcome.specs.declared.Tally.{Tally}
+use Rattle.job_outcome.specs.Outcome.{Answer, reply_told, Gives, outcome}
 use Rattle.job_outcome.specs.Finished.{Long, Closed}
 use Rattle.job_outcome.specs.Numbers.{RunEnds}
 use Rattle.job_outcome.proofs.Numbers.{run_ends}
-use Rattle.job_outcome.proofs.Outcomes.{gives, gives_refused, gives_done, gives_run}
+use Rattle.job_outcome.proofs.Outcomes.{gives, gives_told, gives_refused, gives_done, gives_run}
 use Rattle.job_generate.proofs.Jobs.{gives_unchanged, gives_outcome}
 use Rattle.entries_generate.specs.LentRow.{lent_row}
 
@@ -114,17 +115,17 @@ module _ (g : Grid) (m : Mesh) (sign : SignMethod) (limit edition : ℕ) (field 
               lengths_same (lent_row field₂ names₂ crossings rows queue₂) lent (l-field₂ ∙ l-field) (l-names₂ ∙ l-names) refl refl
               (as_long (λ (e : Entry). e.distance)) (as_long (λ (e : Entry). e.cell)) (as_long (λ (e : Entry). e.triangle))
 
-          module _ (field₃ : List Float) (names₃ crossings₃ rows₃ : List ℕ) (answer : Answer) (c : Closed g m sign edition ran field₂ names₂ crossings rows field₃ names₃ crossings₃ rows₃ answer) where
+          module _ (field₃ : List Float) (names₃ crossings₃ rows₃ : List ℕ) (r : Result Tally ℕ) (c : Closed g m sign edition ran field₂ names₂ crossings rows field₃ names₃ crossings₃ rows₃ r) (answer : Answer) (same : reply_of answer ≡ reply_told r) where
             -- nothing waits: the row is all zero
             pub done_with : ran.number ≡ 0 → Gives (outcome job lent) answer (lent_row field₃ names₃ crossings₃ rows₃ queue₂)
             done_with y =
                 gives_outcome job lent none_refused
                 (gives_run job (lent_row field₂ names₂ crossings rows queue₂) lent long_as went
-                (gives_done g m sign limit edition field₂ names₂ crossings rows (row_distances queue₂) (row_cells queue₂) (row_triangles queue₂) ran c y (run_over sign (length queue₁) limit w)))
+                (gives_told r (gives_done g m sign limit edition field₂ names₂ crossings rows (row_distances queue₂) (row_cells queue₂) (row_triangles queue₂) ran c y (run_over sign (length queue₁) limit w)) same))
 
             -- or the row is cleared
             pub cleared_after : (ran.number ≡ 0 → ⊥) → (queue₃ : List Entry) → ClearedRow queue₂ queue₃ → Gives (outcome job lent) answer (lent_row field₃ names₃ crossings₃ rows₃ queue₃)
             cleared_after y queue₃ q =
                 gives_outcome job lent none_refused
                 (gives_run job (lent_row field₂ names₂ crossings rows queue₂) lent long_as went
-                (gives_refused g m sign limit edition field₂ names₂ crossings rows (row_distances queue₂) (row_cells queue₂) (row_triangles queue₂) ran c y q))
+                (gives_told r (gives_refused g m sign limit edition field₂ names₂ crossings rows (row_distances queue₂) (row_cells queue₂) (row_triangles queue₂) ran c y q) same))

@@ -10,7 +10,7 @@ ghost use Rattle.job_outcome.specs.Outcome.{Gives, outcome};
 ghost use Rattle.entries_generate.specs.LentRow.{lent_row};
 
 use grid::Grid;
-use job_outcome::{Answer, Ended};
+use job_outcome::Answer;
 use mesh::Mesh;
 use queue::Entry;
 use terms::Terms;
@@ -43,16 +43,8 @@ pub fn generate_grid_sdf_records(
     )?;
     entries::clear(queue);
     let ran = entries_run::run_row(grid, mesh, field, names, queue, seeded, terms);
-    let answer = job_close::close(
-        grid,
-        mesh,
-        field,
-        names,
-        crossings,
-        rows,
-        terms,
-        Ended { ran },
-    );
+    let told = job_close::close(grid, mesh, field, names, crossings, rows, terms, ran);
+    let answer = job_outcome::answer_of(told);
     if ran.number == 0 {
         return answer;
     }

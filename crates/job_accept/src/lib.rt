@@ -12,7 +12,7 @@ ghost use Rattle.job_outcome.specs.Outcome.{Gives, ended, run_of};
 ghost use Rattle.job_outcome.specs.Finished.{Long};
 
 use grid::Grid;
-use job_outcome::{Answer, Ended};
+use job_outcome::Answer;
 use mesh::Mesh;
 use terms::Terms;
 
@@ -40,19 +40,10 @@ fn cleared_job(
         Gives (ended job lent (run_of job lent)) result left }
 {
     let ran = run_field::run_field(grid, mesh, field, names, distances, cells, triangles, terms);
-    job_conclude::conclude(
-        grid,
-        mesh,
-        field,
-        names,
-        crossings,
-        rows,
-        distances,
-        cells,
-        triangles,
-        terms,
-        Ended { ran },
-    )
+    let told = job_conclude::conclude(
+        grid, mesh, field, names, crossings, rows, distances, cells, triangles, terms, ran,
+    );
+    job_outcome::answer_of(told)
 }
 
 // A job that is not refused before the run.

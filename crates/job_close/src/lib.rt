@@ -1,8 +1,7 @@
 // What follows the run (document 01, "The run", 4), but for the queue. A part of the port: users call `sdf`.
 #![tactic(auto)]
 
-ghost use Rattle.std.specs.Prelude.{◌≡◌, ◌*◌, ◌≤◌, length};
-ghost use Rattle.refusals.specs.Numbers.{number_of};
+ghost use Rattle.std.specs.Prelude.{◌≡◌, ◌*◌, length};
 ghost use Rattle.grid.specs.Index.{total};
 ghost use Rattle.mesh.specs.Lent.{mesh_in};
 ghost use Rattle.run.specs.Method.{field_by, crossings_by, grazed_by};
@@ -10,9 +9,9 @@ ghost use Rattle.run_state.specs.Told.{Fit};
 ghost use Rattle.job_outcome.specs.Finished.{Long, Finished, Closed};
 
 use grid::Grid;
-use job_outcome::{Answer, Ended, Tally};
+use job_outcome::Tally;
 use mesh::Mesh;
-use refusals::Refusal;
+use run_state::Progress;
 use terms::{SignMethod, Terms};
 
 // The crossings and the signs, by the method. Tells how often a ray grazed a triangle. With Normal signs there are no rays:
@@ -62,20 +61,9 @@ fn finish(
     grazed
 }
 
-// The refusal that a run told by its number, which is 6, 7 or 8.
-fn met_in_the_run(number: u32) -> Refusal
-    requires { (6 ≤ number) × (number ≤ 8) }
-    ensures { number_of result ≡ number }
-{
-    match number {
-        6 => Refusal::NotANumber,
-        7 => Refusal::QueueFull,
-        _ => Refusal::PopsSpent,
-    }
-}
-
-// After the run, as it ended: a refusal clears what it left, else the field is signed and counted. The queue
-// is left to the caller.
+// After the run, which came to `ran`: a refusal clears what it left, else the field is signed and counted. The queue
+// is left to the caller. The run may be any, so a refusal is handed on by its number as it is told: no `Refusal` has every
+// number. Who closes a run that ends by 0, 6, 7 or 8 alone has the answer by `job_outcome::answer_of`.
 pub fn close(
     grid: Grid,
     mesh: Mesh,
@@ -84,19 +72,18 @@ pub fn close(
     crossings: &mut [u32],
     rows: &mut [u32],
     terms: Terms,
-    run: Ended,
-) -> Answer
+    ran: Progress,
+) -> Result<Tally, u32>
     requires { let m = mesh_in mesh in
         Fit grid m × (length field.old ≡ total grid) × Long grid crossings.old rows.old }
     ensures { let m = mesh_in mesh.entry in
-        Closed grid m terms.sign terms.edition run.ran field.old names.old crossings.old
+        Closed grid m terms.sign terms.edition ran field.old names.old crossings.old
         rows.old
         field.new names.new crossings.new rows.new result }
 {
-    let ran = run.ran;
     if ran.number != 0 {
         job_clear::clear_fields(field, names, crossings, rows);
-        return Err(met_in_the_run(ran.number));
+        return Err(ran.number);
     }
     let grazed = finish(grid, mesh, field, crossings, rows, terms);
     Ok(Tally {

@@ -5,16 +5,17 @@ ghost use Rattle.lists.specs.Turns.{told};
 ghost use Rattle.mesh.specs.Lent.{mesh_in};
 ghost use Rattle.run_state.specs.Told.{order_in, state_of, Fit, Ran};
 ghost use Rattle.job_checks.specs.Job.{job_of, lent_of};
-ghost use Rattle.job_outcome.specs.Outcome.{Gives, ended};
+ghost use Rattle.job_outcome.specs.Outcome.{GivesReply, reply_told, ended};
 ghost use Rattle.job_outcome.specs.Finished.{Long};
 
 use grid::Grid;
-use job_outcome::{Answer, Ended};
+use job_outcome::Tally;
 use mesh::Mesh;
+use run_state::Progress;
 use terms::Terms;
 
-// After the run, as it ended: `close`, and the queue: a refusal clears it too, and a run that is done left it
-// empty.
+// After the run, which came to `ran`: `close`, and the queue: a refusal clears it too, and a run that is done left it
+// empty. The answer is told as `close` tells it, a refusal by the run's number, whichever that is.
 pub fn conclude(
     grid: Grid,
     mesh: Mesh,
@@ -26,10 +27,10 @@ pub fn conclude(
     cells: &mut [u32],
     triangles: &mut [u32],
     terms: Terms,
-    run: Ended,
-) -> Answer
+    ran: Progress,
+) -> Result<Tally, u32>
     requires fit { Fit grid (mesh_in mesh) }
-    requires ran { Ran grid field.old names.old distances.old cells.old triangles.old run.ran }
+    requires ran { Ran grid field.old names.old distances.old cells.old triangles.old ran }
     requires long { Long grid crossings.old rows.old }
     ensures { let job = job_of grid (mesh_in mesh.entry) terms in
         let lent = lent_of field.old names.old crossings.old rows.old
@@ -38,11 +39,10 @@ pub fn conclude(
         distances.new cells.new triangles.new in
         let m = mesh_in mesh.entry in
         let state = state_of (order_in m) field.old names.old distances.old cells.old
-        triangles.old run.ran in
-        Gives (ended job lent (told run.ran.number state)) result left }
+        triangles.old ran in
+        GivesReply (ended job lent (told ran.number state)) (reply_told result) left }
 {
-    let answer = job_close::close(grid, mesh, field, names, crossings, rows, terms, run);
-    let ran = run.ran;
+    let answer = job_close::close(grid, mesh, field, names, crossings, rows, terms, ran);
     if ran.number != 0 {
         queue::clear(distances, cells, triangles);
     }

@@ -5,21 +5,28 @@ use native.Mathlib.Omega.{arith}
 use mathlib.Core.Path.{◌≡◌, refl, sym, ap, ◌∙◌, subst}
 use mathlib.Core.Logic.{◌⊎◌, inl, inr}
 use mathlib.Core.List.Memᴰ
-use mathlib.Core.List.{Memᴰ}
+use mathlib.Core.List.{List, Memᴰ}
+use lib.Ieee.{Float}
 use lib.Dec.{leb}
 use borrow.Author.Tests.{leb-true}
+use Rattle.std.specs.Prelude.{Result, Ok, Err, IfErr}
 use Rattle.lists.specs.Turns.{Turn, goes, refuses, told}
 use Rattle.lists.specs.Every.{every}
 use Rattle.lists.specs.OnlyBy.{OnlyBy}
 use Rattle.lists.proofs.Every.{every_member}
+use Rattle.terms.specs.declared.SignMethod.{SignMethod}
+use Rattle.grid.specs.declared.Grid.{Grid}
+use Rattle.mesh.specs.Mesh.{Mesh}
 use Rattle.run.specs.Run.{State}
 use Rattle.run.proofs.Numbers.{run_by}
+use Rattle.run_state.specs.declared.Progress.{Progress}
 use Rattle.job_checks.specs.Job.{Job, Lent}
 use Rattle.job_checks.specs.Refusals.{refusal, refusal_by, lengths_of, checks}
 use Rattle.lists.proofs.Checks.{first_is}
 use Rattle.refusals.specs.Numbers.{Reply, refused}
 use Rattle.job_outcome.specs.declared.Tally.{Tally}
-use Rattle.job_outcome.specs.Outcome.{tally_of, ended, run_of, unless_refused, outcome, number_of}
+use Rattle.job_outcome.specs.Outcome.{reply_told, GivesReply, tally_of, ended, run_of, unless_refused, outcome, number_of}
+use Rattle.job_outcome.specs.Finished.{Closed}
 use Rattle.job_outcome.specs.Numbers.{check_numbers, run_numbers, refusal_numbers, RunEnds, IsDone, Replies, done, before_the_run, in_the_run}
 
 -- what the checks come to is 0 or one of their numbers
@@ -83,3 +90,25 @@ number_0 j b h = go (replies j b)
     go (done d) = d
     go (before_the_run k m e l) = absurd (let w = above_0 k (refused_by_lem j b k e) in omega (arith, ap number_of e))
     go (in_the_run k m e l) = absurd (let w = above_0 k (refused_by_lem j b k e) in omega (arith, ap number_of e))
+
+-- ---- what is told where a run is closed
+
+-- a refusal that `close` told has a number from 6 to 8, if the run ended by one of its numbers
+pub closed_told : {g : Grid} {m : Mesh} {sign : SignMethod} {edition : ℕ} (p : Progress) {field field' : List Float} {names crossings layers names' crossings' layers' : List ℕ} (r : Result Tally ℕ)
+    → Closed g m sign edition p field names crossings layers field' names' crossings' layers' r → RunEnds p.number → IfErr r (λ k. (6 ≤ k) × (k ≤ 8))
+closed_told p r c ends = go p.number refl
+  where
+    go : (n : ℕ) → p.number ≡ n → IfErr r (λ k. (6 ≤ k) × (k ≤ 8))
+    go zero e = rw (c.done e).0 tt
+    go (suc n) e = let z : p.number ≡ 0 → ⊥ = λ y. absurd (omega (arith, e, y)) in rw (c.refused z).0 (ends.0 z, ends.1)
+
+-- and so has one that `conclude` told
+pub concluded_told : (j : Job) (b : Lent) (n : ℕ) (s : State) (r : Result Tally ℕ) {left : Lent}
+    → GivesReply (ended j b (told n s)) (reply_told r) left → RunEnds n → IfErr r (λ k. (6 ≤ k) × (k ≤ 8))
+unfolding ended told
+concluded_told j b n s (Ok t) h ends = tt
+concluded_told j b n s (Err k) h ends = go n h.answers ends
+  where
+    go : (i : ℕ) → refused k ≡ (ended j b (told i s)).answer → RunEnds i → (6 ≤ k) × (k ≤ 8)
+    go zero e w = absurd (let z : ◌≡◌ {A = ℕ} 0 1 = cc in omega arith)
+    go (suc i) e w = rw (refused_same e) (w.0 (λ y. absurd (omega (arith, y))), w.1)

@@ -22,14 +22,23 @@ use Rattle.job_checks.specs.Job.{Job, Lent, lent_of}
 use Rattle.job_checks.specs.Refusals.{lengths_of}
 use Rattle.job_clear.specs.Cleared.{cleared}
 use Rattle.job_clear.proofs.Lengths.{all_cleared, same_cleared, cleared_long}
-use Rattle.refusals.specs.Numbers.{refused, given, reply_of}
+use Rattle.std.specs.Prelude.{Result}
+use Rattle.refusals.specs.Numbers.{Reply, refused, given, reply_of}
 use Rattle.job_outcome.proofs.OneReply.{one_reply}
-use Rattle.job_outcome.specs.Outcome.{Answer, Outcome, number_of, pops_of, peak_of, grazed_of, Gives, filled, tally_of, ended, run_of}
+use Rattle.job_outcome.specs.declared.Tally.{Tally}
+use Rattle.job_outcome.specs.Outcome.{Answer, Outcome, reply_told, number_of, pops_of, peak_of, grazed_of, Gives, GivesReply, filled, tally_of, ended, run_of}
 use Rattle.job_outcome.specs.Finished.{Closed}
 
 -- equal answers have one number, pops, peak and total of grazed rays
 pub gives : {o : Outcome} {answer : Answer} {left : Lent} → reply_of answer ≡ o.answer → left ≡ o.left → Gives o answer left
 gives e l = record { answers = e; number = ap number_of e; pops = ap pops_of e; peak = ap peak_of e; grazed = ap grazed_of e; leaves = l }
+
+pub gives_reply : {o : Outcome} {reply : Reply Tally} {left : Lent} → reply ≡ o.answer → left ≡ o.left → GivesReply o reply left
+gives_reply e l = record { answers = e; number = ap number_of e; pops = ap pops_of e; peak = ap peak_of e; grazed = ap grazed_of e; leaves = l }
+
+-- a job's answer gives what was told where it was closed
+pub gives_told : {o : Outcome} (r : Result Tally ℕ) {answer : Answer} {left : Lent} → GivesReply o (reply_told r) left → reply_of answer ≡ reply_told r → Gives o answer left
+gives_told r h e = gives (e ∙ h.answers) h.leaves
 
 -- ---- what follows the run
 
@@ -40,23 +49,23 @@ comes_to g m sign limit edition field names crossings layers ds cs ts p =
 
 -- by what `close` did with all but the queue
 module _ (g : Grid) (m : Mesh) (sign : SignMethod) (limit edition : ℕ) (field : List Float) (names crossings layers ds cs ts : List ℕ) (p : Progress)
-    {field' : List Float} {names' crossings' layers' : List ℕ} {r : Answer} (closed : Closed g m sign edition p field names crossings layers field' names' crossings' layers' r) where
+    {field' : List Float} {names' crossings' layers' : List ℕ} {r : Result Tally ℕ} (closed : Closed g m sign edition p field names crossings layers field' names' crossings' layers' r) where
   pub gives_refused : {ds' cs' ts' : List ℕ} → (p.number ≡ 0 → ⊥) → Cleared ds cs ts ds' cs' ts'
-      → Gives (comes_to g m sign limit edition field names crossings layers ds cs ts p) r (lent_of field' names' crossings' layers' ds' cs' ts')
+      → GivesReply (comes_to g m sign limit edition field names crossings layers ds cs ts p) (reply_told r) (lent_of field' names' crossings' layers' ds' cs' ts')
   unfolding ended
   gives_refused z q =
       rw (told_refuses p.number (state_of (order_in m) field names ds cs ts p) z)
-      (gives (closed.refused z).0 (all_cleared field names crossings layers ds cs ts (closed.refused z).1 q))
+      (gives_reply (ap reply_told (closed.refused z).0) (all_cleared field names crossings layers ds cs ts (closed.refused z).1 q))
 
   pub gives_done : p.number ≡ 0 → Ran g field names ds cs ts p
-      → Gives (comes_to g m sign limit edition field names crossings layers ds cs ts p) r (lent_of field' names' crossings' layers' ds cs ts)
+      → GivesReply (comes_to g m sign limit edition field names crossings layers ds cs ts p) (reply_told r) (lent_of field' names' crossings' layers' ds cs ts)
   unfolding ended
   gives_done z ran =
       let h = subst (Held by_keys ds cs ts) (ran.over z) ran.holds.held in
       let q = left_zero ds cs ts h in
       let d = closed.done z in
       rw (told_goes p.number (state_of (order_in m) field names ds cs ts p) z)
-      (gives d.0 (λ i. lent_of (d.2.field i) (d.1 i) (d.2.crossings i) (d.2.rows i) (q.0 i) (q.1 i) (q.2 i)))
+      (gives_reply (ap reply_told d.0) (λ i. lent_of (d.2.field i) (d.1 i) (d.2.crossings i) (d.2.rows i) (q.0 i) (q.1 i) (q.2 i)))
 
 -- ---- the same of buffers of the same lengths
 

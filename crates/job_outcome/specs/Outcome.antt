@@ -1,6 +1,6 @@
 -- "One call has one possible outcome: number, pops, peak and each cell of each buffer follow from the input" (document 01, "What the
 -- contracts owe"); and the total of grazed rays (document 02, §3). It is one function of the job and of the buffers as they are lent. Definitions only.
-use Rattle.std.specs.Prelude.{ℕ, zero, suc, ◌≡◌, length, Result}
+use Rattle.std.specs.Prelude.{ℕ, zero, suc, ◌≡◌, length, Result, Ok, Err}
 use Rattle.lists.specs.Turns.{Turn, goes, refuses}
 use Rattle.run.specs.Run.{State, run}
 use Rattle.run.specs.Input.{run_input}
@@ -16,6 +16,11 @@ use Rattle.job_outcome.specs.declared.Tally.{Tally}
 -- what the code answers; a reply in numbers, as the documents speak of it, is what it comes to
 abbrev pub Answer : Type 0
 Answer = Result Tally Refusal
+
+-- what is told where a run is closed: done, with its counts, or refused by the run's number, whichever that is
+abbrev pub reply_told : Result Tally ℕ → Reply Tally
+reply_told (Ok t) = given t
+reply_told (Err n) = refused n
 
 pub record Outcome : Type 0 where
   pub answer : Reply Tally
@@ -89,4 +94,13 @@ pub record Gives (o : Outcome) (answer : Answer) (left : Lent) : Type 0 where
   pub pops : pops_of (reply_of answer) ≡ pops_of o.answer
   pub peak : peak_of (reply_of answer) ≡ peak_of o.answer
   pub grazed : grazed_of (reply_of answer) ≡ grazed_of o.answer
+  pub leaves : left ≡ o.left
+
+-- the same of a reply in numbers
+pub record GivesReply (o : Outcome) (reply : Reply Tally) (left : Lent) : Type 0 where
+  pub answers : reply ≡ o.answer
+  pub number : number_of reply ≡ number_of o.answer
+  pub pops : pops_of reply ≡ pops_of o.answer
+  pub peak : peak_of reply ≡ peak_of o.answer
+  pub grazed : grazed_of reply ≡ grazed_of o.answer
   pub leaves : left ≡ o.left

@@ -2,6 +2,7 @@
 -- where the run was refused. Each is a law of Records.antt. Assumes nothing.
 use mathlib.Core.Path.{refl}
 use Rattle.mesh.specs.Mesh.{mesh_of}
+use Rattle.job_outcome.proofs.Numbers.{closed_told}
 use Rattle.entries_generate.proofs.Records.{refused_first, fits, is_long, seeds, field_long, ends, done_with, cleared_after}
 use Rattle.mesh.specs.Lent.{mesh_in}
 use Rattle.entries_generate.proofs.generate_grid_sdf_records.Goals as goal
@@ -27,8 +28,8 @@ run_row-ran-requires c =
           b.auto.field b.auto.names q.new.row q.auto.row q.ensures,
     )
 
-pub close-answer-requires : goal.close-answer-requires
-close-answer-requires c =
+pub close-told-requires : goal.close-told-requires
+close-told-requires c =
     let a = c.args in
     let t = a.terms in
     let m = mesh_in a.mesh in
@@ -44,8 +45,8 @@ close-answer-requires c =
     )
 
 -- the run's number is one that a run may end by
-pub invariant_of-close : goal.invariant_of-close
-invariant_of-close c =
+pub answer_of-answer-requires : goal.answer_of-answer-requires
+answer_of-answer-requires c =
     let a = c.args in
     let t = a.terms in
     let m = mesh_in a.mesh in
@@ -53,12 +54,10 @@ invariant_of-close c =
     let z = c.in_ok-seeded.was in
     let q = c.clear in
     let r = c.run_row-ran in
-    record {
-      ends =
-          ends a.grid m t.sign t.limit t.edition a.field.now a.names.now a.crossings.now a.rows.now a.queue.now b.new.field b.new.names b.result b.ensures _ z
-          b.auto.field b.auto.names q.new.row q.auto.row q.ensures
-          r.new.field r.new.names r.new.row r.result r.auto.field r.auto.names r.auto.row r.ensures;
-    }
+    closed_told r.result c.close-told.result c.close-told.ensures
+    (ends a.grid m t.sign t.limit t.edition a.field.now a.names.now a.crossings.now a.rows.now a.queue.now b.new.field b.new.names b.result b.ensures _ z
+    b.auto.field b.auto.names q.new.row q.auto.row q.ensures
+    r.new.field r.new.names r.new.row r.result r.auto.field r.auto.names r.auto.row r.ensures)
 
 -- nothing waits
 pub returns-then-ran-eq0 : goal.returns-then-ran-eq0
@@ -70,11 +69,11 @@ returns-then-ran-eq0 c =
     let z = c.in_ok-seeded.was in
     let q = c.clear in
     let r = c.run_row-ran in
-    let e = c.close-answer in
+    let e = c.close-told in
     done_with a.grid m t.sign t.limit t.edition a.field.now a.names.now a.crossings.now a.rows.now a.queue.now b.new.field b.new.names b.result b.ensures _ z
     b.auto.field b.auto.names q.new.row q.auto.row q.ensures
     r.new.field r.new.names r.new.row r.result r.auto.field r.auto.names r.auto.row r.ensures
-    e.new.field e.new.names e.new.crossings e.new.rows e.result e.ensures c.if-ran-eq0.true
+    e.new.field e.new.names e.new.crossings e.new.rows e.result e.ensures c.answer_of-answer.result c.answer_of-answer.ensures c.if-ran-eq0.true
 
 -- the run was refused
 pub returns : goal.returns
@@ -86,8 +85,8 @@ returns c =
     let z = c.in_ok-seeded.was in
     let q = c.clear in
     let r = c.run_row-ran in
-    let e = c.close-answer in
+    let e = c.close-told in
     cleared_after a.grid m t.sign t.limit t.edition a.field.now a.names.now a.crossings.now a.rows.now a.queue.now b.new.field b.new.names b.result b.ensures _ z
     b.auto.field b.auto.names q.new.row q.auto.row q.ensures
     r.new.field r.new.names r.new.row r.result r.auto.field r.auto.names r.auto.row r.ensures
-    e.new.field e.new.names e.new.crossings e.new.rows e.result e.ensures c.if-ran-eq0.false c.clear-2.new.row c.clear-2.ensures
+    e.new.field e.new.names e.new.crossings e.new.rows e.result e.ensures c.answer_of-answer.result c.answer_of-answer.ensures c.if-ran-eq0.false c.clear-2.new.row c.clear-2.ensures

@@ -9,11 +9,11 @@ returns-then-ran-ne0 c =
     let mesh : Mesh = mesh_in c.args.mesh in
     let a = c.args in
     gives_refused a.grid (mesh) a.terms.sign a.terms.limit a.terms.edition a.field.now a.names.now a.crossings.now a.rows.now
-    a.distances.now a.cells.now a.triangles.now a.run.ran c.close-answer.ensures c.if-ran-ne0.true c.clear.ensures
+    a.distances.now a.cells.now a.triangles.now a.ran c.close-answer.ensures c.if-ran-ne0.true c.clear.ensures
 
 pub returns-else-ran-ne0 : goal.returns-else-ran-ne0
 returns-else-ran-ne0 c =
     let mesh : Mesh = mesh_in c.args.mesh in
     let a = c.args in
     gives_done a.grid (mesh) a.terms.sign a.terms.limit a.terms.edition a.field.now a.names.now a.crossings.now a.rows.now
-    a.distances.now a.cells.now a.triangles.now a.run.ran c.close-answer.ensures c.if-ran-ne0.false c.requires.ran
+    a.distances.now a.cells.now a.triangles.now a.ran c.close-answer.ensures c.if-ran-ne0.false c.requires.ran
