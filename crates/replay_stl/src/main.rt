@@ -18,9 +18,16 @@ fn numbers() -> [f32; 720]
     [0.0; 720]
 }
 
-// The eight hex digits of a word.
+// The eight hex digits of a word. Not `{w:08x}`: nearly all that is printed are words, and with it a whole run took
+// twice the instructions and more.
 fn print_word(rt: &impl Print, w: u32) -> io::Result<()> {
-    print!(rt; "{w:08x}")
+    let mut digits = [0u8; 8];
+    let mut rest = w;
+    for digit in digits.iter_mut().rev() {
+        *digit = b"0123456789abcdef"[(rest % 16) as usize];
+        rest /= 16;
+    }
+    rt.write_all(&digits)
 }
 
 // A key and words of four bytes, from the place `from` on.
