@@ -3,23 +3,19 @@
 use Prim.Native.Nat.{ℕ}
 use mathlib.Core.Path.{◌≡◌, refl, sym, ap}
 use mathlib.Core.List.{List}
-use borrow.Author.Rules.{rules}
 use Rattle.std.specs.Prelude.{Ok, Err}
-use Rattle.refusals.specs.declared.Refusal.{Refusal}
-use Rattle.refusals.specs.Numbers.{number_of, refused, reply_of, refusal_number}
+use Rattle.refusals.specs.Numbers.{refused, reply_of, refusal_number}
+use Rattle.job_checks.proofs.HandedUp.{not_0}
 use Rattle.job_outcome.proofs.OneReply.{one_reply}
 use Rattle.facet_index.specs.Index.{Index}
 use Rattle.facet_meaning.specs.OneAnswer.{Answer, OneBuildAnswered, OneUpdateAnswered}
 use Rattle.facet_meaning.proofs.Theorem.{one_build, one_update}
 
-not_0 : (r : Refusal) → number_of r ≡ 0 → ⊥
-not_0 r e = search rules
-
 same_reply : (a b : Answer) → refusal_number a ≡ refusal_number b → reply_of a ≡ reply_of b
 same_reply (Ok v) (Ok w) e = refl
 same_reply (Err r) (Err s) e = ap refused e
-same_reply (Ok v) (Err s) e = absurd (not_0 s (sym e))
-same_reply (Err r) (Ok w) e = absurd (not_0 r e)
+same_reply (Ok v) (Err s) e = absurd (not_0 s (sym e) refl)
+same_reply (Err r) (Ok w) e = absurd (not_0 r e refl)
 
 -- so what is said of two numbers is said of two answers
 pub one_number : (a b : Answer) → refusal_number a ≡ refusal_number b → a ≡ b
