@@ -12,8 +12,7 @@ use Rattle.mesh.specs.Mesh.{Mesh}
 use Rattle.queue.specs.declared.Entry.{Entry}
 use Rattle.queue.specs.Keys.{by_keys}
 use Rattle.queue.proofs.Uses as Queue
-use Rattle.std.specs.Prelude.{Result, Ok}
-use Rattle.std.specs.Result.{IsErrAnd}
+use Rattle.std.specs.Prelude.{Result, Ok, Err}
 use Rattle.refusals.specs.declared.Refusal.{Refusal}
 use Rattle.refusals.specs.Numbers.{number_of, reply_of, refusal_number}
 use Rattle.run.specs.Run.{run}
@@ -63,11 +62,10 @@ module _ (g : Grid) (m : Mesh) (sign : SignMethod) (limit edition : ℕ) (field 
     first : refusal_number begun ≡ refusal job lent
     first = s.refused_is ∙ ap (refusal_by g edition m) (sym one_length)
 
-    pub refused_first : (answer : Answer) (r : Refusal) → IsErrAnd answer (λ k. k ≡ r) → number_of r ≡ refusal_number begun
-        → Gives (outcome job lent) answer (lent_row field₁ names₁ crossings rows queue)
-    refused_first answer r up e =
+    pub refused_first : (r : Refusal) → number_of r ≡ refusal_number begun → Gives (outcome job lent) (Err r) (lent_row field₁ names₁ crossings rows queue)
+    refused_first r e =
         let same = s.unchanged (not_0 r e) in
-        let unchanged = gives_unchanged job lent answer r up (e ∙ first) in
+        let unchanged = gives_unchanged job lent r (e ∙ first) in
         gives unchanged.answers ((λ i. lent_row (same.0 i) (same.1 i) crossings rows queue) ∙ unchanged.leaves)
 
     module _ (seeded : Result (Unit {0}) Refusal) (z : begun ≡ Ok seeded) where

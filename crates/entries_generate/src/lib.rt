@@ -31,7 +31,7 @@ pub fn generate_grid_sdf_records(
         let left = lent_row field.new names.new crossings.new rows.new queue.new in
         Gives (outcome job lent) result left }
 {
-    let seeded = job_begin::begin(
+    let begun = job_begin::begin(
         grid,
         mesh,
         field,
@@ -40,7 +40,11 @@ pub fn generate_grid_sdf_records(
         rows.len(),
         queue.len(),
         terms,
-    )?;
+    );
+    let seeded = match begun {
+        Ok(seeded) => seeded,
+        Err(refusal) => return Err(refusal),
+    };
     entries::clear(queue);
     let ran = entries_run::run_row(grid, mesh, field, names, queue, seeded, terms);
     let told = job_close::close(grid, mesh, field, names, crossings, rows, terms, ran);

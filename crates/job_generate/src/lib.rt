@@ -43,7 +43,9 @@ pub fn generate_grid_sdf(
         triangles: triangles.len(),
     };
     let edition = terms.edition;
-    job_checks::first_refusal(grid, edition, mesh, lengths)?;
+    if let Err(refusal) = job_checks::first_refusal(grid, edition, mesh, lengths) {
+        return Err(refusal);
+    }
     job_accept::accepted_job(
         grid, mesh, field, names, crossings, rows, distances, cells, triangles, terms,
     )

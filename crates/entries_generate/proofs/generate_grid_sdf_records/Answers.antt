@@ -1,27 +1,27 @@
 -- `entries_generate::generate_grid_sdf_records`: the refusals that change nothing, or the row cleared, the run and what follows it; and the row cleared again
 -- where the run was refused. Each is a law of Records.antt. Assumes nothing.
-use mathlib.Core.Path.{refl}
-use Rattle.mesh.specs.Mesh.{mesh_of}
+use mathlib.Core.Path.{sym, ap}
+use Rattle.refusals.specs.Numbers.{refusal_number}
 use Rattle.job_outcome.proofs.Numbers.{closed_told}
 use Rattle.entries_generate.proofs.Records.{refused_first, fits, is_long, seeds, field_long, ends, done_with, cleared_after}
 use Rattle.mesh.specs.Lent.{mesh_in}
 use Rattle.entries_generate.proofs.generate_grid_sdf_records.Goals as goal
 
-pub returns-in_err-seeded : goal.returns-in_err-seeded
-returns-in_err-seeded c =
+pub returns-in-Err : goal.returns-in-Err
+returns-in-Err c =
     let a = c.args in
     let t = a.terms in
-    let b = c.begin in
+    let b = c.begin-begun in
     refused_first a.grid (mesh_in a.mesh) t.sign t.limit t.edition a.field.now a.names.now a.crossings.now a.rows.now a.queue.now
-    b.new.field b.new.names _ c.in_err-seeded.ensures _ c.in_err-seeded.field-0.0 c.from_residual.ensures.1 refl
+    b.new.field b.new.names b.result b.ensures c.in-Err.refusal (sym (ap refusal_number c.in-Err.is))
 
 pub run_row-ran-requires : goal.run_row-ran-requires
 run_row-ran-requires c =
     let a = c.args in
     let t = a.terms in
     let m = mesh_in a.mesh in
-    let b = c.begin in
-    let z = c.in_ok-seeded.was in
+    let b = c.begin-begun in
+    let z = c.in-Ok.is in
     let q = c.clear in (
       fits a.grid m t.sign t.limit t.edition a.field.now a.names.now a.crossings.now a.rows.now a.queue.now b.new.field b.new.names b.result b.ensures _ z,
       seeds a.grid m t.sign t.limit t.edition a.field.now a.names.now a.crossings.now a.rows.now a.queue.now b.new.field b.new.names b.result b.ensures _ z
@@ -33,8 +33,8 @@ close-told-requires c =
     let a = c.args in
     let t = a.terms in
     let m = mesh_in a.mesh in
-    let b = c.begin in
-    let z = c.in_ok-seeded.was in
+    let b = c.begin-begun in
+    let z = c.in-Ok.is in
     let q = c.clear in
     let r = c.run_row-ran in (
       fits a.grid m t.sign t.limit t.edition a.field.now a.names.now a.crossings.now a.rows.now a.queue.now b.new.field b.new.names b.result b.ensures _ z,
@@ -50,8 +50,8 @@ answer_of-answer-requires c =
     let a = c.args in
     let t = a.terms in
     let m = mesh_in a.mesh in
-    let b = c.begin in
-    let z = c.in_ok-seeded.was in
+    let b = c.begin-begun in
+    let z = c.in-Ok.is in
     let q = c.clear in
     let r = c.run_row-ran in
     closed_told r.result c.close-told.result c.close-told.ensures
@@ -65,8 +65,8 @@ returns-then-ran-eq0 c =
     let a = c.args in
     let t = a.terms in
     let m = mesh_in a.mesh in
-    let b = c.begin in
-    let z = c.in_ok-seeded.was in
+    let b = c.begin-begun in
+    let z = c.in-Ok.is in
     let q = c.clear in
     let r = c.run_row-ran in
     let e = c.close-told in
@@ -81,8 +81,8 @@ returns c =
     let a = c.args in
     let t = a.terms in
     let m = mesh_in a.mesh in
-    let b = c.begin in
-    let z = c.in_ok-seeded.was in
+    let b = c.begin-begun in
+    let z = c.in-Ok.is in
     let q = c.clear in
     let r = c.run_row-ran in
     let e = c.close-told in
