@@ -20,7 +20,7 @@
  * Build: `tools/archive` leaves target/staticlib/libsdf_c.a, for x86-64 Linux. Of the C library it needs memcpy and
  * memset alone. No function keeps anything between calls, allocates, prints, calls back, or needs another call before it.
  * Two calls may run at the same time on two threads if no buffer that one of them writes is lent to the other. Stack: the
- * whole job takes about 16 KB (15,607 bytes below its caller's were measured; 13 KB are four local arrays), a question less than 1 KB. No
+ * whole job takes about 16 KB (15,648 bytes below its caller's were measured; 13 KB are four local arrays), a question less than 1 KB. No
  * function calls itself, so no input takes more.
  *
  * What C owes to every function is the floating-point environment in which IEEE 754 holds: rounding to nearest, no
