@@ -41,6 +41,7 @@ pub fn generate_grid_sdf_records(
         queue.len(),
         terms,
     );
+    // No `?`: the edit `refused_without_its_number` bends what is returned here.
     let seeded = match begun {
         Ok(seeded) => seeded,
         Err(refusal) => return Err(refusal),

@@ -43,6 +43,7 @@ pub fn generate_grid_sdf(
         triangles: triangles.len(),
     };
     let edition = terms.edition;
+    // No `?`: the edit `refused_without_its_number` bends what is returned here.
     if let Err(refusal) = job_checks::first_refusal(grid, edition, mesh, lengths) {
         return Err(refusal);
     }
